@@ -1,0 +1,4 @@
+pub mod History
+pub mod Limits
+pub mod Machine
+pub mod Step

@@ -1,0 +1,6 @@
+// Plays a script of comm messages.
+#![tactic(auto)]
+
+mod lines;
+
+fn main() {}
