@@ -1,1 +1,5 @@
+pub mod Line
 pub mod Lines
+pub mod Played
+pub mod Session
+pub mod Words

@@ -51,3 +51,23 @@ reply_line n reply = codes "reply " ++ (decimal n ++ (codes " " ++ (reply_words 
 
 abbrev pub bad_line : ℕ → LineFault → List ℕ
 bad_line n fault = codes "bad " ++ (decimal n ++ (codes " " ++ (fault_words fault ++ 10 ∷ [])))
+
+abbrev pub close_json : ℕ → ℕ → List ℕ → Data
+close_json client call id =
+    object (member (codes "buffers") (array no_items)
+    (member (codes "call") (number (unsigned call))
+    (member (codes "client") (number (unsigned client))
+    (member (codes "content") (object (member (codes "comm_id") (string id) (member (codes "data") (object no_members) no_members)))
+    (member (codes "header") (object (member (codes "msg_type") (string (codes "comm_close")) no_members))
+    (member (codes "metadata") (object no_members) no_members))))))
+
+abbrev pub out_json : ℕ → ℕ → Outgoing → Data
+out_json client call (out.Close id) = close_json client call id
+out_json client call (out.Msg id body) = close_json client call id
+
+unfoldable pub out_line : ℕ → ℕ → Outgoing → List ℕ
+out_line client call outgoing = codes "out " ++ (compact_text (out_json client call outgoing) ++ 10 ∷ [])
+
+abbrev pub out_lines : ℕ → ℕ → List Outgoing → List ℕ
+out_lines client call [] = []
+out_lines client call (o ∷ os) = out_line client call o ++ out_lines client call os

@@ -1,12 +1,12 @@
 ghost use Rattle.std.specs.Prelude.{◌≡◌, ◌<◌, IfOk, codes};
 ghost use Rattle.serde_json.specs.Find.{get_member};
-ghost use Rattle.serde_json.specs.View.{view};
 ghost use Rattle.comm_messages.specs.Fields.{fields, fields_of};
 ghost use Rattle.comm_driver.specs.Line.{Gives, call_of, asked_in, asked};
 
 use comm_core::Call;
-use comm_messages::{Incoming, MessageFault, client_of, fields_of, member, message_of, object_in};
-use serde_json::Value;
+use comm_messages::{
+    Fields, Incoming, MessageFault, client_of, fields_of, member, message_in, object_in,
+};
 use std::alloc::Global;
 
 /// Why a line can't be read: the first test that it fails.
@@ -49,18 +49,21 @@ fn call_of(incoming: Incoming) -> Call
     }
 }
 
-fn asked_in(alloc: Global, line: &Value, clients: u8) -> Result<(u8, Call), LineFault>
+fn asked_in(alloc: Global, line: Fields<'_>, clients: u8) -> Result<(u8, Call), LineFault>
     requires { 0 < clients }
-    ensures asked { Gives (λ r. (r.0, r.1)) result (asked_in clients (fields_of (view line.now))) }
+    ensures asked { Gives (λ r. (r.0, r.1)) result (asked_in clients (fields line.entry)) }
     ensures below { IfOk result (λ r. r.0 < clients) }
 {
-    let fields = fields_of(line);
-    if member(fields, "call").is_some() {
-        client_of(member(fields, "client"), clients)?;
-        return Err(LineFault::UnknownCall);
+    match member(line, "call") {
+        None => {
+            let (client, incoming) = message_in(alloc, line, clients)?;
+            Ok((client, call_of(incoming)))
+        }
+        Some(_) => {
+            client_of(member(line, "client"), clients)?;
+            Err(LineFault::UnknownCall)
+        }
     }
-    let (client, incoming) = message_of(alloc, line, clients)?;
-    Ok((client, call_of(incoming)))
 }
 
 /// The client and the change that a line asks for.
@@ -70,5 +73,5 @@ pub fn asked(alloc: Global, line: &[u8], clients: u8) -> Result<(u8, Call), Line
     ensures below { IfOk result (λ r. r.0 < clients) }
 {
     let value = object_in(alloc, line)?;
-    asked_in(alloc, &value, clients)
+    asked_in(alloc, fields_of(&value), clients)
 }

@@ -12,6 +12,9 @@ use crate::session::Session;
 use std::alloc::Global;
 use std::io::Write;
 
+/// How many bytes are read at a time, at most.
+pub const PIECE: usize = 65_536;
+
 /// Plays the lines that end in a piece of the script. What follows them is pending.
 pub fn play_piece(
     session: &mut Session,
@@ -24,11 +27,12 @@ pub fn play_piece(
     requires fits { fits session.old.limits ≡ true }
     requires within { IsWithin number.old session.old }
     requires room { number.old + length piece.now < 2 ^ 62 }
+    requires small { length piece.now ≤ PIECE }
     requires one_line { has_line_feed pending.old.items ≡ false }
     ensures says { OnOk result ((limits : Limits) (input more written : List ℕ)
         → Says limits input session.old number.old (pending.old.items ++ (piece.now ++ more)) (written ++ text.old.items)
         → Says limits input session.new number.new (pending.new.items ++ more) (written ++ text.new.items)) }
-    ensures room { OnOk result (number.new ≤ number.old + length piece.now) }
+    ensures room { OnOk result (number.new ≤ number.old + PIECE) }
     ensures within { OnOk result (IsWithin number.new session.new) }
     ensures fits { OnOk result (fits session.new.limits ≡ true) }
     ensures one_line { OnOk result (has_line_feed pending.new.items ≡ false) }
@@ -67,7 +71,8 @@ pub fn play_last(
     if pending.is_empty() {
         return Ok(());
     }
-    session.line(alloc, number + 1, pending, text)
+    session.line(alloc, number + 1, pending, text)?;
+    Ok(())
 }
 
 /// Writes what is said, and forgets it.

@@ -1,10 +1,13 @@
 ghost use Rattle.std.specs.Prelude.{◌≡◌, ◌++◌, OnOk, IfOk, decimal, string_bytes};
-ghost use Rattle.comm_driver.specs.Words.{reply_words, field_words, message_words, fault_words, reply_line, bad_line};
+ghost use Rattle.serde_json.specs.View.{view};
+ghost use Rattle.comm_core.specs.declared.call.Outgoing.TheVariants.{Close};
+ghost use Rattle.comm_driver.specs.Words.{out_json, out_line, reply_words, field_words, message_words, fault_words, reply_line, bad_line};
 
 use crate::line::LineFault;
 use comm_core::{Refusal, Reply};
 use comm_messages::{Field, MessageFault};
-use std::alloc::AllocError;
+use serde_json::{Value, json};
+use std::alloc::{AllocError, Global};
 
 fn append_number(text: &mut Vec<u8>, number: u64) -> Result<(), AllocError>
     ensures { OnOk result (text.new.items ≡ text.old.items ++ decimal number) }
@@ -54,7 +57,8 @@ fn append_message_words(text: &mut Vec<u8>, fault: MessageFault) -> Result<(), A
         MessageFault::NotWhole => text.extend_from_slice(b"not_whole"),
         MessageFault::BadBuffer(n) => {
             text.extend_from_slice(b"bad_buffer ")?;
-            append_number(text, n as u64)
+            append_number(text, n as u64)?;
+            Ok(())
         }
         MessageFault::BadClient => text.extend_from_slice(b"bad_client"),
         MessageFault::Memory => Ok(()),
@@ -90,4 +94,26 @@ pub fn append_bad(text: &mut Vec<u8>, number: u64, fault: LineFault) -> Result<(
     text.extend_from_slice(b" ")?;
     append_fault_words(text, fault)?;
     text.extend_from_slice(b"\n")
+}
+
+fn close_json(alloc: Global, client: u8, call: u64, id: &str) -> Result<Value, AllocError>
+    ensures { IfOk result (λ v. view v ≡ out_json client call (Close id.now)) }
+{
+    json!(in alloc; {
+        "buffers": [],
+        "call": call,
+        "client": client,
+        "content": {"comm_id": id, "data": {}},
+        "header": {"msg_type": "comm_close"},
+        "metadata": {}
+    })
+}
+
+/// The line of a close.
+pub fn close_line(alloc: Global, client: u8, call: u64, id: &str) -> Result<String, AllocError>
+    ensures { IfOk result (λ s. string_bytes s ≡ out_line client call (Close id.now)) }
+{
+    let value = close_json(alloc, client, call, id)?;
+    let json = value.to_string(alloc)?;
+    format!(in alloc; "out {json}\n")
 }

@@ -15,4 +15,4 @@ pub use fields::{
     Fields, client_of, fields_of, member, object_in, object_or_empty, text, whole_dict,
 };
 pub use incoming::Incoming;
-pub use read::{message_of, read_message};
+pub use read::{message_in, message_of, read_message};
