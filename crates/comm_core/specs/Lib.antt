@@ -1,4 +1,0 @@
-pub mod History
-pub mod Limits
-pub mod Machine
-pub mod Step
