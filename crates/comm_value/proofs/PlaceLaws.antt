@@ -118,7 +118,7 @@ below_at s (q ∷ ps) (suc k) p h is = below_at s ps k p (omega arith) is
 contains_below : (s : Step) (ps : List Path) (p : Path) → Contains ps p → Contains (map (λ q. s ∷ q) ps) (s ∷ p)
 contains_below s ps p c = (c.0, omega (arith, c.1, length-map ps (λ q. s ∷ q)), below_at s ps c.0 p c.1 c.2)
 
-equal_key : (j k : List ℕ) → is_eq (key_cmp j k) ≡ true → j ≡ k
+pub equal_key : (j k : List ℕ) → is_eq (key_cmp j k) ≡ true → j ≡ k
 equal_key j k h = (bytes_eq-Decides j k).0 (sym (is_eq-slice_cmp j k) ∙ h)
 
 member_case : (k l : List ℕ) (t : Tree) (ms : Members) (p : Path) (b : List ℕ) (x : Bool) → is_eq (key_cmp k l) ≡ x → (at p t ≡ Some (bytes b) → Contains (paths t) p)

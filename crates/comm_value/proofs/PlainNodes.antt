@@ -76,7 +76,7 @@ member_ordered k no_members c o h = absurd (none_some h)
 member_ordered k (member l t ms) c o h =
     let p = parts l t ms o in got_ordered (is_eq (key_cmp k l)) t c (get k ms) p.value (λ e. member_ordered k ms c p.rest e) h
 
-child_ordered : (s : Step) (t c : Tree) → is_ordered t ≡ true → child s t ≡ Some c → is_ordered c ≡ true
+pub child_ordered : (s : Step) (t c : Tree) → is_ordered t ≡ true → child s t ≡ Some c → is_ordered c ≡ true
 child_ordered (Key k) (dict ms) c o h = member_ordered k ms c o h
 child_ordered (Key k) t c o h = absurd (none_some h)
 child_ordered (Index n) (list ts) c o h = item_ordered n ts c o h
