@@ -1,7 +1,8 @@
-ghost use Rattle.std.specs.Prelude.{◌≡◌, false};
+ghost use Rattle.std.specs.Prelude.{◌≡◌, false, IfOk};
 ghost use Rattle.comm_value.specs.Places.{members_have_bytes};
 
 use comm_value::{Buffers, Dict};
+use std::alloc::{AllocError, Global};
 use std::marker::Model;
 
 /// What a comm's message carries: `data`, which has no bytes in it, and the binary buffers beside it
@@ -32,6 +33,15 @@ impl Body {
         ensures { result ≡ record { content = content; buffers = buffers } }
     {
         Body { content, buffers }
+    }
+
+    /// The same body. Its members and its buffers are shared.
+    pub fn copy(&self, alloc: Global) -> Result<Body, AllocError>
+        ensures { IfOk result (λ b. b ≡ self.now) }
+    {
+        let content = self.content.copy()?;
+        let buffers = self.buffers.copy(alloc)?;
+        Ok(Body { content, buffers })
     }
 
     /// The message's `data`.
