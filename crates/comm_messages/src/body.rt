@@ -1,7 +1,8 @@
-ghost use Rattle.std.specs.Prelude.{◌≡◌, false};
+ghost use Rattle.std.specs.Prelude.{◌≡◌, false, IfOk};
 ghost use Rattle.comm_value.specs.Places.{members_have_bytes};
 
 use comm_value::{Buffers, Dict};
+use std::alloc::{AllocError, Global};
 use std::marker::Model;
 
 /// What a comm's message carries: `data`, which has no bytes in it, and the binary buffers beside it
@@ -47,6 +48,16 @@ impl Body {
         ensures { result.now ≡ self.now.buffers }
     {
         &self.buffers
+    }
+
+    /// The same data and buffers, shared.
+    pub fn copy(&self, alloc: Global) -> Result<Body, AllocError>
+        ensures { IfOk result (λ b. b ≡ self.now) }
+    {
+        Ok(Body {
+            content: self.content.copy(alloc)?,
+            buffers: self.buffers.copy(alloc)?,
+        })
     }
 
     /// The data and the buffers by themselves.

@@ -1,0 +1,4 @@
+pub mod Event
+pub mod Meaning
+pub mod Widget
+pub mod Answers
