@@ -2,3 +2,5 @@ pub mod Event
 pub mod Meaning
 pub mod Widget
 pub mod Answers
+pub mod Book
+pub mod Code

@@ -8,11 +8,7 @@ use Rattle.comm_targets.specs.declared.kind.Kind.TheVariants.{Echo, Counter, Wid
 use Rattle.comm_targets.specs.declared.event.Event.{Event}
 use Rattle.comm_targets.specs.declared.event.Event.TheVariants.{Open, Msg, Launch, Push}
 use Rattle.comm_targets.specs.declared.answer.Answer.{Answer}
-
--- an event with its answer
-pub record Stage : Type 0 where
-  pub event : Event
-  pub answer : Answer
+use Rattle.comm_targets.specs.declared.stage.Stage.{Stage}
 
 -- `ids` are those of the open comms, in the order of opening
 pub record Meaning : Type 0 where

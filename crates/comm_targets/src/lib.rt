@@ -2,13 +2,20 @@
 #![tactic(auto)]
 
 mod answer;
+mod book;
+mod boxed;
 mod event;
 mod fault;
+mod held;
 mod kind;
+mod stage;
 mod target;
 
 pub use answer::{Answer, Bodies, Custom};
+pub use book::Book;
 pub use event::Event;
 pub use fault::TargetFault;
+pub use held::Held;
 pub use kind::Kind;
+pub use stage::Stage;
 pub use target::Target;

@@ -1,5 +1,6 @@
 ghost use Rattle.std.specs.Prelude.{◌≡◌, ◌⊎◌, ◌↔◌, true, IsTrue, IfOk, IfErr, OnErr, IsSome, None, Some, option_map};
-ghost use Rattle.comm_targets.specs.Meaning.{Meaning, Stage, IsIdle, IsAskable, is_open, stages, commits, abandons, closes};
+ghost use Rattle.comm_targets.specs.declared.stage.Stage.{Stage};
+ghost use Rattle.comm_targets.specs.Meaning.{Meaning, IsIdle, IsAskable, is_open, stages, commits, abandons, closes};
 ghost use Rattle.comm_targets.specs.Answers.{Answers, Refuses};
 
 use crate::answer::Answer;
