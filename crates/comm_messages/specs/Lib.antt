@@ -1,1 +1,5 @@
 pub mod Content
+pub mod Gives
+pub mod Fields
+pub mod Buffers
+pub mod Message

@@ -1,6 +1,18 @@
-//! Messages of comms, from bytes and to bytes.
+//! Messages of Jupyter comms, from bytes and to bytes.
 #![tactic(auto)]
 
 mod body;
+mod buffers;
+mod fault;
+mod fields;
+mod incoming;
+mod read;
 
 pub use body::Body;
+pub use buffers::buffers_of;
+pub use fault::{Field, MessageFault};
+pub use fields::{
+    Fields, client_of, fields_of, member, object_in, object_or_empty, text, whole_dict,
+};
+pub use incoming::Incoming;
+pub use read::{message_of, read_message};

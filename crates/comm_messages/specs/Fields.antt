@@ -1,0 +1,56 @@
+-- The fields of a line's object, and what may stand in them (RFC 8259, sections 2 to 8).
+use Rattle.std.specs.Prelude.{ℕ, List, Option, Some, None, option_map, option_and_then, String, Ok, Err, nat_lt, if◌then◌else◌}
+use Rattle.std.specs.Str.{is_utf8}
+use Rattle.std.specs.Borrow.{Bor}
+use Rattle.std.specs.declared.alloc.Global.{Global}
+use Rattle.std.specs.BTreeMap.{BTreeMap}
+use Rattle.serde_json.specs.Data.{Data, null, string, object, Members, no_members}
+use Rattle.serde_json.specs.Find.{as_number, as_u64}
+use Rattle.serde_json.specs.Read.{read}
+use Rattle.serde_json.specs.View.{view, members_view}
+use Rattle.serde_json.specs.declared.value.Value.{Value}
+use Rattle.comm_messages.specs.Gives.{Reading, or_fault}
+use Rattle.comm_messages.specs.declared.fault.MessageFault.TheVariants.{NotJson, BadClient}
+
+-- JSON behind a reference, as data
+abbrev pub seen : Option (Bor Value) → Option Data
+seen o = option_map (λ v. view v.now) o
+
+-- the members of an object, or none
+abbrev pub fields : Option (Bor (BTreeMap (String Global) Value)) → Members
+fields None = no_members
+fields (Some m) = members_view m.now.entries
+
+abbrev pub members_in : Data → Option Members
+members_in (object ms) = Some ms
+members_in _ = None
+
+-- of a value that isn't an object, none
+abbrev pub fields_of : Data → Members
+fields_of (object ms) = ms
+fields_of _ = no_members
+
+-- the JSON object that a line is: UTF-8, and one value with nothing after it
+abbrev pub object_in : List ℕ → Reading Members
+object_in bytes = or_fault NotJson (option_and_then members_in (if is_utf8 bytes then read bytes else None))
+
+-- absent or null is an empty object
+abbrev pub object_or_empty : Option Data → Option Members
+object_or_empty None = Some no_members
+object_or_empty (Some null) = Some no_members
+object_or_empty (Some (object ms)) = Some ms
+object_or_empty (Some _) = None
+
+abbrev pub text : Option Data → Option (List ℕ)
+text (Some (string s)) = Some s
+text _ = None
+
+-- a whole number below the number of clients; absent or null is the first client
+abbrev pub below : ℕ → Option ℕ → Reading ℕ
+below clients None = Err BadClient
+below clients (Some n) = if nat_lt n clients then Ok n else Err BadClient
+
+abbrev pub client_of : ℕ → Option Data → Reading ℕ
+client_of clients None = Ok 0
+client_of clients (Some null) = Ok 0
+client_of clients (Some d) = below clients (option_and_then as_u64 (as_number d))

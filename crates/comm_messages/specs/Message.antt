@@ -1,0 +1,98 @@
+-- The message of a line, or the first of the tests that it fails ('Messaging in Jupyter' 5.3, "Custom Messages").
+use Rattle.std.specs.Prelude.{ℕ, List, Option, Some, None, option_and_then, Ok, Err, codes, if◌then◌else◌}
+use Rattle.std.specs.Str.{bytes_eq}
+use Rattle.serde_json.specs.Data.{Data, object, Members}
+use Rattle.serde_json.specs.Find.{get_member}
+use Rattle.comm_value.specs.FromJson.{members_of}
+use Rattle.comm_value.specs.Tree as tree
+use Rattle.comm_messages.specs.Content.{Content}
+use Rattle.comm_messages.specs.Gives.{Reading, or_fault, ◌>>=◌}
+use Rattle.comm_messages.specs.Fields.{object_in, object_or_empty, text, client_of, fields_of, members_in}
+use Rattle.comm_messages.specs.Buffers.{buffers_of}
+use Rattle.comm_messages.specs.declared.fault.Field.{Field}
+use Rattle.comm_messages.specs.declared.fault.Field.TheVariants as field
+use Rattle.comm_messages.specs.declared.fault.MessageFault.TheVariants.{NotJson, NoType, UnknownType, BadContent, NotWhole}
+use Rattle.comm_messages.specs.declared.incoming.Incoming.{Incoming}
+use Rattle.comm_messages.specs.declared.incoming.Incoming.TheVariants.{Open, Msg, Close}
+use Rattle.comm_messages.specs.declared.read.MessageType.{MessageType}
+use Rattle.comm_messages.specs.declared.read.MessageType.TheVariants as type
+
+abbrev pub type_named : List ℕ → Reading MessageType
+type_named name =
+    if bytes_eq name (codes "comm_open") then Ok type.Open else if bytes_eq name (codes "comm_msg") then Ok type.Msg
+    else if bytes_eq name (codes "comm_close") then Ok type.Close else Err UnknownType
+
+abbrev pub type_of : Option Data → Reading MessageType
+type_of header = or_fault NoType (option_and_then (λ ms. text (get_member (codes "msg_type") ms)) (option_and_then members_in header)) >>= type_named
+
+-- the client and the type
+unfoldable pub heading : ℕ → Members → Reading (ℕ × MessageType)
+heading clients line = do
+  client ← client_of clients (get_member (codes "client") line)
+  type ← type_of (get_member (codes "header") line)
+  Ok (client, type)
+
+abbrev pub text_at : Field → List ℕ → Members → Reading (List ℕ)
+text_at field key ms = or_fault (BadContent field) (text (get_member key ms))
+
+abbrev pub object_at : Field → List ℕ → Members → Reading Members
+object_at field key ms = or_fault (BadContent field) (object_or_empty (get_member key ms))
+
+abbrev pub version_of : Members → Option (List ℕ)
+version_of metadata = text (get_member (codes "version") metadata)
+
+abbrev pub whole_dict : Members → Reading tree.Members
+whole_dict ms = or_fault NotWhole (members_of ms)
+
+abbrev pub body_of : Members → Members → Reading Content
+body_of dict line = do
+  content ← whole_dict dict
+  buffers ← buffers_of (get_member (codes "buffers") line)
+  Ok (record { content = content; buffers = buffers })
+
+unfoldable pub open_in : Members → Members → Reading Incoming
+open_in line content = do
+  id ← text_at field.CommId (codes "comm_id") content
+  target ← text_at field.TargetName (codes "target_name") content
+  dict ← object_at field.Body (codes "data") content
+  metadata ← object_at field.Metadata (codes "metadata") line
+  body ← body_of dict line
+  Ok (Open id target (version_of metadata) body)
+
+unfoldable pub msg_in : Members → Members → Reading Incoming
+msg_in line content = do
+  id ← text_at field.CommId (codes "comm_id") content
+  dict ← object_at field.Body (codes "data") content
+  metadata ← object_at field.Metadata (codes "metadata") line
+  body ← body_of dict line
+  Ok (Msg id body)
+
+-- its data and its buffers are tested and dropped
+unfoldable pub close_in : Members → Members → Reading Incoming
+close_in line content = do
+  id ← text_at field.CommId (codes "comm_id") content
+  dict ← object_at field.Body (codes "data") content
+  metadata ← object_at field.Metadata (codes "metadata") line
+  buffers ← buffers_of (get_member (codes "buffers") line)
+  Ok (Close id)
+
+abbrev pub incoming_in : MessageType → Members → Members → Reading Incoming
+incoming_in type.Open line content = open_in line content
+incoming_in type.Msg line content = msg_in line content
+incoming_in type.Close line content = close_in line content
+
+-- the client and the message of an object's members
+unfoldable pub message_in : ℕ → Members → Reading (ℕ × Incoming)
+message_in clients line = do
+  head ← heading clients line
+  content ← object_at field.Content (codes "content") line
+  incoming ← incoming_in head.1 line content
+  Ok (head.0, incoming)
+
+-- the same of a JSON value
+abbrev pub message_of : ℕ → Data → Reading (ℕ × Incoming)
+message_of clients value = or_fault NotJson (members_in value) >>= message_in clients
+
+-- the same of the bytes of a line
+abbrev pub message : ℕ → List ℕ → Reading (ℕ × Incoming)
+message clients bytes = object_in bytes >>= message_in clients

@@ -1,0 +1,200 @@
+ghost use Rattle.std.specs.Prelude.{◌≡◌, ◌<◌, IfOk, Some, option_map, codes};
+ghost use Rattle.serde_json.specs.View.{view};
+ghost use Rattle.comm_messages.specs.Gives.{Gives};
+ghost use Rattle.comm_messages.specs.Fields.{seen, fields};
+ghost use Rattle.comm_messages.specs.Message.{type_named, type_of, heading, text_at, object_at, version_of, body_of, open_in, msg_in, close_in, incoming_in, message_in, message_of, message};
+
+use crate::body::Body;
+use crate::buffers::buffers_of;
+use crate::fault::{Field, MessageFault};
+use crate::fields::{
+    Fields, client_of, fields_of, member, object_in, object_or_empty, text, whole_dict,
+};
+use crate::incoming::Incoming;
+use comm_value::Text;
+use serde_json::Value;
+use std::alloc::{AllocError, Global};
+
+/// The kinds of message that are read.
+#[derive(Clone, Copy, Debug, PartialEq, Eq, Drop)]
+pub enum MessageType {
+    Open,
+    Msg,
+    Close,
+}
+
+/// The client and the message of a line, or the first test that it fails.
+pub fn read_message(alloc: Global, line: &[u8], clients: u8) -> Result<(u8, Incoming), MessageFault>
+    ensures message { Gives (λ r. (r.0, r.1)) result (message clients line.now) }
+    ensures below { 0 < clients → IfOk result (λ r. r.0 < clients) }
+{
+    let value = object_in(alloc, line)?;
+    message_in(alloc, fields_of(&value), clients)
+}
+
+/// The same of a JSON value that was read.
+pub fn message_of(alloc: Global, value: &Value, clients: u8) -> Result<(u8, Incoming), MessageFault>
+    ensures message { Gives (λ r. (r.0, r.1)) result (message_of clients (view value.now)) }
+    ensures below { 0 < clients → IfOk result (λ r. r.0 < clients) }
+{
+    match value {
+        Value::Object(map) => message_in(alloc, Some(map), clients),
+        _ => Err(MessageFault::NotJson),
+    }
+}
+
+#[tactic(auto, unfolding(crate::specs::Message::message_in))]
+fn message_in(alloc: Global, line: Fields<'_>, clients: u8) -> Result<(u8, Incoming), MessageFault>
+    ensures message { Gives (λ r. (r.0, r.1)) result (message_in clients (fields line.entry)) }
+    ensures below { 0 < clients → IfOk result (λ r. r.0 < clients) }
+{
+    let (client, type_) = heading(line, clients)?;
+    let content = object_at(Field::Content, "content", line)?;
+    let incoming = incoming_in(alloc, type_, line, content)?;
+    Ok((client, incoming))
+}
+
+#[tactic(auto, unfolding(crate::specs::Message::heading))]
+fn heading(line: Fields<'_>, clients: u8) -> Result<(u8, MessageType), MessageFault>
+    ensures value { Gives (λ r. (r.0, r.1)) result (heading clients (fields line.entry)) }
+    ensures below { 0 < clients → IfOk result (λ r. r.0 < clients) }
+{
+    let client = client_of(member(line, "client"), clients)?;
+    let type_ = type_of(member(line, "header"))?;
+    Ok((client, type_))
+}
+
+fn type_of(header: Option<&Value>) -> Result<MessageType, MessageFault>
+    ensures { Gives (λ t. t) result (type_of (seen header.entry)) }
+{
+    let Some(Value::Object(map)) = header else {
+        return Err(MessageFault::NoType);
+    };
+    match text(member(Some(map), "msg_type")) {
+        Some(name) => type_named(name),
+        None => Err(MessageFault::NoType),
+    }
+}
+
+fn type_named(name: &str) -> Result<MessageType, MessageFault>
+    ensures { Gives (λ t. t) result (type_named name.now) }
+{
+    if name == "comm_open" {
+        Ok(MessageType::Open)
+    } else if name == "comm_msg" {
+        Ok(MessageType::Msg)
+    } else if name == "comm_close" {
+        Ok(MessageType::Close)
+    } else {
+        Err(MessageFault::UnknownType)
+    }
+}
+
+fn text_at<'a>(field: Field, key: &str, of: Fields<'a>) -> Result<&'a str, MessageFault>
+    ensures { Gives (λ t. t.now) result (text_at field key.now (fields of.entry)) }
+{
+    match text(member(of, key)) {
+        Some(text) => Ok(text),
+        None => Err(MessageFault::BadContent(field)),
+    }
+}
+
+fn object_at<'a>(field: Field, key: &str, of: Fields<'a>) -> Result<Fields<'a>, MessageFault>
+    ensures { Gives fields result (object_at field key.now (fields of.entry)) }
+{
+    match object_or_empty(member(of, key)) {
+        Some(members) => Ok(members),
+        None => Err(MessageFault::BadContent(field)),
+    }
+}
+
+fn version_of<'a>(metadata: Fields<'a>) -> Option<&'a str>
+    ensures { option_map (λ t. t.now) result ≡ version_of (fields metadata.entry) }
+{
+    text(member(metadata, "version"))
+}
+
+fn body_of(alloc: Global, object: Fields<'_>, line: Fields<'_>) -> Result<Body, MessageFault>
+    ensures { Gives (λ b. b) result (body_of (fields object.entry) (fields line.entry)) }
+{
+    let content = whole_dict(alloc, object)?;
+    let buffers = buffers_of(alloc, member(line, "buffers"))?;
+    Ok(Body::new(content, buffers))
+}
+
+fn incoming_in(
+    alloc: Global,
+    type_: MessageType,
+    line: Fields<'_>,
+    content: Fields<'_>,
+) -> Result<Incoming, MessageFault>
+    ensures { Gives (λ i. i) result (incoming_in type_ (fields line.entry) (fields content.entry)) }
+{
+    match type_ {
+        MessageType::Open => open_in(alloc, line, content),
+        MessageType::Msg => msg_in(alloc, line, content),
+        MessageType::Close => close_in(alloc, line, content),
+    }
+}
+
+#[tactic(auto, unfolding(crate::specs::Message::open_in))]
+fn open_in(alloc: Global, line: Fields<'_>, content: Fields<'_>) -> Result<Incoming, MessageFault>
+    ensures { Gives (λ i. i) result (open_in (fields line.entry) (fields content.entry)) }
+{
+    let id = text_at(Field::CommId, "comm_id", content)?;
+    let target = text_at(Field::TargetName, "target_name", content)?;
+    let data = object_at(Field::Body, "data", content)?;
+    let metadata = object_at(Field::Metadata, "metadata", line)?;
+    let body = body_of(alloc, data, line)?;
+    Ok(opened(alloc, id, target, version_of(metadata), body)?)
+}
+
+fn opened(
+    alloc: Global,
+    id: &str,
+    target: &str,
+    version: Option<&str>,
+    body: Body,
+) -> Result<Incoming, AllocError>
+    ensures { IfOk result (λ i. i ≡ Incoming.Open id.now target.now (option_map (λ s. s.now) version.entry) body) }
+{
+    let id = Text::copy_of(alloc, id)?;
+    let target = Text::copy_of(alloc, target)?;
+    let version = match version {
+        None => None,
+        Some(text) => Some(Text::copy_of(alloc, text)?),
+    };
+    Ok(Incoming::Open {
+        id,
+        target,
+        version,
+        body,
+    })
+}
+
+#[tactic(auto, unfolding(crate::specs::Message::msg_in))]
+fn msg_in(alloc: Global, line: Fields<'_>, content: Fields<'_>) -> Result<Incoming, MessageFault>
+    ensures { Gives (λ i. i) result (msg_in (fields line.entry) (fields content.entry)) }
+{
+    let id = text_at(Field::CommId, "comm_id", content)?;
+    let data = object_at(Field::Body, "data", content)?;
+    object_at(Field::Metadata, "metadata", line)?;
+    let body = body_of(alloc, data, line)?;
+    Ok(Incoming::Msg {
+        id: Text::copy_of(alloc, id)?,
+        body,
+    })
+}
+
+#[tactic(auto, unfolding(crate::specs::Message::close_in))]
+fn close_in(alloc: Global, line: Fields<'_>, content: Fields<'_>) -> Result<Incoming, MessageFault>
+    ensures { Gives (λ i. i) result (close_in (fields line.entry) (fields content.entry)) }
+{
+    let id = text_at(Field::CommId, "comm_id", content)?;
+    object_at(Field::Body, "data", content)?;
+    object_at(Field::Metadata, "metadata", line)?;
+    buffers_of(alloc, member(line, "buffers"))?;
+    Ok(Incoming::Close {
+        id: Text::copy_of(alloc, id)?,
+    })
+}
