@@ -1,0 +1,2 @@
+pub mod CounterCommit
+pub mod Places

@@ -1,0 +1,128 @@
+-- What a widget answers ('Jupyter widgets messaging protocol' 2.0.0).
+use Rattle.std.specs.Prelude.{ℕ, List, [], ◌∷◌, Bool, ◌==◌, if◌then◌else◌, Option, None, Some, unwrap_or, option_map, Result, Ok, Err, codes}
+use Rattle.std.specs.List.{before_first}
+use Rattle.std.specs.Str.{bytes_eq}
+use Rattle.comm_messages.specs.Content.{Content}
+use Rattle.comm_value.specs.Tree.{Tree, null, boolean, whole, text, bytes, list, dict, Members, no_members, member}
+use Rattle.comm_value.specs.Node.{Path, get}
+use Rattle.comm_value.specs.Places.{member_paths, member_buffers, plain_members}
+use Rattle.comm_value.specs.Put.{placed}
+use Rattle.comm_value.specs.Paths.{read_paths, paths_tree}
+use Rattle.comm_value.specs.Merge.{merged}
+use Rattle.comm_value.specs.declared.val.Val.{Val}
+use Rattle.comm_value.specs.declared.val.Val.TheVariants as val
+use Rattle.comm_value.specs.declared.fault.ValueFault.{ValueFault}
+use Rattle.comm_value.specs.declared.fault.ValueFault.TheVariants as value
+use Rattle.comm_targets.specs.declared.event.Event.{Event}
+use Rattle.comm_targets.specs.declared.event.Event.TheVariants.{Open, Msg, Launch, Push}
+use Rattle.comm_targets.specs.declared.answer.Answer.{Answer}
+use Rattle.comm_targets.specs.declared.fault.TargetFault.{TargetFault}
+use Rattle.comm_targets.specs.declared.fault.TargetFault.TheVariants.{WrongVersion, NoState, BadState, BadPath, BufferMissing, NoMethod, UnknownMethod, Memory}
+
+-- a value as the code has it
+abbrev pub val_of : Tree → Val
+val_of null = val.Null
+val_of (boolean b) = val.Bool b
+val_of (whole z) = val.Whole z
+val_of (text s) = val.Text s
+val_of (bytes b) = val.Bytes b
+val_of (list ts) = val.List ts
+val_of (dict ms) = val.Dict ms
+
+-- ---- answers
+
+-- no new state, no message, nothing for the caller
+abbrev pub nothing : Answer
+nothing = record { state = None; messages = []; custom = None }
+
+abbrev pub new_state : Members → Answer
+new_state s = record { state = Some s; messages = []; custom = None }
+
+abbrev pub one_message : Content → Answer
+one_message c = record { state = None; messages = c ∷ []; custom = None }
+
+-- ---- states with buffers
+
+-- a fault of reading or placing, as the target's
+abbrev pub fault_of : ValueFault → TargetFault
+fault_of (value.BadPath n) = BadPath n
+fault_of (value.BufferMissing n) = BufferMissing n
+fault_of value.NotWhole = BadState
+fault_of value.Memory = Memory
+
+abbrev pub members_of : Result Tree ValueFault → Result Members TargetFault
+members_of (Ok (dict ms)) = Ok ms
+members_of (Ok t) = Err BadState
+members_of (Err e) = Err (fault_of e)
+
+-- the buffers at the paths, where these could be read
+abbrev pub placed_at : Result (List Path) ValueFault → List (List ℕ) → Members → Result Members TargetFault
+placed_at (Ok ps) bs ms = members_of (placed ps bs (dict ms))
+placed_at (Err e) bs ms = Err (fault_of e)
+
+-- a message's `state`, with its buffers at its `buffer_paths`
+abbrev pub state_of : Tree → Content → Result Members TargetFault
+state_of (dict ms) c = placed_at (read_paths (get (codes "buffer_paths") c.content)) c.buffers ms
+state_of t c = Err BadState
+
+-- ---- opening ("Instantiating a widget object")
+
+-- what stands before the first '.'
+abbrev pub major : List ℕ → List ℕ
+major version = before_first (λ b. b == 46) version
+
+-- a version that is absent, or no text, counts as the empty text
+abbrev pub is_spoken : Option (List ℕ) → Bool
+is_spoken version = bytes_eq (major (unwrap_or version [])) (codes "2")
+
+abbrev pub opened_with : Option Tree → Content → Result Members TargetFault
+opened_with None c = Err NoState
+opened_with (Some t) c = state_of t c
+
+abbrev pub opened : Option (List ℕ) → Content → Result Members TargetFault
+opened version c = if is_spoken version then opened_with (get (codes "state") c.content) c else Err WrongVersion
+
+-- ---- messages ("State update messages")
+
+-- the message that tells a state, or some of its keys
+abbrev pub update_of : Members → Content
+update_of u = record {
+  content =
+      member (codes "buffer_paths") (paths_tree (member_paths u))
+      (member (codes "method") (text (codes "update")) (member (codes "state") (dict (plain_members u)) no_members));
+  buffers = member_buffers u;
+}
+
+-- an answer with the state that was worked out, or why there is none
+abbrev pub answer_with : (Members → Answer) → Result Members TargetFault → Result Answer TargetFault
+answer_with answer (Ok s) = Ok (answer s)
+answer_with answer (Err f) = Err f
+
+-- `update`: each top-level key of its `state` replaces that of the comm's state
+abbrev pub updated : Option Tree → Members → Content → Result Answer TargetFault
+updated None now c = Ok nothing
+updated (Some t) now c = answer_with (λ u. new_state (merged now u)) (state_of t c)
+
+-- `custom`: the caller is handed its `content`, with the message's buffers
+abbrev pub handed : Option Tree → List (List ℕ) → Answer
+handed None bs = nothing
+handed (Some t) bs = record { state = None; messages = []; custom = Some (record { content = val_of t; buffers = bs }) }
+
+abbrev pub told_by : List ℕ → Members → Content → Result Answer TargetFault
+told_by method now c =
+    if bytes_eq method (codes "update") then updated (get (codes "state") c.content) now c
+    else if bytes_eq method (codes "request_state") then Ok (one_message (update_of now))
+    else if bytes_eq method (codes "custom") then Ok (handed (get (codes "content") c.content) c.buffers)
+    else Err UnknownMethod
+
+abbrev pub told : Option Tree → Members → Content → Result Answer TargetFault
+told (Some (text method)) now c = told_by method now c
+told _ now c = Err NoMethod
+
+-- ---- the answer to each event, of a comm whose state is `now`
+
+abbrev pub answer_of : Members → Event → Result Answer TargetFault
+answer_of now (Open id version body) = answer_with new_state (opened version body)
+answer_of now (Msg id body) = told (get (codes "method") body.content) now body
+answer_of now (Launch id state) = Ok (new_state state)
+answer_of now (Push id state) = Ok (record { state = Some (merged now state); messages = update_of state ∷ []; custom = None })
