@@ -6,6 +6,7 @@ mod buffers;
 mod fault;
 mod fields;
 mod incoming;
+mod outgoing;
 mod read;
 
 pub use body::Body;
@@ -15,4 +16,5 @@ pub use fields::{
     Fields, client_of, fields_of, member, object_in, object_or_empty, text, whole_dict,
 };
 pub use incoming::Incoming;
+pub use outgoing::Outgoing;
 pub use read::{message_of, read_message};
