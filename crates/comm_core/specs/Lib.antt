@@ -6,3 +6,5 @@ pub mod History
 pub mod Reads
 pub mod Tables
 pub mod Ready
+pub mod Code
+pub mod ReadyCode

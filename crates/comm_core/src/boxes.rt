@@ -28,8 +28,11 @@ impl<T: Target> Model for Boxes<T> {
     ghost use Rattle.std.specs.Prelude.{map, vec_len, vec_capacity, ◌-◌};
     ghost use Rattle.comm_core.specs.Tables.{Table};
     ghost use Rattle.comm_targets.specs.Meaning.{Meaning};
+    ghost use Rattle.comm_core.specs.Code.{boxes_code};
 
     ghost Value = { Table Meaning };
+
+    ghost coded = { boxes_code };
 
     ghost view = { λ b. record { all = map (λ n. (n.name, n.held)) b.all.items; room = vec_capacity b.all - vec_len b.all } };
 }

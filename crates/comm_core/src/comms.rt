@@ -5,6 +5,7 @@ ghost use Rattle.comm_targets.specs.Meaning.{Meaning};
 ghost use Rattle.comm_core.specs.Machine.{at, has, without, with_at, ids_of, others};
 ghost use Rattle.comm_core.specs.Reads.{infos_in, passes};
 ghost use Rattle.comm_core.specs.Tables.{emptied};
+ghost use Rattle.comm_core.specs.declared.comm.Comm.{Comm};
 
 use crate::comm::Comm;
 use crate::ids::Ids;
@@ -24,8 +25,11 @@ impl Model for Comms {
     ghost use Rattle.indexmap.specs.IndexMap.{spare};
     ghost use Rattle.comm_core.specs.Tables.{Table};
     ghost use Rattle.comm_core.specs.declared.comm.Comm.{Comm};
+    ghost use Rattle.comm_core.specs.Code.{comms_code};
 
     ghost Value = { Table Comm };
+
+    ghost coded = { comms_code };
 
     ghost view = { λ c. record { all = c.all.entries; room = spare c.all } };
 }
