@@ -1,0 +1,4 @@
+pub mod Boxed
+pub mod Closing
+pub mod Entries
+pub mod Names

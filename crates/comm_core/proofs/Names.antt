@@ -1,0 +1,16 @@
+-- The machine's targets are those of the boxes.
+use Rattle.std.proofs.Common.{◌≡◌, List, Option, None, Some, is_some, option_map, refl, ap, ◌∙◌}
+use Rattle.std.specs.Str.{bytes_eq}
+use Rattle.comm_core.specs.Machine.{Name, Registered, at, has}
+use Rattle.comm_core.specs.Tables.{Targets, registered_of, targets_of}
+use Rattle.comm_core.proofs.Entries.{lookup-map}
+
+pub is_some-map : {X Y : Type 0} (f : X → Y) (o : Option X) → is_some (option_map f o) ≡ is_some o
+is_some-map f None = refl
+is_some-map f (Some x) = refl
+
+pub target_at : (boxes : Targets) (name : Name) → at (targets_of boxes) name ≡ option_map registered_of (at boxes name)
+target_at boxes name = lookup-map (λ k. k) registered_of (bytes_eq name) boxes
+
+pub has_target : (boxes : Targets) (name : Name) → has (targets_of boxes) name ≡ has boxes name
+has_target boxes name = ap is_some (target_at boxes name) ∙ is_some-map registered_of (at boxes name)

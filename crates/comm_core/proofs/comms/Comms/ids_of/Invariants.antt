@@ -1,0 +1,6 @@
+use Rattle.std.proofs.Common.{◌≡◌, take}
+use Rattle.comm_core.specs.Machine.{ids_of}
+use Rattle.comm_core.proofs.comms.Comms.ids_of.Given as goal
+
+abbrev pub invariant-loop-i : goal.invariant-loop-i
+invariant-loop-i l = l.ids ≡ ids_of l.name (take l.i l.self.all)

@@ -1,0 +1,25 @@
+-- The tables and what stands ready as values that give them back, by which a proof tells them apart.
+use Rattle.std.specs.Prelude.{ℕ, Bool, List, Option, Result, refl}
+use Rattle.std.specs.Coded.{Coded, code_by, coded×, coded_ℕ, coded_bool, coded_list, coded_option, coded_result}
+use Rattle.comm_messages.specs.declared.outgoing.Outgoing.{Outgoing}
+use Rattle.comm_messages.specs.contracts.outgoing.Outgoing as outgoing
+use Rattle.comm_targets.specs.Meaning.{Meaning}
+use Rattle.comm_targets.specs.Code.{meaning_code}
+use Rattle.comm_targets.specs.declared.answer.Answer.{Answer}
+use Rattle.comm_targets.specs.declared.fault.TargetFault.{TargetFault}
+use Rattle.comm_targets.specs.contracts.answer.Answer as answer
+use Rattle.comm_targets.specs.contracts.fault.TargetFault as fault
+use Rattle.comm_core.specs.declared.comm.Comm.{Comm}
+use Rattle.comm_core.specs.contracts.comm.Comm as comm
+use Rattle.comm_core.specs.Tables.{Table}
+
+abbrev pub table_code : {X : Type 0} → Coded X → Coded (Table X)
+table_code {X} x =
+    code_by (List (List ℕ × X) × ℕ) (coded× (coded_list (coded× (coded_list coded_ℕ) x)) coded_ℕ) (λ t. (t.all, t.room)) (λ p. record { all = p.0; room = p.1 })
+    (λ _. refl)
+
+abbrev pub boxes_code : Coded (Table Meaning)
+boxes_code = table_code meaning_code
+
+abbrev pub comms_code : Coded (Table Comm)
+comms_code = table_code comm.the_row.coded

@@ -1,0 +1,44 @@
+-- Where no target is Free, a call has one outcome at most.
+use Rattle.std.specs.Prelude.{ℕ, Bool, not, true, false, List, Option, Some, None, option_map, option_and_then}
+use Rattle.std.specs.List.{list_all}
+use Rattle.comm_targets.specs.Answers.{answer_of}
+use Rattle.comm_targets.specs.declared.kind.Kind.{Kind}
+use Rattle.comm_targets.specs.declared.kind.Kind.TheVariants.{Echo, Counter, Widget, Free}
+use Rattle.comm_core.specs.Machine.{Name, Registered, Machine, at}
+use Rattle.comm_core.specs.Step.{Outcome, asks}
+use Rattle.comm_core.specs.declared.question.Question.{Question}
+use Rattle.comm_core.specs.declared.call.Call.{Call}
+use Rattle.comm_core.specs.declared.call.Call.TheVariants.{Register, Open, Msg, Close, Unregister, Launch, Push, Send, HangUp}
+
+abbrev pub is_free : Kind → Bool
+is_free Free = true
+is_free Echo = false
+is_free Counter = false
+is_free Widget = false
+
+-- no target is Free
+abbrev pub is_exact : Machine → Bool
+is_exact m = list_all (λ e. not (is_free e.1.kind)) m.targets
+
+abbrev pub outcome_by : Option Registered → Question → Option Outcome
+outcome_by None q = None
+outcome_by (Some r) q = Some (answer_of r.kind r.notes q.now q.event)
+
+abbrev pub outcome_at : Machine → Option Question → Option Outcome
+outcome_at m None = None
+outcome_at m (Some q) = outcome_by (at m.targets q.name) q
+
+-- what the definition of the target's kind gives, where a target is asked
+abbrev pub exact_outcome : ℕ → Machine → Call → Option Outcome
+exact_outcome limit m call = outcome_at m (asks limit m call)
+
+abbrev pub registers_free : Call → Bool
+registers_free (Register name kind notes) = is_free kind
+registers_free (Open id target version body) = false
+registers_free (Msg id body) = false
+registers_free (Close id) = false
+registers_free (Unregister name) = false
+registers_free (Launch uuid target state) = false
+registers_free (Push id state) = false
+registers_free (Send id body) = false
+registers_free (HangUp id) = false

@@ -1,0 +1,50 @@
+-- What a manager is asked without changing it ('Messaging in Jupyter' 5.3, "Comm info").
+use Rattle.std.specs.Prelude.{ℕ, Bool, true, List, [], ◌∷◌, map, filter, Option, Some, None, if◌then◌else◌}
+use Rattle.std.specs.Str.{bytes_eq}
+use Rattle.std.specs.Ordering.{nat_cmp, is_lt}
+use Rattle.std.specs.Cmp.Lexicographic.{slice_cmp}
+use Rattle.comm_value.specs.Tree.{Members}
+use Rattle.comm_core.specs.Machine.{Name, Machine, at}
+use Rattle.comm_core.specs.declared.comm.Comm.{Comm}
+use Rattle.comm_core.specs.declared.reply.StateAnswer.{StateAnswer}
+use Rattle.comm_core.specs.declared.reply.StateAnswer.TheVariants.{NoComm, NoState, State}
+
+-- the id of a comm and the name of its target
+abbrev pub Info : Type 0
+Info = Name × Name
+
+-- it stands before the other, in the byte order of the ids
+abbrev pub is_before : Info → Info → Bool
+is_before x y = is_lt (slice_cmp nat_cmp x.0 y.0)
+
+-- put where it belongs among those in order
+abbrev pub put_in_order : Info → List Info → List Info
+put_in_order x [] = x ∷ []
+put_in_order x (y ∷ ys) = if is_before x y then x ∷ y ∷ ys else y ∷ put_in_order x ys
+
+abbrev pub in_order : List Info → List Info
+in_order [] = []
+in_order (x ∷ xs) = put_in_order x (in_order xs)
+
+-- a comm of this target is asked for
+abbrev pub passes : Option Name → Comm → Bool
+passes None c = true
+passes (Some name) c = bytes_eq name c.target
+
+abbrev pub infos_in : List (Name × Comm) → Option Name → List Info
+infos_in comms target = map (λ e. (e.0, e.1.target)) (filter (λ e. passes target e.1) comms)
+
+-- the open comms, those of one target where a name is given, in the byte order of their ids
+abbrev pub infos : Machine → Option Name → List Info
+infos m target = in_order (infos_in m.comms target)
+
+abbrev pub state_in : Option Members → StateAnswer
+state_in None = NoState
+state_in (Some s) = State s
+
+abbrev pub state_at : Option Comm → StateAnswer
+state_at None = NoComm
+state_at (Some c) = state_in c.state
+
+abbrev pub state_of : Machine → Name → StateAnswer
+state_of m id = state_at (at m.comms id)

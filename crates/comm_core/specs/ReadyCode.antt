@@ -1,0 +1,41 @@
+-- What stands ready as values that give it back, by which a proof tells it apart.
+use Rattle.std.specs.Prelude.{ℕ, Bool, List, Option, Result, refl}
+use Rattle.std.specs.Coded.{Coded, code_by, coded×, coded_ℕ, coded_bool, coded_list, coded_option, coded_result}
+use Rattle.comm_messages.specs.declared.outgoing.Outgoing.{Outgoing}
+use Rattle.comm_messages.specs.contracts.outgoing.Outgoing as outgoing
+use Rattle.comm_targets.specs.Meaning.{Meaning}
+use Rattle.comm_targets.specs.Code.{meaning_code}
+use Rattle.comm_targets.specs.declared.answer.Answer.{Answer}
+use Rattle.comm_targets.specs.declared.fault.TargetFault.{TargetFault}
+use Rattle.comm_targets.specs.contracts.answer.Answer as answer
+use Rattle.comm_targets.specs.contracts.fault.TargetFault as fault
+use Rattle.comm_core.specs.declared.comm.Comm.{Comm}
+use Rattle.comm_core.specs.contracts.comm.Comm as comm
+use Rattle.comm_core.specs.declared.call.Call.{Call}
+use Rattle.comm_core.specs.contracts.call.Call as call
+use Rattle.comm_core.specs.declared.reply.Reply.{Reply}
+use Rattle.comm_core.specs.contracts.reply.Reply as reply
+use Rattle.comm_core.specs.declared.plan.Plan.{Plan}
+use Rattle.comm_core.specs.contracts.plan.Plan as plan
+use Rattle.comm_core.specs.Step.{Outcome}
+use Rattle.comm_core.specs.Tables.{Targets, Comms}
+use Rattle.comm_core.specs.Ready.{State, Readied}
+
+abbrev targets_code : Coded Targets
+targets_code = coded_list (coded× (coded_list coded_ℕ) meaning_code)
+
+abbrev opens_code : Coded Comms
+opens_code = coded_list (coded× (coded_list coded_ℕ) comm.the_row.coded)
+
+abbrev pub state_code : Coded State
+state_code =
+    code_by ((ℕ × Bool) × (Targets × Comms)) (coded× (coded× coded_ℕ coded_bool) (coded× targets_code opens_code)) (λ s. ((s.limit, s.settled), (s.boxes, s.comms)))
+    (λ p. record { limit = p.0.0; boxes = p.1.0; comms = p.1.1; settled = p.0.1 }) (λ _. refl)
+
+abbrev pub readied_code : Coded Readied
+readied_code =
+    code_by ((Call × Option Outcome) × ((Reply × List Outgoing) × (Plan × Option Meaning)))
+    (coded× (coded× call.the_row.coded (coded_option (coded_result answer.the_row.coded fault.the_row.coded)))
+    (coded× (coded× reply.the_row.coded (coded_list outgoing.the_row.coded)) (coded× plan.the_row.coded (coded_option meaning_code))))
+    (λ r. ((r.call, r.outcome), ((r.reply, r.outgoing), (r.plan, r.boxed))))
+    (λ p. record { call = p.0.0; outcome = p.0.1; reply = p.1.0.0; outgoing = p.1.0.1; plan = p.1.1.0; boxed = p.1.1.1 }) (λ _. refl)
