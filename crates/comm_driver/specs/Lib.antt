@@ -1,5 +1,4 @@
 pub mod Line
+pub mod Command
 pub mod Lines
-pub mod Played
-pub mod Session
 pub mod Words

@@ -17,14 +17,6 @@ pub use fields::{
     Fields, client_of, fields_of, member, object_in, object_or_empty, text, whole_dict,
 };
 pub use incoming::Incoming;
-<<<<<<< HEAD
-<<<<<<< HEAD
-pub use read::{message_in, message_of, read_message};
-=======
 pub use outgoing::{Outgoing, Parent};
-=======
-pub use outgoing::Outgoing;
->>>>>>> 9bfcdf9df156a884641272218df89085962d380c
-pub use read::{message_of, read_message};
-pub use write::{append_message, write_message};
->>>>>>> 58e7850a7c0218b5dd84b3bbc483d3fd5c237f9e
+pub use read::{body_of, message_in, message_of, read_message};
+pub use write::{append_buffers, append_message, write_message};

@@ -115,7 +115,8 @@ fn version_of<'a>(metadata: Fields<'a>) -> Option<&'a str>
     text(member(metadata, "version"))
 }
 
-fn body_of(alloc: Global, object: Fields<'_>, line: Fields<'_>) -> Result<Body, MessageFault>
+/// The body of an object's members, with the buffers of the line's.
+pub fn body_of(alloc: Global, object: Fields<'_>, line: Fields<'_>) -> Result<Body, MessageFault>
     ensures { Gives (λ b. b) result (body_of (fields object.entry) (fields line.entry)) }
 {
     let content = whole_dict(alloc, object)?;

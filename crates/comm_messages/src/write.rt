@@ -37,7 +37,7 @@ pub fn append_message(
     ensures { OnOk result (out.new.items ≡ out.old.items ++ text message.now parent.now) }
 {
     append(b"{\"buffers\":[", out)?;
-    append_buffers(alloc, message, out)?;
+    append_buffers_of(alloc, message, out)?;
     append_parent(parent, out)?;
     append(b",\"content\":", out)?;
     append_content(message, out)?;
@@ -145,11 +145,11 @@ fn append_number(number: u64, out: &mut Vec<u8>) -> Result<(), AllocError>
 }
 
 // The items of the list and its closing bracket.
-fn append_buffers(alloc: Global, message: &Outgoing, out: &mut Vec<u8>) -> Result<(), AllocError>
+fn append_buffers_of(alloc: Global, message: &Outgoing, out: &mut Vec<u8>) -> Result<(), AllocError>
     ensures { OnOk result (Appends out.old.items (buffers_text message.now) out.new.items) }
 {
     match message {
-        Outgoing::Open { body, .. } | Outgoing::Msg { body, .. } => append_all(
+        Outgoing::Open { body, .. } | Outgoing::Msg { body, .. } => append_buffers(
             alloc,
             body.buffers(),
             out,
@@ -159,7 +159,8 @@ fn append_buffers(alloc: Global, message: &Outgoing, out: &mut Vec<u8>) -> Resul
     Ok(())
 }
 
-fn append_all(alloc: Global, buffers: &Buffers, out: &mut Vec<u8>) -> Result<(), AllocError>
+/// Puts the buffers behind what the buffer holds, each as its base64 text: the items of a JSON list, and its closing bracket.
+pub fn append_buffers(alloc: Global, buffers: &Buffers, out: &mut Vec<u8>) -> Result<(), AllocError>
     ensures { OnOk result (Appends out.old.items (items_text false (buffer_texts buffers.now)) out.new.items) }
 {
     for (number, buffer) in buffers.as_slice().iter().enumerate() {

@@ -3,7 +3,6 @@ ghost use Rattle.std.specs.Prelude.{◌≡◌, [], ◌∷◌, ◌++◌, false, O
 ghost use Rattle.serde_json.specs.Data.{object};
 ghost use Rattle.serde_json.specs.Find.{of_integer};
 ghost use Rattle.serde_json.specs.Written.{compact_text, items_text, members_text, comma_if, number_text};
-ghost use Rattle.comm_value.specs.Places.{has_bytes, items_have_bytes, members_have_bytes};
 ghost use Rattle.comm_value.specs.ToJson.{json_of, json_items, json_members};
 ghost use Rattle.comm_value.specs.View.{tree};
 
@@ -14,9 +13,8 @@ use itoa::Buffer;
 use std::alloc::AllocError;
 
 impl Val {
-    /// Appends the compact JSON text (RFC 8259) of a value without bytes. After an error some of it may be there.
+    /// Appends the compact JSON text (RFC 8259) of a value; bytes, which JSON lacks, are written as null. After an error some of it may be there.
     pub fn write_json(&self, out: &mut Vec<u8>) -> Result<(), AllocError>
-        requires { has_bytes (tree self.now) ≡ false }
         ensures { OnOk result (out.new.items ≡ out.old.items ++ compact_text (json_of (tree self.now))) }
     {
         write_value(self, out)
@@ -24,9 +22,8 @@ impl Val {
 }
 
 impl Dict {
-    /// Appends the compact JSON text (RFC 8259) of a dict without bytes, its keys in the order of their bytes. After an error some of it may be there.
+    /// The same of a dict, its keys in the order of their bytes.
     pub fn write_json(&self, out: &mut Vec<u8>) -> Result<(), AllocError>
-        requires { members_have_bytes self.now ≡ false }
         ensures { OnOk result (out.new.items ≡ out.old.items ++ compact_text (object (json_members self.now))) }
     {
         write_members(self, out)
@@ -56,7 +53,6 @@ fn write_comma(later: bool, out: &mut Vec<u8>) -> Result<(), AllocError>
 
 #[cycle(json_text)]
 fn write_value(value: &Val, out: &mut Vec<u8>) -> Result<(), AllocError>
-    requires { has_bytes (tree value.now) ≡ false }
     ensures { OnOk result (out.new.items ≡ out.old.items ++ compact_text (json_of (tree value.now))) }
 {
     match value {
@@ -65,7 +61,7 @@ fn write_value(value: &Val, out: &mut Vec<u8>) -> Result<(), AllocError>
         Val::Bool(false) => out.extend_from_slice(b"false"),
         Val::Whole(whole) => write_whole(*whole, out),
         Val::Text(text) => write_text(text.as_str(), out),
-        Val::Bytes(_) => unreachable!(),
+        Val::Bytes(_) => out.extend_from_slice(b"null"),
         Val::List(items) => write_items(items, out),
         Val::Dict(dict) => write_members(dict, out),
     }
@@ -73,7 +69,6 @@ fn write_value(value: &Val, out: &mut Vec<u8>) -> Result<(), AllocError>
 
 #[cycle(json_text)]
 fn write_items(items: &Items, out: &mut Vec<u8>) -> Result<(), AllocError>
-    requires { items_have_bytes items.now ≡ false }
     ensures { OnOk result (out.new.items ≡ out.old.items ++ 91 ∷ items_text false (json_items items.now)) }
 {
     out.push(b'[')?;
@@ -88,7 +83,6 @@ fn write_items(items: &Items, out: &mut Vec<u8>) -> Result<(), AllocError>
 
 #[cycle(json_text)]
 fn write_members(dict: &Dict, out: &mut Vec<u8>) -> Result<(), AllocError>
-    requires { members_have_bytes dict.now ≡ false }
     ensures { OnOk result (out.new.items ≡ out.old.items ++ 123 ∷ members_text false (json_members dict.now)) }
 {
     out.push(b'{')?;
