@@ -1,8 +1,8 @@
-ghost use Rattle.std.specs.Prelude.{◌≡◌, IfOk, option_map};
+ghost use Rattle.std.specs.Prelude.{◌≡◌, Ok, IfOk, IfErr, option_map};
 ghost use Rattle.serde_json.specs.View.{view};
 ghost use Rattle.comm_value.specs.View.{tree};
 ghost use Rattle.comm_messages.specs.Fields.{seen, fields};
-ghost use Rattle.comm_value.specs.Paths.{read_paths};
+ghost use Rattle.comm_value.specs.Paths.{read_paths, Refuses};
 ghost use Rattle.comm_driver.specs.Line.{Gives};
 ghost use Rattle.comm_driver.specs.Command.{text_field, object_field, list_or_empty, list_field, kind_named, kind_field, whole_value, placed_at, state_in, register_in, unregister_in, launched, launch_in, push_in, send_in, hang_up_in, state_read_in, command_named, command};
 ghost use Rattle.uuid.specs.Text.{parsed};
@@ -13,7 +13,7 @@ use crate::asked::{Asked, Key, LineFault};
 use comm_core::Call;
 use comm_messages::{Fields, body_of, buffers_of, member, object_or_empty, text, whole_dict};
 use comm_targets::Kind;
-use comm_value::{Buffers, Dict, Text, Val, paths_of, put_all};
+use comm_value::{Buffers, Dict, Path, Text, Val, ValueFault, paths_of, put_all};
 use serde_json::Value;
 use std::alloc::Global;
 use uuid::Uuid;
@@ -81,6 +81,16 @@ fn whole_value(alloc: Global, json: Option<&Value>) -> Result<Option<Val>, LineF
     }
 }
 
+fn paths_in(alloc: Global, value: &Option<Val>) -> Result<Vec<Path>, ValueFault>
+    ensures read { IfOk result (λ ps. read_paths (option_map tree value.now) ≡ Ok ps.items) }
+    ensures fault { IfErr result (λ e. Refuses e (read_paths (option_map tree value.now))) }
+{
+    match value {
+        Some(value) => paths_of(alloc, Some(value)),
+        None => paths_of(alloc, None),
+    }
+}
+
 fn placed_at(
     alloc: Global,
     paths: Option<Val>,
@@ -89,8 +99,13 @@ fn placed_at(
 ) -> Result<Dict, LineFault>
     ensures { Gives (λ d. d) result (placed_at (read_paths (option_map tree paths)) buffers state) }
 {
-    let paths = paths_of(alloc, paths.as_ref())?;
-    Ok(put_all(alloc, state, &paths, buffers)?)
+    match paths_in(alloc, &paths) {
+        Ok(paths) => match put_all(alloc, state, &paths, buffers) {
+            Ok(state) => Ok(state),
+            Err(fault) => Err(LineFault::Value(fault)),
+        },
+        Err(fault) => Err(LineFault::Value(fault)),
+    }
 }
 
 // A state with the buffers at their paths.
