@@ -20,3 +20,6 @@ pub use incoming::Incoming;
 pub use outgoing::{Outgoing, Parent};
 pub use read::{message_of, read_message};
 pub use write::{append_message, write_message};
+
+#[cfg(test)]
+mod tests;

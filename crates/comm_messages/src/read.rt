@@ -118,8 +118,7 @@ fn body_of(alloc: Global, object: Fields<'_>, line: Fields<'_>) -> Result<Body, 
     ensures { Gives (λ b. b) result (body_of (fields object.entry) (fields line.entry)) }
 {
     let content = whole_dict(alloc, object)?;
-    let buffers = buffers_of(alloc, member(line, "buffers"))?;
-    Ok(Body::new(content, buffers))
+    Ok(Body::new(content, buffers_of(alloc, member(line, "buffers"))?))
 }
 
 fn incoming_in(
