@@ -1,6 +1,10 @@
+ghost use Rattle.std.specs.Prelude.{◌≡◌, true};
+ghost use Rattle.comm_messages.specs.Text.{goes_with};
+
 use crate::{
-    Body, Incoming, MessageFault, Outgoing, Parent, buffers_of, client_of, fields_of, member,
-    message_of, object_in, object_or_empty, read_message, text, whole_dict, write_message,
+    Body, Incoming, Info, Infos, MessageFault, Outgoing, Parent, buffers_of, client_of, fields_of,
+    member, message_of, object_in, object_or_empty, read_message, text, text_or_none, whole_dict,
+    write_message,
 };
 use comm_value::{Buffers, Bytes, Dict, Text};
 use serde_json::Value;
@@ -57,6 +61,13 @@ fn outcome(alloc: Global, read: Result<(u8, Incoming), MessageFault>) -> Result<
             let id = id.as_str();
             Ok(format!(in alloc; "{client} close {id}")?)
         }
+        Ok((client, Incoming::InfoRequest { target })) => {
+            let target = match &target {
+                Some(target) => target.as_str(),
+                None => "-",
+            };
+            Ok(format!(in alloc; "{client} info {target}")?)
+        }
         Err(fault) => Ok(format!(in alloc; "{fault}")?),
     }
 }
@@ -109,6 +120,15 @@ fn reads_messages(rt: HostRuntime) -> Result<(), Fail> {
         (
             r#"{"header":{"msg_type":"comm_close"},"content":{"comm_id":"a","data":{"v":1.5}}}"#,
             "0 close a",
+        ),
+        (r#"{"header":{"msg_type":"comm_info_request"}}"#, "0 info -"),
+        (
+            r#"{"header":{"msg_type":"comm_info_request"},"content":{"target_name":null,"comm_id":7,"data":7},"buffers":["AQI="]}"#,
+            "0 info -",
+        ),
+        (
+            r#"{"header":{"msg_type":"comm_info_request"},"content":{"target_name":""}}"#,
+            "0 info ",
         ),
         // Of a key that stands twice the last value stays.
         (
@@ -165,6 +185,14 @@ fn names_the_first_test_that_fails(rt: HostRuntime) -> Result<(), Fail> {
         (
             r#"{"header":{"msg_type":"comm_close"}}"#,
             "`comm_id` in `content` is not a text",
+        ),
+        (
+            r#"{"header":{"msg_type":"comm_info_request"},"content":{"target_name":7},"metadata":7}"#,
+            "`target_name` in `content` is not a text",
+        ),
+        (
+            r#"{"header":{"msg_type":"comm_info_request"},"buffers":[7]}"#,
+            "buffer 0 is not a text in base64",
         ),
         (
             r#"{"header":{"msg_type":"comm_open"},"content":{"comm_id":"a","target_name":null,"data":7}}"#,
@@ -292,6 +320,8 @@ fn offers_its_readers(rt: HostRuntime) -> Result<(), Fail> {
     assert_eq!(rt; whole_dict(alloc, object)?.len(), 1);
     assert!(rt; matches!(object_or_empty(member(fields, "state")), Some(None)));
     assert!(rt; object_or_empty(member(fields, "client")).is_none());
+    assert!(rt; matches!(text_or_none(member(fields, "state")), Some(None)));
+    assert!(rt; text_or_none(member(fields, "client")).is_none());
     assert_eq!(rt;
         outcome(alloc, message_of(alloc, &value, 4))?.as_str(),
         "`header` has no text `msg_type`"
@@ -304,7 +334,9 @@ fn body(alloc: Global, data: &str, buffers: Buffers) -> Result<Body, Fail> {
     Ok(Body::new(whole_dict(alloc, fields_of(&value))?, buffers))
 }
 
-fn written(alloc: Global, message: &Outgoing, parent: &Parent) -> Result<String, Fail> {
+fn written(alloc: Global, message: &Outgoing, parent: &Parent) -> Result<String, Fail>
+    requires { goes_with message.now parent.now ≡ true }
+{
     let bytes = write_message(alloc, message, parent)?;
     Ok(String::from_utf8_lossy(alloc, bytes.as_slice())?)
 }
@@ -387,6 +419,51 @@ fn writes_a_close(rt: HostRuntime) -> Result<(), Fail> {
     assert_eq!(rt;
         written(alloc, &close, &parent)?.as_str(),
         "{\"buffers\":[],\"call\":18446744073709551615,\"client\":3,\"content\":{\"comm_id\":\"\\\"\\u0001\u{7f}/\u{2028}\",\"data\":{}},\"header\":{\"msg_type\":\"comm_close\"},\"metadata\":{}}"
+    );
+    Ok(())
+}
+
+#[test]
+fn writes_the_open_comms(rt: HostRuntime) -> Result<(), Fail> {
+    let alloc = rt.alloc();
+    let none = Outgoing::InfoReply {
+        comms: Infos::new(Vec::new(alloc)),
+    };
+    assert_eq!(rt;
+        written(
+            alloc,
+            &none,
+            &Parent::Read {
+                client: 0,
+                front: 0
+            }
+        )?
+        .as_str(),
+        r#"{"buffers":[],"client":0,"content":{"comms":{},"status":"ok"},"front":0,"header":{"msg_type":"comm_info_reply"},"metadata":{}}"#
+    );
+    let mut all = Vec::new(alloc);
+    all.push(Info {
+        id: id(alloc, "a")?,
+        target: id(alloc, "jupyter.widget")?,
+    })?;
+    all.push(Info {
+        id: id(alloc, "b")?,
+        target: id(alloc, "t")?,
+    })?;
+    let two = Outgoing::InfoReply {
+        comms: Infos::new(all),
+    };
+    assert_eq!(rt;
+        written(
+            alloc,
+            &two,
+            &Parent::Read {
+                client: 2,
+                front: 7
+            }
+        )?
+        .as_str(),
+        r#"{"buffers":[],"client":2,"content":{"comms":{"a":{"target_name":"jupyter.widget"},"b":{"target_name":"t"}},"status":"ok"},"front":7,"header":{"msg_type":"comm_info_reply"},"metadata":{}}"#
     );
     Ok(())
 }
