@@ -32,7 +32,7 @@ impl Body {
         requires { members_have_bytes content ≡ false }
         ensures { result ≡ record { content = content; buffers = buffers } }
     {
-        Body { content, buffers }
+        Self { content, buffers }
     }
 
     /// The same body. Its members and its buffers are shared.
