@@ -17,9 +17,10 @@ use Rattle.comm_messages.specs.Fields.{object_in, object_or_empty, text, client_
 use Rattle.comm_messages.specs.Message.{message_in, whole_dict, body_of}
 use Rattle.comm_messages.specs.declared.incoming.Incoming.{Incoming}
 use Rattle.comm_messages.specs.declared.incoming.Incoming.TheVariants as incoming
-use Rattle.comm_targets.specs.declared.kind.Kind.{Kind}
-use Rattle.comm_targets.specs.declared.kind.Kind.TheVariants as kind
 use Rattle.comm_core.specs.declared.call.Call.TheVariants as call
+use Rattle.comm_core.specs.Ready.{HandsNothingIn}
+use Rattle.comm_driver.specs.declared.stock.Word.{Word}
+use Rattle.comm_driver.specs.declared.stock.Word.TheVariants as word
 use Rattle.comm_driver.specs.Line.{Reading, ◌>>=◌, or_fault, of_message}
 use Rattle.comm_driver.specs.declared.asked.Asked.{Asked}
 use Rattle.comm_driver.specs.declared.asked.Asked.TheVariants.{Change, Register, Infos, State}
@@ -46,14 +47,14 @@ list_or_empty (Some _) = Err (BadField key.Buffers)
 abbrev pub list_field : Members → Reading ⊤
 list_field line = list_or_empty (get_member (codes "buffers") line)
 
-abbrev pub kind_named : List ℕ → Option Kind
+abbrev pub kind_named : List ℕ → Option Word
 kind_named name =
-    if bytes_eq name (codes "echo") then Some kind.Echo
-    else if bytes_eq name (codes "counter") then Some kind.Counter
-    else if bytes_eq name (codes "widget") then Some kind.Widget
+    if bytes_eq name (codes "echo") then Some word.Echo
+    else if bytes_eq name (codes "counter") then Some word.Counter
+    else if bytes_eq name (codes "widget") then Some word.Widget
     else None
 
-abbrev pub kind_field : Members → Reading Kind
+abbrev pub kind_field : Members → Reading Word
 kind_field line = or_fault (BadField key.Kind) (option_and_then kind_named (text (get_member (codes "kind") line)))
 
 -- ---- a state with its buffers at its paths
@@ -144,6 +145,7 @@ abbrev pub asked_by_message : Incoming → Asked
 asked_by_message (incoming.Open id target version body) = Change (call.Open id target version body)
 asked_by_message (incoming.Msg id body) = Change (call.Msg id body)
 asked_by_message (incoming.Close id) = Change (call.Close id)
+asked_by_message (incoming.InfoRequest target) = Infos target
 
 abbrev pub asked_by : Option Data → ℕ → Members → Reading (ℕ × Asked)
 asked_by None clients line = of_message (message_in clients line) >>= (λ m. Ok (m.0, asked_by_message m.1))
@@ -156,3 +158,10 @@ asked_in clients line = asked_by (get_member (codes "call") line) clients line
 -- the client, and what it asks for
 abbrev pub asked : ℕ → List ℕ → Reading (ℕ × Asked)
 asked clients bytes = of_message (object_in bytes) >>= asked_in clients
+
+-- a change that is asked for hands no target in: a register takes one out of the stock
+abbrev pub HandsNothing : Asked → Type 0
+HandsNothing (Change c) = HandsNothingIn c
+HandsNothing (Register kind name) = Unit {0}
+HandsNothing (Infos target) = Unit {0}
+HandsNothing (State id) = Unit {0}

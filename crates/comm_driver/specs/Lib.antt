@@ -1,4 +1,5 @@
 pub mod Line
 pub mod Command
 pub mod Lines
+pub mod Stock
 pub mod Words

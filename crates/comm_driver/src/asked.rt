@@ -1,9 +1,9 @@
 ghost use Rattle.std.specs.Prelude.{◌≡◌};
 ghost use Rattle.comm_driver.specs.declared.asked.LineFault.TheVariants.{Message, Value};
 
+use crate::stock::Word;
 use comm_core::Call;
 use comm_messages::MessageFault;
-use comm_targets::Kind;
 use comm_value::{Text, ValueFault};
 use std::alloc::AllocError;
 
@@ -13,7 +13,7 @@ pub enum Asked {
     /// A change of the manager.
     Change(Call),
     /// The registration of the first target of this kind that the stock has.
-    Register { kind: Kind, name: Text },
+    Register { kind: Word, name: Text },
     /// The open comms, those of one target where a name is given.
     Infos { target: Option<Text> },
     /// The state of a comm.

@@ -4,15 +4,15 @@ ghost use Rattle.comm_value.specs.View.{tree};
 ghost use Rattle.comm_messages.specs.Fields.{seen, fields};
 ghost use Rattle.comm_value.specs.Paths.{read_paths, Refuses};
 ghost use Rattle.comm_driver.specs.Line.{Gives};
-ghost use Rattle.comm_driver.specs.Command.{text_field, object_field, list_or_empty, list_field, kind_named, kind_field, whole_value, placed_at, state_in, register_in, unregister_in, launched, launch_in, push_in, send_in, hang_up_in, state_read_in, command_named, command};
+ghost use Rattle.comm_driver.specs.Command.{text_field, object_field, list_or_empty, list_field, kind_named, kind_field, whole_value, placed_at, state_in, register_in, unregister_in, launched, launch_in, push_in, send_in, hang_up_in, state_read_in, command_named, command, HandsNothing};
 ghost use Rattle.uuid.specs.Text.{parsed};
 ghost use Rattle.comm_driver.specs.Line.{or_fault};
 ghost use Rattle.comm_driver.specs.declared.asked.LineFault.TheVariants.{BadUuid};
 
 use crate::asked::{Asked, Key, LineFault};
+use crate::stock::Word;
 use comm_core::Call;
 use comm_messages::{Fields, body_of, buffers_of, member, object_or_empty, text, whole_dict};
-use comm_targets::Kind;
 use comm_value::{Buffers, Dict, Path, Text, Val, ValueFault, paths_of, put_all};
 use serde_json::Value;
 use std::alloc::Global;
@@ -46,21 +46,21 @@ fn list_field(line: Fields<'_>) -> Result<(), LineFault>
     }
 }
 
-fn kind_named(name: &str) -> Option<Kind>
+fn kind_named(name: &str) -> Option<Word>
     ensures { result ≡ kind_named name.now }
 {
     if name == "echo" {
-        Some(Kind::Echo)
+        Some(Word::Echo)
     } else if name == "counter" {
-        Some(Kind::Counter)
+        Some(Word::Counter)
     } else if name == "widget" {
-        Some(Kind::Widget)
+        Some(Word::Widget)
     } else {
         None
     }
 }
 
-fn kind_field(line: Fields<'_>) -> Result<Kind, LineFault>
+fn kind_field(line: Fields<'_>) -> Result<Word, LineFault>
     ensures { Gives (λ k. k) result (kind_field (fields line.entry)) }
 {
     match text(member(line, "kind")) {
@@ -121,7 +121,8 @@ fn state_in(alloc: Global, object: Fields<'_>, line: Fields<'_>) -> Result<Dict,
 
 #[tactic(auto, unfolding(crate::specs::Command::register_in))]
 fn register_in(alloc: Global, line: Fields<'_>) -> Result<Asked, LineFault>
-    ensures { Gives (λ a. a) result (register_in (fields line.entry)) }
+    ensures asked { Gives (λ a. a) result (register_in (fields line.entry)) }
+    ensures handless { IfOk result HandsNothing }
 {
     let kind = kind_field(line)?;
     let name = text_field(Key::Name, "name", line)?;
@@ -130,7 +131,8 @@ fn register_in(alloc: Global, line: Fields<'_>) -> Result<Asked, LineFault>
 }
 
 fn unregister_in(alloc: Global, line: Fields<'_>) -> Result<Asked, LineFault>
-    ensures { Gives (λ a. a) result (unregister_in (fields line.entry)) }
+    ensures asked { Gives (λ a. a) result (unregister_in (fields line.entry)) }
+    ensures handless { IfOk result HandsNothing }
 {
     let name = text_field(Key::Name, "name", line)?;
     let name = Text::copy_of(alloc, name)?;
@@ -147,7 +149,8 @@ fn uuid_of(text: &str) -> Result<Uuid, LineFault>
 }
 
 fn launched(alloc: Global, name: &str, uuid: &str, state: Dict) -> Result<Asked, LineFault>
-    ensures { Gives (λ a. a) result (launched name.now uuid.now state) }
+    ensures asked { Gives (λ a. a) result (launched name.now uuid.now state) }
+    ensures handless { IfOk result HandsNothing }
 {
     let id = uuid_of(uuid)?;
     let target = Text::copy_of(alloc, name)?;
@@ -156,7 +159,8 @@ fn launched(alloc: Global, name: &str, uuid: &str, state: Dict) -> Result<Asked,
 
 #[tactic(auto, unfolding(crate::specs::Command::launch_in))]
 fn launch_in(alloc: Global, line: Fields<'_>) -> Result<Asked, LineFault>
-    ensures { Gives (λ a. a) result (launch_in (fields line.entry)) }
+    ensures asked { Gives (λ a. a) result (launch_in (fields line.entry)) }
+    ensures handless { IfOk result HandsNothing }
 {
     let name = text_field(Key::Name, "name", line)?;
     let uuid = text_field(Key::Uuid, "uuid", line)?;
@@ -168,7 +172,8 @@ fn launch_in(alloc: Global, line: Fields<'_>) -> Result<Asked, LineFault>
 
 #[tactic(auto, unfolding(crate::specs::Command::push_in))]
 fn push_in(alloc: Global, line: Fields<'_>) -> Result<Asked, LineFault>
-    ensures { Gives (λ a. a) result (push_in (fields line.entry)) }
+    ensures asked { Gives (λ a. a) result (push_in (fields line.entry)) }
+    ensures handless { IfOk result HandsNothing }
 {
     let id = text_field(Key::Id, "id", line)?;
     let object = object_field(Key::State, "state", line)?;
@@ -180,7 +185,8 @@ fn push_in(alloc: Global, line: Fields<'_>) -> Result<Asked, LineFault>
 
 #[tactic(auto, unfolding(crate::specs::Command::send_in))]
 fn send_in(alloc: Global, line: Fields<'_>) -> Result<Asked, LineFault>
-    ensures { Gives (λ a. a) result (send_in (fields line.entry)) }
+    ensures asked { Gives (λ a. a) result (send_in (fields line.entry)) }
+    ensures handless { IfOk result HandsNothing }
 {
     let id = text_field(Key::Id, "id", line)?;
     let object = object_field(Key::Data, "data", line)?;
@@ -191,7 +197,8 @@ fn send_in(alloc: Global, line: Fields<'_>) -> Result<Asked, LineFault>
 }
 
 fn hang_up_in(alloc: Global, line: Fields<'_>) -> Result<Asked, LineFault>
-    ensures { Gives (λ a. a) result (hang_up_in (fields line.entry)) }
+    ensures asked { Gives (λ a. a) result (hang_up_in (fields line.entry)) }
+    ensures handless { IfOk result HandsNothing }
 {
     let id = text_field(Key::Id, "id", line)?;
     let id = Text::copy_of(alloc, id)?;
@@ -199,7 +206,8 @@ fn hang_up_in(alloc: Global, line: Fields<'_>) -> Result<Asked, LineFault>
 }
 
 fn state_read_in(alloc: Global, line: Fields<'_>) -> Result<Asked, LineFault>
-    ensures { Gives (λ a. a) result (state_read_in (fields line.entry)) }
+    ensures asked { Gives (λ a. a) result (state_read_in (fields line.entry)) }
+    ensures handless { IfOk result HandsNothing }
 {
     let id = text_field(Key::Id, "id", line)?;
     let id = Text::copy_of(alloc, id)?;
@@ -207,7 +215,8 @@ fn state_read_in(alloc: Global, line: Fields<'_>) -> Result<Asked, LineFault>
 }
 
 fn command_named(alloc: Global, name: &str, line: Fields<'_>) -> Result<Asked, LineFault>
-    ensures { Gives (λ a. a) result (command_named name.now (fields line.entry)) }
+    ensures asked { Gives (λ a. a) result (command_named name.now (fields line.entry)) }
+    ensures handless { IfOk result HandsNothing }
 {
     if name == "register" {
         register_in(alloc, line)
@@ -230,7 +239,8 @@ fn command_named(alloc: Global, name: &str, line: Fields<'_>) -> Result<Asked, L
 
 /// What a command asks for: a line with the key `call`, whose value is handed in.
 pub fn command(alloc: Global, call: &Value, line: Fields<'_>) -> Result<Asked, LineFault>
-    ensures { Gives (λ a. a) result (command (view call.now) (fields line.entry)) }
+    ensures asked { Gives (λ a. a) result (command (view call.now) (fields line.entry)) }
+    ensures handless { IfOk result HandsNothing }
 {
     match call {
         Value::String(name) => command_named(alloc, name.as_str(), line),

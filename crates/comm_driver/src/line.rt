@@ -1,7 +1,7 @@
 ghost use Rattle.std.specs.Prelude.{◌≡◌, ◌<◌, IfOk};
 ghost use Rattle.comm_messages.specs.Fields.{fields};
 ghost use Rattle.comm_driver.specs.Line.{Gives};
-ghost use Rattle.comm_driver.specs.Command.{asked_by_message, asked_in, asked};
+ghost use Rattle.comm_driver.specs.Command.{asked_by_message, asked_in, asked, HandsNothing};
 
 use crate::asked::{Asked, LineFault};
 use crate::command::command;
@@ -10,7 +10,8 @@ use comm_messages::{Fields, Incoming, client_of, fields_of, member, message_in, 
 use std::alloc::Global;
 
 fn asked_by_message(incoming: Incoming) -> Asked
-    ensures { result ≡ asked_by_message incoming }
+    ensures asked { result ≡ asked_by_message incoming }
+    ensures handless { HandsNothing result }
 {
     match incoming {
         Incoming::Open {
@@ -26,6 +27,7 @@ fn asked_by_message(incoming: Incoming) -> Asked
         }),
         Incoming::Msg { id, body } => Asked::Change(Call::Msg { id, body }),
         Incoming::Close { id } => Asked::Change(Call::Close { id }),
+        Incoming::InfoRequest { target } => Asked::Infos { target },
     }
 }
 
@@ -33,6 +35,7 @@ fn asked_in(alloc: Global, line: Fields<'_>, clients: u8) -> Result<(u8, Asked),
     requires { 0 < clients }
     ensures asked { Gives (λ r. (r.0, r.1)) result (asked_in clients (fields line.entry)) }
     ensures below { IfOk result (λ r. r.0 < clients) }
+    ensures handless { IfOk result (λ r. HandsNothing r.1) }
 {
     match member(line, "call") {
         None => {
@@ -52,6 +55,7 @@ pub fn asked(alloc: Global, line: &[u8], clients: u8) -> Result<(u8, Asked), Lin
     requires { 0 < clients }
     ensures asked { Gives (λ r. (r.0, r.1)) result (asked clients line.now) }
     ensures below { IfOk result (λ r. r.0 < clients) }
+    ensures handless { IfOk result (λ r. HandsNothing r.1) }
 {
     let value = object_in(alloc, line)?;
     asked_in(alloc, fields_of(&value), clients)
