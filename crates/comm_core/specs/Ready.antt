@@ -9,7 +9,7 @@ use Rattle.comm_targets.specs.declared.event.Event.TheVariants as event
 use Rattle.comm_targets.specs.declared.fault.TargetFault.{TargetFault}
 use Rattle.comm_targets.specs.declared.fault.TargetFault.TheVariants as fault
 use Rattle.comm_core.specs.Machine.{Name, Machine, at, has, ids_of}
-use Rattle.comm_core.specs.Step.{Outcome, Stepped, Verdict, Done, Asked, step, asks, stepped, answered, registered, unregistered, closed, Allowed}
+use Rattle.comm_core.specs.Step.{Outcome, Stepped, Verdict, Done, Asked, step, asks, stepped, answered, registered, unregistered, closed, holds_widget, Allowed}
 use Rattle.comm_core.specs.Tables.{Targets, Comms, targets_of, machine_of, emptied}
 use Rattle.comm_core.specs.declared.comm.Comm.{Comm}
 use Rattle.comm_core.specs.declared.question.Question.{Question}
@@ -102,6 +102,19 @@ SuitsComms comms name (event.Launch id state) = at comms id ≡ None
 SuitsComms comms name (event.Msg id body) = (c : Comm) × (at comms id ≡ Some c) × (c.target ≡ name)
 SuitsComms comms name (event.Push id state) = (c : Comm) × (at comms id ≡ Some c) × (c.target ≡ name)
 
+-- the kernel's own events are for widgets
+abbrev pub SuitsKind : Targets → Name → Event → Type 0
+SuitsKind boxes name (event.Open id version body) = Unit {0}
+SuitsKind boxes name (event.Msg id body) = Unit {0}
+SuitsKind boxes name (event.Launch id state) = holds_widget (at (targets_of boxes) name) ≡ true
+SuitsKind boxes name (event.Push id state) = holds_widget (at (targets_of boxes) name) ≡ true
+
+-- the target is there, and may be asked this
+pub record CanAsk (boxes : Targets) (comms : Comms) (q : Question) : Type 0 where
+  pub here : has (targets_of boxes) q.name ≡ true
+  pub comms_suit : SuitsComms comms q.name q.event
+  pub kind_suits : SuitsKind boxes q.name q.event
+
 -- the target that a register hands in is idle, and of the kind and with the notes of the call
 abbrev pub IsNewcomer : Targets → Name → Option Meaning → Meaning → Type 0
 IsNewcomer boxes name boxed m = (boxed ≡ Some m) × (at boxes name ≡ None) × IsIdle m
@@ -169,6 +182,20 @@ pub record IsReady (s : State) (r : Readied) : Type 0 where
   pub suits : Suits (bare s.boxes) s.comms r.boxed r.plan r.outcome
   pub ended : ended_by s.boxes r.plan ≡ ended_of s.boxes r.call
   pub back : back_by r.plan r.boxed ≡ back_of r.reply r.boxed
+
+-- what a call comes to can be carried out, or asked
+abbrev pub Stands : Targets → Comms → Call → Judged → Type 0
+Stands boxes comms c (judged.Done r out plan) = Suits (bare boxes) comms None plan None × (ended_by boxes plan ≡ ended_of boxes c)
+Stands boxes comms c (judged.Asked q) = CanAsk boxes comms q × (ended_of boxes c ≡ None)
+
+-- What came of a question: reply and outgoing of the step, an outcome that is allowed, and what is staged now.
+pub record HasAnswered (old : Targets) (comms : Comms) (q : Question) (o : Option Outcome) (r : Reply) (out : List Outgoing) (plan : Plan) (new : Targets) : Type 0 where
+  pub step_is : stepped (machine_of old comms) (Asked q) o ≡ Some (record { reply = r; outgoing = out; next = planned (machine_of old comms) plan o })
+  pub allowed : Allowed (machine_of old comms) (Some q) o
+  pub staged : HaveStaged new (staged_by plan o)
+  pub bare_is : bare new ≡ bare old
+  pub suits : Suits (bare new) comms None plan o
+  pub ended : ended_by new plan ≡ None
 
 -- What came of a call: reply and outgoing of the step, an outcome that is allowed, and what is staged now.
 pub record HasCome (limit : ℕ) (old : Targets) (comms : Comms) (c : Call) (o : Option Outcome) (r : Reply) (out : List Outgoing) (plan : Plan) (new : Targets) : Type 0 where
