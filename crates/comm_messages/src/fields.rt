@@ -94,7 +94,7 @@ pub fn whole_dict(alloc: Global, object: Fields<'_>) -> Result<Dict, MessageFaul
     ensures plain { IfOk result (λ d. members_have_bytes d ≡ false) }
 {
     match object {
-        None => Ok(Dict::new(alloc)),
+        None => Ok(Dict::new()),
         Some(map) => match Dict::from_json(alloc, map) {
             Ok(dict) => Ok(dict),
             Err(ValueFault::NotWhole) => Err(MessageFault::NotWhole),
