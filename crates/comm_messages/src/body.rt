@@ -64,7 +64,7 @@ impl Body {
         ensures { IfOk result (λ b. b ≡ self.now) }
     {
         Ok(Body {
-            content: self.content.copy(alloc)?,
+            content: self.content.copy()?,
             buffers: self.buffers.copy(alloc)?,
         })
     }

@@ -1,1 +1,2 @@
+pub mod CounterCommit
 pub mod Places

@@ -1,5 +1,5 @@
 -- What a target means, and what each call of it does.
-use Rattle.std.specs.Prelude.{◌≡◌, ℕ, ◌+◌, ◌^◌, ◌-◌, Bool, true, false, List, [], ◌∷◌, ◌++◌, Option, None, Some, min}
+use Rattle.std.specs.Prelude.{◌≡◌, ℕ, ◌+◌, ◌^◌, ◌-◌, Bool, true, false, List, [], ◌∷◌, ◌++◌, Option, None, Some, min, if◌then◌else◌}
 use Rattle.std.specs.List.{list_any}
 use Rattle.std.specs.Set.{remove_key}
 use Rattle.std.specs.Str.{bytes_eq}
@@ -49,12 +49,17 @@ ids_after ids (Push id state) = ids
 abbrev pub one_more : ℕ → ℕ
 one_more n = min (n + 1) (2 ^ 64 - 1)
 
+abbrev pub is_message : Event → Bool
+is_message (Msg id body) = true
+is_message e = false
+
+abbrev pub stages_message : Option Stage → Bool
+stages_message None = false
+stages_message (Some s) = is_message s.event
+
 -- the notes once the event is done: a Counter counts its messages
 abbrev pub notes_after : Kind → ℕ → Event → ℕ
-notes_after Counter n (Msg id body) = one_more n
-notes_after Counter n (Open id version body) = n
-notes_after Counter n (Launch id state) = n
-notes_after Counter n (Push id state) = n
+notes_after Counter n e = if is_message e then one_more n else n
 notes_after Echo n e = n
 notes_after Widget n e = n
 notes_after Free n e = n

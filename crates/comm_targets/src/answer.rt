@@ -48,7 +48,7 @@ impl Custom {
         ensures { IfOk result (λ c. c ≡ self.now) }
     {
         Ok(Custom {
-            content: self.content.copy(alloc)?,
+            content: self.content.copy()?,
             buffers: self.buffers.copy(alloc)?,
         })
     }
@@ -108,7 +108,7 @@ impl Answer {
         ensures { IfOk result (λ a. a ≡ self.now) }
     {
         let state = match &self.state {
-            Some(state) => Some(state.copy(alloc)?),
+            Some(state) => Some(state.copy()?),
             None => None,
         };
         let custom = match &self.custom {

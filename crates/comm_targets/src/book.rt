@@ -1,7 +1,7 @@
-ghost use Rattle.std.specs.Prelude.{◌≡◌, ◌↔◌, true, [], IsTrue, OnOk, OnErr, IsSome, None, Some, option_map, position};
+ghost use Rattle.std.specs.Prelude.{◌≡◌, ◌↔◌, true, [], IsTrue, OnOk, OnErr, IsSome, None, Some, position};
 ghost use Rattle.std.specs.Str.{bytes_eq};
 ghost use Rattle.comm_targets.specs.declared.stage.Stage.{Stage};
-ghost use Rattle.comm_targets.specs.Meaning.{has_id, without, ids_after};
+ghost use Rattle.comm_targets.specs.Meaning.{has_id, without, ids_after, stages_message};
 
 use crate::answer::Answer;
 use crate::event::Event;
@@ -49,13 +49,13 @@ impl Book {
         self.ids.is_empty() && self.staged.is_none()
     }
 
-    /// The event that is staged.
-    pub fn event(&self) -> Option<&Event>
-        ensures { option_map (λ e. e.now) result ≡ option_map (λ s. s.event) self.now.staged }
+    /// Whether a message is staged.
+    pub fn has_message(&self) -> bool
+        ensures { result ≡ stages_message self.now.staged }
     {
         match &self.staged {
-            Some(stage) => Some(&stage.event),
-            None => None,
+            Some(Stage { event, .. }) => matches!(event, Event::Msg { .. }),
+            None => false,
         }
     }
 

@@ -61,11 +61,11 @@ impl Event {
             }),
             Event::Launch { id, state } => Ok(Event::Launch {
                 id: id.copy()?,
-                state: state.copy(alloc)?,
+                state: state.copy()?,
             }),
             Event::Push { id, state } => Ok(Event::Push {
                 id: id.copy()?,
-                state: state.copy(alloc)?,
+                state: state.copy()?,
             }),
         }
     }

@@ -1,0 +1,114 @@
+ghost use Rattle.std.specs.Prelude.{◌≡◌, pos, [], None, IfOk, if◌then◌else◌};
+ghost use Rattle.comm_value.specs.View.{tree};
+ghost use Rattle.comm_value.specs.Tree.{whole};
+ghost use Rattle.comm_targets.specs.Meaning.{one_more, stages_message};
+ghost use Rattle.comm_targets.specs.Answers.{count_of};
+
+use crate::answer::Answer;
+use crate::book::Book;
+use crate::event::Event;
+use crate::fault::TargetFault;
+use crate::kind::Kind;
+use crate::target::Target;
+use comm_messages::Body;
+use comm_value::{Buffers, Dict, Text, Val, Whole};
+use std::alloc::{AllocError, Global};
+
+/// A target of kind Counter: each message is answered with `{"count":n}`, where n is how many came to all its comms.
+#[derive(Drop)]
+pub struct Counter {
+    alloc: Global,
+    book: Book,
+    count: u64,
+}
+
+impl Counter {
+    /// A target with no comm, to which no message came. It takes no memory.
+    pub fn new(alloc: Global) -> Counter
+        ensures { ⟦<Counter as Target>⟧.means result ≡ record { kind = Kind.Counter; notes = 0; ids = []; staged = None } }
+    {
+        Counter {
+            alloc,
+            book: Book::new(alloc),
+            count: 0,
+        }
+    }
+
+    // The count once one more message came.
+    fn next(&self) -> u64
+        ensures { result ≡ one_more self.now.count }
+    {
+        self.count.saturating_add(1)
+    }
+
+    // The count once what is staged is done.
+    fn count_staged(&self) -> u64
+        ensures { result ≡ (if stages_message self.now.book.staged then one_more self.now.count else self.now.count) }
+    {
+        if self.book.has_message() {
+            self.next()
+        } else {
+            self.count
+        }
+    }
+}
+
+// `{"count":n}`
+fn count_body(alloc: Global, count: u64) -> Result<Body, AllocError>
+    ensures { IfOk result (λ b. b ≡ count_of count) }
+{
+    let key = Text::copy_of(alloc, "count")?;
+    let content = Dict::new().insert(alloc, key, number(count))?;
+    Ok(Body::new(content, Buffers::none(alloc)))
+}
+
+fn number(count: u64) -> Val
+    ensures { tree result ≡ whole (pos count) }
+{
+    match Whole::new(count as i128) {
+        Some(whole) => Val::Whole(whole),
+        None => unreachable!(),
+    }
+}
+
+impl Target for Counter {
+    ghost use Rattle.comm_targets.specs.declared.kind.Kind.TheVariants as kind;
+
+    ghost means = { λ c. record { kind = kind.Counter; notes = c.count; ids = c.book.ids; staged = c.book.staged } };
+
+    fn kind(&self) -> Kind {
+        Kind::Counter
+    }
+
+    fn notes(&self) -> u64 {
+        self.count
+    }
+
+    fn idle(&self) -> bool {
+        self.book.is_idle()
+    }
+
+    fn prepare(&mut self, event: &Event, _now: Option<&Dict>) -> Result<Answer, TargetFault> {
+        let mut answer = Answer::empty(self.alloc);
+        if let Event::Msg { .. } = event {
+            answer.messages.push(count_body(self.alloc, self.next())?)?;
+        }
+        self.book.stage(self.alloc, event, &answer)?;
+        Ok(answer)
+    }
+
+    fn commit(&mut self) {
+        self.count = self.count_staged();
+        self.book.commit();
+    }
+
+    fn abandon(&mut self) {
+        self.book.abandon();
+    }
+
+    fn close(&mut self, id: &str) {
+        self.book.close(id);
+    }
+
+    fn stop(&mut self) {}
+}

@@ -1,0 +1,70 @@
+ghost use Rattle.std.specs.Prelude.{◌≡◌, [], None};
+
+use crate::answer::Answer;
+use crate::book::Book;
+use crate::event::Event;
+use crate::fault::TargetFault;
+use crate::kind::Kind;
+use crate::target::Target;
+use comm_value::Dict;
+use std::alloc::Global;
+
+/// A target of kind Echo: each message goes back with the same data and buffers.
+#[derive(Drop)]
+pub struct Echo {
+    alloc: Global,
+    book: Book,
+}
+
+impl Echo {
+    /// A target with no comm. It takes no memory.
+    pub fn new(alloc: Global) -> Echo
+        ensures { ⟦<Echo as Target>⟧.means result ≡ record { kind = Kind.Echo; notes = 0; ids = []; staged = None } }
+    {
+        Echo {
+            alloc,
+            book: Book::new(alloc),
+        }
+    }
+}
+
+impl Target for Echo {
+    ghost use Rattle.comm_targets.specs.declared.kind.Kind.TheVariants as kind;
+
+    ghost means = { λ e. record { kind = kind.Echo; notes = 0; ids = e.book.ids; staged = e.book.staged } };
+
+    fn kind(&self) -> Kind {
+        Kind::Echo
+    }
+
+    fn notes(&self) -> u64 {
+        0
+    }
+
+    fn idle(&self) -> bool {
+        self.book.is_idle()
+    }
+
+    fn prepare(&mut self, event: &Event, _now: Option<&Dict>) -> Result<Answer, TargetFault> {
+        let mut answer = Answer::empty(self.alloc);
+        if let Event::Msg { body, .. } = event {
+            answer.messages.push(body.copy(self.alloc)?)?;
+        }
+        self.book.stage(self.alloc, event, &answer)?;
+        Ok(answer)
+    }
+
+    fn commit(&mut self) {
+        self.book.commit();
+    }
+
+    fn abandon(&mut self) {
+        self.book.abandon();
+    }
+
+    fn close(&mut self, id: &str) {
+        self.book.close(id);
+    }
+
+    fn stop(&mut self) {}
+}

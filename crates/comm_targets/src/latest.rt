@@ -1,0 +1,76 @@
+ghost use Rattle.std.specs.Prelude.{◌≡◌, [], None};
+
+use crate::answer::Answer;
+use crate::book::Book;
+use crate::event::Event;
+use crate::fault::TargetFault;
+use crate::kind::Kind;
+use crate::target::Target;
+use comm_value::Dict;
+use std::alloc::Global;
+
+/// A target of kind Free: a comm's state is the data that came last on it.
+///
+/// It is also the pattern for a target of your own. Keep a [`Book`] and what else you need; `means` tells what of it the
+/// comm manager relies on. In `prepare` make the answer, then stage it last, so that an error leaves all as it was.
+#[derive(Drop)]
+pub struct Latest {
+    alloc: Global,
+    book: Book,
+}
+
+impl Latest {
+    /// A target with no comm. It takes no memory.
+    pub fn new(alloc: Global) -> Latest
+        ensures { ⟦<Latest as Target>⟧.means result ≡ record { kind = Kind.Free; notes = 0; ids = []; staged = None } }
+    {
+        Latest {
+            alloc,
+            book: Book::new(alloc),
+        }
+    }
+}
+
+impl Target for Latest {
+    ghost use Rattle.comm_targets.specs.declared.kind.Kind.TheVariants as kind;
+
+    ghost means = { λ t. record { kind = kind.Free; notes = 0; ids = t.book.ids; staged = t.book.staged } };
+
+    fn kind(&self) -> Kind {
+        Kind::Free
+    }
+
+    fn notes(&self) -> u64 {
+        0
+    }
+
+    fn idle(&self) -> bool {
+        self.book.is_idle()
+    }
+
+    fn prepare(&mut self, event: &Event, _now: Option<&Dict>) -> Result<Answer, TargetFault> {
+        let mut answer = Answer::empty(self.alloc);
+        match event {
+            Event::Open { body, .. } => answer.state = Some(body.content().copy()?),
+            Event::Msg { body, .. } => answer.state = Some(body.content().copy()?),
+            Event::Launch { .. } => {}
+            Event::Push { .. } => {}
+        }
+        self.book.stage(self.alloc, event, &answer)?;
+        Ok(answer)
+    }
+
+    fn commit(&mut self) {
+        self.book.commit();
+    }
+
+    fn abandon(&mut self) {
+        self.book.abandon();
+    }
+
+    fn close(&mut self, id: &str) {
+        self.book.close(id);
+    }
+
+    fn stop(&mut self) {}
+}
