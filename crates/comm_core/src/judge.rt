@@ -3,7 +3,7 @@ ghost use Rattle.std.specs.Prelude.{◌≡◌, ℕ, List, IfOk, None};
 ghost use Rattle.comm_targets.specs.declared.event.Event.TheVariants as event;
 ghost use Rattle.comm_core.specs.Machine.{Machine};
 ghost use Rattle.comm_core.specs.Step.{judged, stays, refused_open, comm_id};
-ghost use Rattle.comm_core.specs.Tables.{Targets, Comms, machine_of};
+ghost use Rattle.comm_core.specs.Tables.{Targets, Opens, machine_of};
 ghost use Rattle.comm_core.specs.Ready.{Agrees, bare, verdict_of, ended_of, Stands, HandsNothingIn};
 ghost use Rattle.comm_core.specs.declared.call.Call.{Call};
 ghost use Rattle.comm_core.specs.declared.call.Call.TheVariants as call;
@@ -59,7 +59,7 @@ pub fn judge<T: Target>(
 /// The reply to a call that changes nothing and sends nothing.
 fn stays(alloc: Global, reply: Reply) -> Judged
     ensures verdict { (m : Machine) → verdict_of m result ≡ stays m reply }
-    ensures stands { (boxes : Targets) (comms : Comms) (c : Call) → ended_of boxes c ≡ None → Stands boxes comms c result }
+    ensures stands { (boxes : Targets) (comms : Opens) (c : Call) → ended_of boxes c ≡ None → Stands boxes comms c result }
 {
     Judged::Done(reply, Vec::new(alloc), Plan::Nothing)
 }
@@ -67,7 +67,7 @@ fn stays(alloc: Global, reply: Reply) -> Judged
 /// The reply to an open that is refused before its target is asked.
 fn refused_open(alloc: Global, id: &Text, why: Refusal) -> Result<Judged, AllocError>
     ensures verdict { IfOk result (λ j. (m : Machine) → verdict_of m j ≡ refused_open m id.now why) }
-    ensures stands { IfOk result (λ j. (boxes : Targets) (comms : Comms) (c : Call) → ended_of boxes c ≡ None → Stands boxes comms c j) }
+    ensures stands { IfOk result (λ j. (boxes : Targets) (comms : Opens) (c : Call) → ended_of boxes c ≡ None → Stands boxes comms c j) }
 {
     let outgoing = closing(alloc, id)?;
     Ok(Judged::Done(

@@ -32,7 +32,7 @@ impl Body {
         requires { members_have_bytes content ≡ false }
         ensures { result ≡ record { content = content; buffers = buffers } }
     {
-        Body { content, buffers }
+        Self { content, buffers }
     }
 
     /// The same body. Its members and its buffers are shared.
@@ -57,16 +57,6 @@ impl Body {
         ensures { result.now ≡ self.now.buffers }
     {
         &self.buffers
-    }
-
-    /// The same data and buffers, shared.
-    pub fn copy(&self, alloc: Global) -> Result<Body, AllocError>
-        ensures { IfOk result (λ b. b ≡ self.now) }
-    {
-        Ok(Body {
-            content: self.content.copy()?,
-            buffers: self.buffers.copy(alloc)?,
-        })
     }
 
     /// The data and the buffers by themselves.
