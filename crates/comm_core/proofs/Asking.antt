@@ -1,7 +1,10 @@
 -- What may be asked of a target, and what comes of it.
-use Rattle.std.proofs.Common.{◌≡◌, ◌<◌, ℕ, Bool, true, false, cond, List, [], ◌∷◌, Option, None, Some, is_some, Result, Ok, Err, option_map, filter, refl, ap, sym, ◌∙◌, subst, true≢false}
+use Rattle.std.proofs.Common.{◌≡◌, ◌<◌, ℕ, Bool, true, false, cond, List, [], ◌∷◌, Option, None, Some, is_some, Result, Ok, Err, option_map, filter, refl, ap, sym, ◌∙◌, subst, true≢false, IfOk}
+use Rattle.std.specs.declared.alloc.AllocError.{AllocError}
 use Rattle.std.specs.Str.{bytes_eq}
 use Rattle.std.specs.Map.{keys_of}
+use Rattle.comm_value.specs.Tree.{Members}
+use Rattle.comm_messages.specs.Content.{Content}
 use Rattle.comm_messages.specs.declared.outgoing.Outgoing.{Outgoing}
 use Rattle.comm_targets.specs.Meaning.{Meaning, IsAskable, has_id, abandons, stages}
 use Rattle.comm_targets.specs.Answers.{Answers, Refuses}
@@ -11,20 +14,21 @@ use Rattle.comm_targets.specs.declared.event.Event.{Event}
 use Rattle.comm_targets.specs.declared.event.Event.TheVariants as event
 use Rattle.comm_targets.specs.declared.answer.Answer.{Answer}
 use Rattle.comm_targets.specs.declared.fault.TargetFault.{TargetFault}
-use Rattle.comm_core.specs.Machine.{Name, Machine, at, with_at, ids_of}
+use Rattle.comm_core.specs.Machine.{Name, Machine, at, has, with_at, ids_of}
 use Rattle.comm_core.specs.Step.{Outcome, Verdict, Done, Asked, judged, stepped, answered, refused, holds_widget, is_widget, question_of, Gives, Allowed}
-use Rattle.comm_core.specs.Tables.{Targets, Opens, registered_of, targets_of, machine_of}
-use Rattle.comm_core.specs.Ready.{Agrees, HaveStaged, SuitsComms, SuitsKind, CanAsk, HasAnswered, HasCome, Suits, bare, planned, staged_by, ended_by, ended_of}
+use Rattle.comm_core.specs.Tables.{Targets, Opens, emptied, registered_of, targets_of, machine_of}
+use Rattle.comm_core.specs.Ready.{Agrees, HaveStaged, SuitsComms, SuitsKind, CanAsk, HasAnswered, HasCome, Suits, bare, planned, staged_by, ended_by, ended_of, verdict_of, Stands}
 use Rattle.comm_core.specs.declared.comm.Comm.{Comm}
 use Rattle.comm_core.specs.declared.call.Call.{Call}
 use Rattle.comm_core.specs.declared.question.Question.{Question}
 use Rattle.comm_core.specs.declared.reply.Reply.{Reply}
+use Rattle.comm_core.specs.declared.plan.Judged.{Judged}
 use Rattle.comm_core.specs.declared.plan.Plan.{Plan}
 use Rattle.comm_core.specs.declared.plan.Plan.TheVariants.{Nothing, Register, Unregister, Close, Commit}
 use Rattle.comm_core.proofs.Keys.{text_itself}
 use Rattle.comm_core.proofs.Names.{target_at, has_target}
 use Rattle.comm_core.proofs.Agreeing.{some-at}
-use Rattle.comm_core.proofs.Staging.{bare-at, bare-there, bare-staged, one-staged}
+use Rattle.comm_core.proofs.Staging.{none_of, bare-at, bare-there, bare-staged, one-staged}
 
 -- an id that isn't open is an id of no target
 no_id : (name id : Name) (comms : Opens) → at comms id ≡ None → has_id (ids_of name comms) id ≡ false
@@ -87,7 +91,7 @@ module _ (b : Targets) (c : Opens) (q : Question) (can : CanAsk b c q) (none : H
   known : at (targets_of b) q.name ≡ Some (registered_of m)
   known = target_at b q.name ∙ ap (option_map registered_of) is
 
-  pub answered_well : (a : Answer) (after : Targets) (r : Reply) (out : List Outgoing) → Answers m.kind m.notes q.now q.event a → after ≡ with_at b q.name (stages m q.event a)
+  pub answered_well : (a : Answer) (after : Targets) (r : Reply) (out : List Outgoing) → Answers m.kind m.notes q.state q.event a → after ≡ with_at b q.name (stages m q.event a)
       → ((M : Machine) → answered M q.name q.event a ≡ record { reply = r; outgoing = out; next = (answered M q.name q.event a).next })
       → HasAnswered b c q (Some (Ok a)) r out (Commit q) after
   answered_well a after r out answers is_after replied =
@@ -101,7 +105,7 @@ module _ (b : Targets) (c : Opens) (q : Question) (can : CanAsk b c q) (none : H
         ended = refl;
       }
 
-  pub refused_well : (f : TargetFault) (after : Targets) (r : Reply) (out : List Outgoing) → Refuses m.kind m.notes q.now q.event f → after ≡ b
+  pub refused_well : (f : TargetFault) (after : Targets) (r : Reply) (out : List Outgoing) → Refuses m.kind m.notes q.state q.event f → after ≡ b
       → ((M : Machine) → refused M q.event f ≡ Some (record { reply = r; outgoing = out; next = M }))
       → HasAnswered b c q (Some (Err f)) r out Nothing after
   refused_well f after r out refuses is_after replied =
@@ -147,3 +151,23 @@ module _ (l : ℕ) (b : Targets) (c : Opens) (k : Call) where
         suits = h.suits;
         ended = h.ended ∙ sym (nobody after);
       }
+
+-- ---- what is judged
+
+pub nobody_ends : (b : Targets) (name : Name) → has (targets_of b) name ≡ false → option_map emptied (at b name) ≡ None
+nobody_ends b name h = ap (option_map emptied) (none_of (at b name) (sym (has_target b name) ∙ h))
+
+pub msg_asked : (b : Targets) (c : Opens) → Agrees (bare b) c → (id copy : Name) (x : Comm) (name : Name) (now : Option Members) (body : Content) → at c id ≡ Some x → name ≡ x.target → copy ≡ id
+    → CanAsk b c (record { name = name; state = now; event = event.Msg copy body })
+msg_asked b c h id copy x name now body is same copied =
+    record {
+      here = has_target b name ∙ ap (λ t. is_some (at b t)) same ∙ comm_there b c h id x is;
+      comms_suit = (x, ap (at c) copied ∙ is, sym same);
+      kind_suits = tt;
+    }
+
+pub verdict_at : (r : Result Judged AllocError) (l : ℕ) (m : Machine) (k k' : Call) → k ≡ k' → IfOk r (λ j. verdict_of m j ≡ judged l m k') → IfOk r (λ j. verdict_of m j ≡ judged l m k)
+verdict_at r l m k k' e h = subst (λ x. IfOk r (λ j. verdict_of m j ≡ judged l m x)) (sym e) h
+
+pub stands_at : (r : Result Judged AllocError) (b : Targets) (c : Opens) (k k' : Call) → k ≡ k' → IfOk r (λ j. Stands b c k' j) → IfOk r (λ j. Stands b c k j)
+stands_at r b c k k' e h = subst (λ x. IfOk r (λ j. Stands b c x j)) (sym e) h

@@ -55,8 +55,8 @@ refuses_one Free n now e f h x = absurd (true≢false (sym h))
 
 gives_one : (t : Option Registered) (q : Question) (g : Outcome) → ((r : Registered) → t ≡ Some r → not (is_free r.kind) ≡ true) → Gives t q g → Some g ≡ outcome_by t q
 gives_one None q g exact h = absurd h
-gives_one (Some r) q (Ok a) exact h = ap Some (sym (answers_one r.kind r.notes q.now q.event a (exact r refl) h))
-gives_one (Some r) q (Err f) exact h = ap Some (sym (refuses_one r.kind r.notes q.now q.event f (exact r refl) h))
+gives_one (Some r) q (Ok a) exact h = ap Some (sym (answers_one r.kind r.notes q.state q.event a (exact r refl) h))
+gives_one (Some r) q (Err f) exact h = ap Some (sym (refuses_one r.kind r.notes q.state q.event f (exact r refl) h))
 
 one_outcome : (m : Machine) (q : Option Question) (o : Option Outcome) → is_exact m ≡ true → Allowed m q o → o ≡ outcome_at m q
 one_outcome m None None exact h = refl

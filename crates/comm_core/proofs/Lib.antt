@@ -11,4 +11,5 @@ pub mod Keys
 pub mod Names
 pub mod Readying
 pub mod Staging
+pub mod Stopping
 pub mod Unmaking

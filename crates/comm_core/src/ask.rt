@@ -58,7 +58,7 @@ fn ask<T: Target>(
     ensures err { OnErr result (boxes.new.all ≡ boxes.old.all) }
     ensures room { boxes.new.room ≡ boxes.old.room }
 {
-    match boxes.prepare(&question.name, &question.event, question.now.as_ref()) {
+    match boxes.prepare(&question.name, &question.event, question.state.as_ref()) {
         Ok(answer) => match answered(alloc, &question, &answer) {
             Ok((reply, outgoing)) => Ok(Came {
                 outcome: Some(Ok(answer)),

@@ -105,7 +105,7 @@ fn commit<T: Target>(
     boxes.commit(&question.name);
     let Question {
         name,
-        now: _,
+        state: _,
         event,
     } = question;
     let state = answer.state;

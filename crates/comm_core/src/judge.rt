@@ -103,7 +103,7 @@ fn judge_open<T: Target>(
     let event = open_event(alloc, id, version, body)?;
     Ok(Judged::Asked(Question {
         name,
-        now: None,
+        state: None,
         event,
     }))
 }
@@ -140,12 +140,16 @@ fn judge_msg<T: Target>(
         return Ok(stays(alloc, Reply::NoComm));
     };
     let name = comm.target.copy()?;
-    let now = state_copy(comm)?;
+    let state_now = state_copy(comm)?;
     let event = Event::Msg {
         id: id.copy()?,
         body: body.copy(alloc)?,
     };
-    Ok(Judged::Asked(Question { name, now, event }))
+    Ok(Judged::Asked(Question {
+        name,
+        state: state_now,
+        event,
+    }))
 }
 
 /// The comm's state, shared.
@@ -217,7 +221,7 @@ fn judge_launch<T: Target>(
     let state = state.copy()?;
     Ok(Judged::Asked(Question {
         name,
-        now: None,
+        state: None,
         event: Event::Launch { id, state },
     }))
 }
@@ -240,12 +244,16 @@ fn judge_push<T: Target>(
         return Ok(stays(alloc, Reply::NotWidget));
     }
     let name = comm.target.copy()?;
-    let now = state_copy(comm)?;
+    let state_now = state_copy(comm)?;
     let event = Event::Push {
         id: id.copy()?,
         state: state.copy()?,
     };
-    Ok(Judged::Asked(Question { name, now, event }))
+    Ok(Judged::Asked(Question {
+        name,
+        state: state_now,
+        event,
+    }))
 }
 
 fn judge_send(
