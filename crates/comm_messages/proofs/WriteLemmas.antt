@@ -5,17 +5,18 @@ use Rattle.std.proofs.Math.Seq.{drop-cons}
 use Rattle.base64.specs.GeneralPurpose.{encode_of}
 use Rattle.base64.specs.Engines.{standard}
 use Rattle.json.specs.Print.{quoted}
-use Rattle.serde_json.specs.Written.{comma_if, items_text, compact_text}
+use Rattle.serde_json.specs.Written.{comma_if, items_text, members_text, compact_text}
 use Rattle.serde_json.specs.Data.{object}
 use Rattle.comm_value.specs.ToJson.{json_members}
 use Rattle.comm_messages.specs.Content.{Content}
 use Rattle.serde_json.proofs.OnLiterals.{serde_json_on_literals}
-use Rattle.comm_messages.specs.Text.{buffer_texts, text}
-use Rattle.comm_messages.specs.Parts.{Appends, buffers_text, parent_text, content_text, end_text}
+use Rattle.comm_messages.specs.Text.{buffer_texts, comm_members, text}
+use Rattle.comm_messages.specs.Parts.{Appends, buffers_text, parent_text, front_text, content_text, end_text}
 use Rattle.comm_messages.specs.declared.outgoing.Outgoing.{Outgoing}
-use Rattle.comm_messages.specs.declared.outgoing.Outgoing.TheVariants.{Open, Msg, Close}
+use Rattle.comm_messages.specs.declared.outgoing.Outgoing.TheVariants.{Open, Msg, Close, InfoReply}
+use Rattle.comm_messages.specs.declared.infos.Info.{Info}
 use Rattle.comm_messages.specs.declared.outgoing.Parent.{Parent}
-use Rattle.comm_messages.specs.declared.outgoing.Parent.TheVariants.{Call}
+use Rattle.comm_messages.specs.declared.outgoing.Parent.TheVariants.{Call, Read}
 
 -- what is still to be written of the buffers from i on
 abbrev pub rest : List (List ℕ) → ℕ → List ℕ
@@ -45,9 +46,10 @@ pub written : {first second last part more : List ℕ} → Appends first part se
 written {first} {second} {last} {part} {more} h k = record { is = k.is ∙ ap (λ l. l ++ more) h.is ∙ append_assoc first part more }
 
 pub text_in_parts : (message : Outgoing) (parent : Parent) →
-    text message parent ≡ codes "{\"buffers\":[" ++ (buffers_text message ++ (parent_text parent ++ (codes ",\"content\":" ++ (content_text message ++ end_text message))))
+    text message parent ≡ codes "{\"buffers\":[" ++ (buffers_text message ++ (parent_text parent ++ (codes ",\"content\":" ++ (content_text message ++ (front_text parent ++ end_text message)))))
 unfolding text serde_json_on_literals
 text_in_parts message (Call client number) = simp append_assoc
+text_in_parts message (Read client front) = simp append_assoc
 
 pub same_part : {old part other new : List ℕ} → part ≡ other → Appends old other new → Appends old part new
 same_part {old} {part} {other} {new} e h = record { is = h.is ∙ ap (λ l. old ++ l) (sym e) }
@@ -79,3 +81,37 @@ msg_end m id body is = rw is refl
 pub close_end : (m : Outgoing) (id : List ℕ) → m ≡ Close id → end_text m ≡ codes ",\"header\":{\"msg_type\":\"comm_close\"},\"metadata\":{}}"
 unfolding serde_json_on_literals
 close_end m id is = rw is refl
+
+pub reply_content : (m : Outgoing) (comms : List Info) → m ≡ InfoReply comms
+    → content_text m ≡ codes "{\"comms\":{" ++ (members_text false (comm_members comms) ++ codes ",\"status\":\"ok\"}")
+unfolding serde_json_on_literals
+reply_content m comms is = rw is refl
+
+pub reply_end : (m : Outgoing) (comms : List Info) → m ≡ InfoReply comms → end_text m ≡ codes ",\"header\":{\"msg_type\":\"comm_info_reply\"},\"metadata\":{}}"
+unfolding serde_json_on_literals
+reply_end m comms is = rw is refl
+
+-- what is still to be written of the comms from i on
+abbrev pub comms_rest : List Info → ℕ → List ℕ
+comms_rest infos i = members_text (nat_lt 0 i) (comm_members (drop i infos))
+
+abbrev pub comm_text : Info → List ℕ
+comm_text info = quoted info.id ++ (codes ":{\"target_name\":" ++ (quoted info.target ++ codes "}"))
+
+comm-member : (k : Bool) (info : Info) (infos : List Info)
+    → members_text k (comm_members (info ∷ infos)) ≡ (comma_if k ++ comm_text info) ++ members_text true (comm_members infos)
+unfolding serde_json_on_literals
+comm-member k info infos = simp append_assoc
+
+pub one_more_comm : (infos : List Info) (i : ℕ) (info : Info) (old new whole : List ℕ) → i < length infos → info ≡ get_or infos i info
+    → Appends old (comma_if (nat_lt 0 i) ++ comm_text info) new → old ++ comms_rest infos i ≡ whole → new ++ comms_rest infos (i + 1) ≡ whole
+one_more_comm infos i info old new whole h is more before =
+    let next : i + 1 ≡ suc i = omega arith in
+    let written = comma_if (nat_lt 0 i) ++ comm_text info in
+    let first : comms_rest infos i ≡ written ++ members_text true (comm_members (drop (suc i) infos)) =
+    ap (λ l. members_text (nat_lt 0 i) (comm_members l)) (drop-cons infos i info h ∙ ap (λ c. c ∷ drop (suc i) infos) (sym is))
+    ∙ comm-member (nat_lt 0 i) info (drop (suc i) infos) in
+    ap (λ l. l ++ comms_rest infos (i + 1)) more.is ∙ ap (λ n. (old ++ written) ++ comms_rest infos n) next
+    ∙ append_assoc old written (comms_rest infos (suc i))
+    ∙ ap (λ k. old ++ (written ++ members_text k (comm_members (drop (suc i) infos)))) (later i)
+    ∙ ap (λ l. old ++ l) (sym first) ∙ before

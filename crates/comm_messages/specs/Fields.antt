@@ -45,6 +45,13 @@ abbrev pub text : Option Data → Option (List ℕ)
 text (Some (string s)) = Some s
 text _ = None
 
+-- absent or null is no text
+abbrev pub text_or_none : Option Data → Option (Option (List ℕ))
+text_or_none None = Some None
+text_or_none (Some null) = Some None
+text_or_none (Some (string s)) = Some (Some s)
+text_or_none (Some _) = None
+
 -- a whole number below the number of clients; absent or null is the first client
 abbrev pub below : ℕ → Option ℕ → Reading ℕ
 below clients None = Err BadClient

@@ -1,4 +1,4 @@
--- The message of a line, or the first of the tests that it fails ('Messaging in Jupyter' 5.3, "Custom Messages").
+-- The message of a line, or the first of the tests that it fails ('Messaging in Jupyter' 5.3, "Custom Messages" and "Comm info").
 use Rattle.std.specs.Prelude.{ℕ, List, Option, Some, None, option_and_then, Ok, Err, codes, if◌then◌else◌}
 use Rattle.std.specs.Str.{bytes_eq}
 use Rattle.serde_json.specs.Data.{Data, object, Members}
@@ -7,20 +7,21 @@ use Rattle.comm_value.specs.FromJson.{members_of}
 use Rattle.comm_value.specs.Tree as tree
 use Rattle.comm_messages.specs.Content.{Content}
 use Rattle.comm_messages.specs.Gives.{Reading, or_fault, ◌>>=◌}
-use Rattle.comm_messages.specs.Fields.{object_in, object_or_empty, text, client_of, fields_of, members_in}
+use Rattle.comm_messages.specs.Fields.{object_in, object_or_empty, text, text_or_none, client_of, fields_of, members_in}
 use Rattle.comm_messages.specs.Buffers.{buffers_of}
 use Rattle.comm_messages.specs.declared.fault.Field.{Field}
 use Rattle.comm_messages.specs.declared.fault.Field.TheVariants as field
 use Rattle.comm_messages.specs.declared.fault.MessageFault.TheVariants.{NotJson, NoType, UnknownType, BadContent, NotWhole}
 use Rattle.comm_messages.specs.declared.incoming.Incoming.{Incoming}
-use Rattle.comm_messages.specs.declared.incoming.Incoming.TheVariants.{Open, Msg, Close}
+use Rattle.comm_messages.specs.declared.incoming.Incoming.TheVariants.{Open, Msg, Close, InfoRequest}
 use Rattle.comm_messages.specs.declared.read.MessageType.{MessageType}
 use Rattle.comm_messages.specs.declared.read.MessageType.TheVariants as type
 
 abbrev pub type_named : List ℕ → Reading MessageType
 type_named name =
     if bytes_eq name (codes "comm_open") then Ok type.Open else if bytes_eq name (codes "comm_msg") then Ok type.Msg
-    else if bytes_eq name (codes "comm_close") then Ok type.Close else Err UnknownType
+    else if bytes_eq name (codes "comm_close") then Ok type.Close
+    else if bytes_eq name (codes "comm_info_request") then Ok type.InfoRequest else Err UnknownType
 
 abbrev pub type_of : Option Data → Reading MessageType
 type_of header = or_fault NoType (option_and_then (λ ms. text (get_member (codes "msg_type") ms)) (option_and_then members_in header)) >>= type_named
@@ -67,19 +68,35 @@ msg_in line content = do
   body ← body_of dict line
   Ok (Msg id body)
 
--- its data and its buffers are tested and dropped
+-- the metadata and the buffers of a message that uses neither: they are tested and dropped
+abbrev pub unused_in : Members → Reading (List (List ℕ))
+unused_in line = do
+  metadata ← object_at field.Metadata (codes "metadata") line
+  buffers_of (get_member (codes "buffers") line)
+
+-- so is its data
 unfoldable pub close_in : Members → Members → Reading Incoming
 close_in line content = do
   id ← text_at field.CommId (codes "comm_id") content
   dict ← object_at field.Body (codes "data") content
-  metadata ← object_at field.Metadata (codes "metadata") line
-  buffers ← buffers_of (get_member (codes "buffers") line)
+  unused ← unused_in line
   Ok (Close id)
+
+abbrev pub filter_at : List ℕ → Members → Reading (Option (List ℕ))
+filter_at key ms = or_fault (BadContent field.TargetName) (text_or_none (get_member key ms))
+
+-- without a target name it asks for the comms of all targets
+unfoldable pub info_request_in : Members → Members → Reading Incoming
+info_request_in line content = do
+  target ← filter_at (codes "target_name") content
+  unused ← unused_in line
+  Ok (InfoRequest target)
 
 abbrev pub incoming_in : MessageType → Members → Members → Reading Incoming
 incoming_in type.Open line content = open_in line content
 incoming_in type.Msg line content = msg_in line content
 incoming_in type.Close line content = close_in line content
+incoming_in type.InfoRequest line content = info_request_in line content
 
 -- the client and the message of an object's members
 unfoldable pub message_in : ℕ → Members → Reading (ℕ × Incoming)

@@ -6,7 +6,7 @@ use Rattle.serde_json.specs.Written.{compact_text, items_text}
 use Rattle.comm_messages.specs.Text.{parts_of, buffer_texts}
 use Rattle.comm_messages.specs.declared.outgoing.Outgoing.{Outgoing}
 use Rattle.comm_messages.specs.declared.outgoing.Parent.{Parent}
-use Rattle.comm_messages.specs.declared.outgoing.Parent.TheVariants.{Call}
+use Rattle.comm_messages.specs.declared.outgoing.Parent.TheVariants.{Call, Read}
 
 -- the part stands behind what was there
 pub record Appends (old part new : List ℕ) : Type 0 where
@@ -17,6 +17,11 @@ buffers_text message = items_text false (buffer_texts (parts_of message).buffers
 
 abbrev pub parent_text : Parent → List ℕ
 parent_text (Call client number) = codes ",\"call\":" ++ (decimal number ++ (codes ",\"client\":" ++ decimal client))
+parent_text (Read client front) = codes ",\"client\":" ++ decimal client
+
+abbrev pub front_text : Parent → List ℕ
+front_text (Call client number) = []
+front_text (Read client front) = codes ",\"front\":" ++ decimal front
 
 abbrev pub content_text : Outgoing → List ℕ
 content_text message = compact_text (object (parts_of message).content)

@@ -1,14 +1,15 @@
--- The text of an outgoing message ('Messaging in Jupyter' 5.3, "Custom Messages"): compact JSON with its keys in byte order.
-use Rattle.std.specs.Prelude.{ℕ, List, [], ◌∷◌, map, codes}
+-- The text of an outgoing message ('Messaging in Jupyter' 5.3, "Custom Messages" and "Comm info"): compact JSON with its keys in byte order.
+use Rattle.std.specs.Prelude.{ℕ, List, [], ◌∷◌, map, codes, Bool, true, false}
 use Rattle.base64.specs.GeneralPurpose.{encode_of}
 use Rattle.base64.specs.Engines.{standard}
 use Rattle.serde_json.specs.Data.{Data, number, unsigned, string, array, object, Items, no_items, item, Members, no_members, member}
 use Rattle.serde_json.specs.Written.{compact_text}
 use Rattle.comm_value.specs.ToJson.{json_members}
 use Rattle.comm_messages.specs.declared.outgoing.Outgoing.{Outgoing}
-use Rattle.comm_messages.specs.declared.outgoing.Outgoing.TheVariants.{Open, Msg, Close}
+use Rattle.comm_messages.specs.declared.outgoing.Outgoing.TheVariants.{Open, Msg, Close, InfoReply}
 use Rattle.comm_messages.specs.declared.outgoing.Parent.{Parent}
-use Rattle.comm_messages.specs.declared.outgoing.Parent.TheVariants.{Call}
+use Rattle.comm_messages.specs.declared.outgoing.Parent.TheVariants.{Call, Read}
+use Rattle.comm_messages.specs.declared.infos.Info.{Info}
 
 abbrev pub texts : List (List ℕ) → Items
 texts [] = no_items
@@ -17,6 +18,11 @@ texts (s ∷ ss) = item (string s) (texts ss)
 -- each buffer in base64 (RFC 4648, section 4)
 abbrev pub buffer_texts : List (List ℕ) → Items
 buffer_texts buffers = texts (map (encode_of standard) buffers)
+
+-- the target name of each comm, by its id
+abbrev pub comm_members : List Info → Members
+comm_members [] = no_members
+comm_members (info ∷ infos) = member info.id (object (member (codes "target_name") (string info.target) no_members)) (comm_members infos)
 
 pub record Parts : Type 0 where
   pub type : List ℕ
@@ -43,8 +49,14 @@ parts_of (Close id) = record {
   metadata = no_members;
   buffers = [];
 }
+parts_of (InfoReply comms) = record {
+  type = codes "comm_info_reply";
+  content = member (codes "comms") (object (comm_members comms)) (member (codes "status") (string (codes "ok")) no_members);
+  metadata = no_members;
+  buffers = [];
+}
 
--- the call is numbered within its client, from 1
+-- a call is numbered within its client, from 1; a read has the number of changes that it saw
 abbrev pub json_of : Parts → Parent → Data
 json_of parts (Call client call) =
     object (member (codes "buffers") (array (buffer_texts parts.buffers))
@@ -53,6 +65,20 @@ json_of parts (Call client call) =
     (member (codes "content") (object parts.content)
     (member (codes "header") (object (member (codes "msg_type") (string parts.type) no_members))
     (member (codes "metadata") (object parts.metadata) no_members))))))
+json_of parts (Read client front) =
+    object (member (codes "buffers") (array (buffer_texts parts.buffers))
+    (member (codes "client") (number (unsigned client))
+    (member (codes "content") (object parts.content)
+    (member (codes "front") (number (unsigned front))
+    (member (codes "header") (object (member (codes "msg_type") (string parts.type) no_members))
+    (member (codes "metadata") (object parts.metadata) no_members))))))
+
+-- a reply goes with its read, and any other message with its call
+abbrev pub goes_with : Outgoing → Parent → Bool
+goes_with (InfoReply comms) (Read client front) = true
+goes_with (InfoReply comms) (Call client call) = false
+goes_with message (Read client front) = false
+goes_with message (Call client call) = true
 
 unfoldable pub text : Outgoing → Parent → List ℕ
 text message parent = compact_text (json_of (parts_of message) parent)

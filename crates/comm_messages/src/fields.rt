@@ -3,7 +3,7 @@ ghost use Rattle.serde_json.specs.Find.{get_member};
 ghost use Rattle.serde_json.specs.View.{view};
 ghost use Rattle.comm_value.specs.Places.{members_have_bytes};
 ghost use Rattle.comm_messages.specs.Gives.{Gives};
-ghost use Rattle.comm_messages.specs.Fields.{seen, fields, fields_of, object_in, object_or_empty, text, client_of};
+ghost use Rattle.comm_messages.specs.Fields.{seen, fields, fields_of, object_in, object_or_empty, text, text_or_none, client_of};
 ghost use Rattle.comm_messages.specs.Message.{whole_dict};
 
 use crate::fault::MessageFault;
@@ -70,6 +70,17 @@ pub fn text<'a>(value: Option<&'a Value>) -> Option<&'a str>
     match value {
         Some(Value::String(text)) => Some(text.as_str()),
         _ => None,
+    }
+}
+
+/// A text, where absent or null is Some(None); None at any other value.
+pub fn text_or_none<'a>(value: Option<&'a Value>) -> Option<Option<&'a str>>
+    ensures { option_map (λ t. option_map (λ s. s.now) t) result ≡ text_or_none (seen value.entry) }
+{
+    match value {
+        Some(Value::String(text)) => Some(Some(text.as_str())),
+        Some(Value::Null) | None => Some(None),
+        Some(_) => None,
     }
 }
 

@@ -20,4 +20,8 @@ pub enum Incoming {
     Close {
         id: Text,
     },
+    /// `comm_info_request`: which comms are open, those of one target where it is named ("Comm info").
+    InfoRequest {
+        target: Option<Text>,
+    },
 }

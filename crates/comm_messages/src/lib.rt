@@ -6,6 +6,7 @@ mod buffers;
 mod fault;
 mod fields;
 mod incoming;
+mod infos;
 mod outgoing;
 mod read;
 mod write;
@@ -14,9 +15,14 @@ pub use body::Body;
 pub use buffers::buffers_of;
 pub use fault::{Field, MessageFault};
 pub use fields::{
-    Fields, client_of, fields_of, member, object_in, object_or_empty, text, whole_dict,
+    Fields, client_of, fields_of, member, object_in, object_or_empty, text, text_or_none,
+    whole_dict,
 };
 pub use incoming::Incoming;
+pub use infos::{Info, Infos};
 pub use outgoing::{Outgoing, Parent};
 pub use read::{message_of, read_message};
 pub use write::{append_message, write_message};
+
+#[cfg(test)]
+mod tests;

@@ -1,4 +1,5 @@
 use crate::body::Body;
+use crate::infos::Infos;
 use comm_value::Text;
 
 /// A message that the kernel sends ('Messaging in Jupyter' 5.3, "Custom Messages").
@@ -20,6 +21,10 @@ pub enum Outgoing {
     Close {
         id: Text,
     },
+    /// `comm_info_reply`: the comms that are open ("Comm info").
+    InfoReply {
+        comms: Infos,
+    },
 }
 
 /// What an outgoing message answers.
@@ -27,4 +32,6 @@ pub enum Outgoing {
 pub enum Parent {
     /// A call of a client, by its number within that client, from 1.
     Call { client: u8, number: u64 },
+    /// A read of a client, by the number of changes that it saw.
+    Read { client: u8, front: u64 },
 }

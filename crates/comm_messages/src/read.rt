@@ -2,16 +2,17 @@ ghost use Rattle.std.specs.Prelude.{◌≡◌, ◌<◌, IfOk, Some, option_map, 
 ghost use Rattle.serde_json.specs.View.{view};
 ghost use Rattle.comm_messages.specs.Gives.{Gives};
 ghost use Rattle.comm_messages.specs.Fields.{seen, fields};
-ghost use Rattle.comm_messages.specs.Message.{type_named, type_of, heading, text_at, object_at, version_of, body_of, open_in, msg_in, close_in, incoming_in, message_in, message_of, message};
+ghost use Rattle.comm_messages.specs.Message.{type_named, type_of, heading, text_at, filter_at, object_at, version_of, body_of, open_in, msg_in, unused_in, close_in, info_request_in, incoming_in, message_in, message_of, message};
 
 use crate::body::Body;
 use crate::buffers::buffers_of;
 use crate::fault::{Field, MessageFault};
 use crate::fields::{
-    Fields, client_of, fields_of, member, object_in, object_or_empty, text, whole_dict,
+    Fields, client_of, fields_of, member, object_in, object_or_empty, text, text_or_none,
+    whole_dict,
 };
 use crate::incoming::Incoming;
-use comm_value::Text;
+use comm_value::{Buffers, Text};
 use serde_json::Value;
 use std::alloc::{AllocError, Global};
 
@@ -21,6 +22,7 @@ pub enum MessageType {
     Open,
     Msg,
     Close,
+    InfoRequest,
 }
 
 /// The client and the message of a line, or the first test that it fails.
@@ -85,6 +87,8 @@ fn type_named(name: &str) -> Result<MessageType, MessageFault>
         Ok(MessageType::Msg)
     } else if name == "comm_close" {
         Ok(MessageType::Close)
+    } else if name == "comm_info_request" {
+        Ok(MessageType::InfoRequest)
     } else {
         Err(MessageFault::UnknownType)
     }
@@ -134,6 +138,7 @@ fn incoming_in(
         MessageType::Open => open_in(alloc, line, content),
         MessageType::Msg => msg_in(alloc, line, content),
         MessageType::Close => close_in(alloc, line, content),
+        MessageType::InfoRequest => info_request_in(alloc, line, content),
     }
 }
 
@@ -160,16 +165,22 @@ fn opened(
 {
     let id = Text::copy_of(alloc, id)?;
     let target = Text::copy_of(alloc, target)?;
-    let version = match version {
-        None => None,
-        Some(text) => Some(Text::copy_of(alloc, text)?),
-    };
+    let version = copied(alloc, version)?;
     Ok(Incoming::Open {
         id,
         target,
         version,
         body,
     })
+}
+
+fn copied(alloc: Global, text: Option<&str>) -> Result<Option<Text>, AllocError>
+    ensures { IfOk result (λ t. t ≡ option_map (λ s. s.now) text.entry) }
+{
+    match text {
+        None => Ok(None),
+        Some(text) => Ok(Some(Text::copy_of(alloc, text)?)),
+    }
 }
 
 #[tactic(auto, unfolding(crate::specs::Message::msg_in))]
@@ -192,9 +203,40 @@ fn close_in(alloc: Global, line: Fields<'_>, content: Fields<'_>) -> Result<Inco
 {
     let id = text_at(Field::CommId, "comm_id", content)?;
     object_at(Field::Body, "data", content)?;
-    object_at(Field::Metadata, "metadata", line)?;
-    buffers_of(alloc, member(line, "buffers"))?;
+    unused_in(alloc, line)?;
     Ok(Incoming::Close {
         id: Text::copy_of(alloc, id)?,
     })
+}
+
+// The metadata and the buffers of a message that uses neither.
+fn unused_in(alloc: Global, line: Fields<'_>) -> Result<Buffers, MessageFault>
+    ensures { Gives (λ b. b) result (unused_in (fields line.entry)) }
+{
+    object_at(Field::Metadata, "metadata", line)?;
+    buffers_of(alloc, member(line, "buffers"))
+}
+
+#[tactic(auto, unfolding(crate::specs::Message::info_request_in))]
+fn info_request_in(
+    alloc: Global,
+    line: Fields<'_>,
+    content: Fields<'_>,
+) -> Result<Incoming, MessageFault>
+    ensures { Gives (λ i. i) result (info_request_in (fields line.entry) (fields content.entry)) }
+{
+    let target = filter_at("target_name", content)?;
+    unused_in(alloc, line)?;
+    Ok(Incoming::InfoRequest {
+        target: copied(alloc, target)?,
+    })
+}
+
+fn filter_at<'a>(key: &str, of: Fields<'a>) -> Result<Option<&'a str>, MessageFault>
+    ensures { Gives (λ o. option_map (λ t. t.now) o) result (filter_at key.now (fields of.entry)) }
+{
+    match text_or_none(member(of, key)) {
+        Some(text) => Ok(text),
+        None => Err(MessageFault::BadContent(Field::TargetName)),
+    }
 }

@@ -1,14 +1,15 @@
-ghost use Rattle.std.specs.Prelude.{◌≡◌, ◌++◌, ◌∷◌, [], false, OnOk, IfOk, nat_lt, codes, decimal};
+ghost use Rattle.std.specs.Prelude.{◌≡◌, ◌++◌, ◌∷◌, [], false, true, OnOk, IfOk, nat_lt, codes, decimal};
 ghost use Rattle.base64.specs.GeneralPurpose.{encode_of};
 ghost use Rattle.base64.specs.Engines.{standard};
 ghost use Rattle.json.specs.Print.{quoted};
-ghost use Rattle.serde_json.specs.Written.{comma_if, items_text, compact_text};
+ghost use Rattle.serde_json.specs.Written.{comma_if, items_text, members_text, compact_text};
 ghost use Rattle.serde_json.specs.Data.{object};
 ghost use Rattle.comm_value.specs.ToJson.{json_members};
-ghost use Rattle.comm_messages.specs.Text.{text, buffer_texts};
-ghost use Rattle.comm_messages.specs.Parts.{Appends, buffers_text, parent_text, content_text, end_text};
+ghost use Rattle.comm_messages.specs.Text.{text, buffer_texts, comm_members, goes_with};
+ghost use Rattle.comm_messages.specs.Parts.{Appends, buffers_text, parent_text, front_text, content_text, end_text};
 
 use crate::body::Body;
+use crate::infos::{Info, Infos};
 use crate::outgoing::{Outgoing, Parent};
 use base64::engine::general_purpose::STANDARD;
 use comm_value::{Buffers, Bytes, Text, write_text};
@@ -20,6 +21,7 @@ pub fn write_message(
     message: &Outgoing,
     parent: &Parent,
 ) -> Result<Vec<u8>, AllocError>
+    requires { goes_with message.now parent.now ≡ true }
     ensures { IfOk result (λ bytes. bytes.items ≡ text message.now parent.now) }
 {
     let mut out = Vec::new(alloc);
@@ -34,6 +36,7 @@ pub fn append_message(
     parent: &Parent,
     out: &mut Vec<u8>,
 ) -> Result<(), AllocError>
+    requires { goes_with message.now parent.now ≡ true }
     ensures { OnOk result (out.new.items ≡ out.old.items ++ text message.now parent.now) }
 {
     append(b"{\"buffers\":[", out)?;
@@ -41,6 +44,7 @@ pub fn append_message(
     append_parent(parent, out)?;
     append(b",\"content\":", out)?;
     append_content(message, out)?;
+    append_front(parent, out)?;
     append_end(message, out)?;
     Ok(())
 }
@@ -48,11 +52,35 @@ pub fn append_message(
 fn append_parent(parent: &Parent, out: &mut Vec<u8>) -> Result<(), AllocError>
     ensures { OnOk result (Appends out.old.items (parent_text parent.now) out.new.items) }
 {
-    let Parent::Call { client, number } = parent;
-    append(b",\"call\":", out)?;
-    append_number(*number, out)?;
+    match parent {
+        Parent::Call { client, number } => {
+            append(b",\"call\":", out)?;
+            append_number(*number, out)?;
+            append_client(*client, out)?;
+        }
+        Parent::Read { client, .. } => append_client(*client, out)?,
+    }
+    Ok(())
+}
+
+fn append_client(client: u8, out: &mut Vec<u8>) -> Result<(), AllocError>
+    ensures { OnOk result (Appends out.old.items (codes ",\"client\":" ++ decimal client) out.new.items) }
+{
     append(b",\"client\":", out)?;
-    append_number(*client as u64, out)?;
+    append_number(client as u64, out)?;
+    Ok(())
+}
+
+fn append_front(parent: &Parent, out: &mut Vec<u8>) -> Result<(), AllocError>
+    ensures { OnOk result (Appends out.old.items (front_text parent.now) out.new.items) }
+{
+    match parent {
+        Parent::Call { .. } => append(b"", out)?,
+        Parent::Read { front, .. } => {
+            append(b",\"front\":", out)?;
+            append_number(*front, out)?;
+        }
+    }
     Ok(())
 }
 
@@ -81,7 +109,33 @@ fn append_content(message: &Outgoing, out: &mut Vec<u8>) -> Result<(), AllocErro
             append_id(id, out)?;
             append(b",\"data\":{}}", out)?;
         }
+        Outgoing::InfoReply { comms } => {
+            append(b"{\"comms\":{", out)?;
+            append_comms(comms, out)?;
+            append(b",\"status\":\"ok\"}", out)?;
+        }
     }
+    Ok(())
+}
+
+// The members of the object and its closing bracket.
+fn append_comms(comms: &Infos, out: &mut Vec<u8>) -> Result<(), AllocError>
+    ensures { OnOk result (Appends out.old.items (members_text false (comm_members comms.now)) out.new.items) }
+{
+    for (number, info) in comms.as_slice().iter().enumerate() {
+        append_comm(number, info, out)?;
+    }
+    append(b"}", out)
+}
+
+fn append_comm(number: usize, info: &Info, out: &mut Vec<u8>) -> Result<(), AllocError>
+    ensures { OnOk result (Appends out.old.items (comma_if (nat_lt 0 number) ++ (quoted info.now.id ++ (codes ":{\"target_name\":" ++ (quoted info.now.target ++ codes "}")))) out.new.items) }
+{
+    append_comma(number, out)?;
+    append_text(&info.id, out)?;
+    append(b":{\"target_name\":", out)?;
+    append_text(&info.target, out)?;
+    append(b"}", out)?;
     Ok(())
 }
 
@@ -121,6 +175,10 @@ fn append_end(message: &Outgoing, out: &mut Vec<u8>) -> Result<(), AllocError>
             b",\"header\":{\"msg_type\":\"comm_close\"},\"metadata\":{}}",
             out,
         )?,
+        Outgoing::InfoReply { .. } => append(
+            b",\"header\":{\"msg_type\":\"comm_info_reply\"},\"metadata\":{}}",
+            out,
+        )?,
     }
     Ok(())
 }
@@ -135,6 +193,16 @@ fn append_text(text: &Text, out: &mut Vec<u8>) -> Result<(), AllocError>
     ensures { OnOk result (Appends out.old.items (quoted text.now) out.new.items) }
 {
     write_text(text.as_str(), out)
+}
+
+// A comma stands before each but the first.
+fn append_comma(number: usize, out: &mut Vec<u8>) -> Result<(), AllocError>
+    ensures { OnOk result (Appends out.old.items (comma_if (nat_lt 0 number)) out.new.items) }
+{
+    if number > 0 {
+        out.push(b',')?;
+    }
+    Ok(())
 }
 
 fn append_number(number: u64, out: &mut Vec<u8>) -> Result<(), AllocError>
@@ -154,7 +222,7 @@ fn append_buffers(alloc: Global, message: &Outgoing, out: &mut Vec<u8>) -> Resul
             body.buffers(),
             out,
         )?,
-        Outgoing::Close { .. } => append(b"]", out)?,
+        Outgoing::Close { .. } | Outgoing::InfoReply { .. } => append(b"]", out)?,
     }
     Ok(())
 }
@@ -168,7 +236,6 @@ fn append_all(alloc: Global, buffers: &Buffers, out: &mut Vec<u8>) -> Result<(),
     append(b"]", out)
 }
 
-// A comma stands before each buffer but the first.
 fn append_buffer(
     alloc: Global,
     number: usize,
@@ -177,9 +244,8 @@ fn append_buffer(
 ) -> Result<(), AllocError>
     ensures { OnOk result (Appends out.old.items (comma_if (nat_lt 0 number) ++ quoted (encode_of standard buffer.now)) out.new.items) }
 {
-    if number > 0 {
-        out.push(b',')?;
-    }
+    append_comma(number, out)?;
     let text = STANDARD.encode(alloc, buffer.as_slice())?;
-    write_text(text.as_str(), out)
+    write_text(text.as_str(), out)?;
+    Ok(())
 }

@@ -1,4 +1,4 @@
-use Rattle.comm_messages.proofs.WriteLemmas.{written, same_part, open_content, msg_content, close_content}
+use Rattle.comm_messages.proofs.WriteLemmas.{written, same_part, open_content, msg_content, close_content, reply_content}
 use Rattle.comm_messages.proofs.write.append_content.Goals as goal
 
 pub returns-in_ok-append-in-Open-2 : goal.returns-in_ok-append-in-Open-2
@@ -15,3 +15,8 @@ returns-in_ok-append-in-Msg c =
 pub returns-in_ok-append-in-Close : goal.returns-in_ok-append-in-Close
 returns-in_ok-append-in-Close c =
     same_part (close_content _ _ c.in-Close.is) (written c.in_ok-append_id-in-Close.ensures c.in_ok-append-in-Close.ensures)
+
+pub returns-in_ok-append-in-InfoReply-2 : goal.returns-in_ok-append-in-InfoReply-2
+returns-in_ok-append-in-InfoReply-2 c =
+    same_part (reply_content _ _ c.in-InfoReply.is)
+    (written c.in_ok-append-in-InfoReply.ensures (written c.in_ok-append_comms-in-InfoReply.ensures c.in_ok-append-in-InfoReply-2.ensures))

@@ -1,4 +1,4 @@
-use Rattle.comm_messages.proofs.WriteLemmas.{written, same_part, open_end, msg_end, close_end}
+use Rattle.comm_messages.proofs.WriteLemmas.{written, same_part, open_end, msg_end, close_end, reply_end}
 use Rattle.comm_messages.proofs.write.append_end.Goals as goal
 
 pub returns-in_ok-append-in-Open-2 : goal.returns-in_ok-append-in-Open-2
@@ -11,3 +11,6 @@ returns-in_ok-append-in-Msg c = same_part (msg_end _ _ _ c.in-Msg.is) c.in_ok-ap
 
 pub returns-in_ok-append-in-Close : goal.returns-in_ok-append-in-Close
 returns-in_ok-append-in-Close c = same_part (close_end _ _ c.in-Close.is) c.in_ok-append-in-Close.ensures
+
+pub returns-in_ok-append-in-InfoReply : goal.returns-in_ok-append-in-InfoReply
+returns-in_ok-append-in-InfoReply c = same_part (reply_end _ _ c.in-InfoReply.is) c.in_ok-append-in-InfoReply.ensures
