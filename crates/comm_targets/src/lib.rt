@@ -25,3 +25,6 @@ pub use kind::Kind;
 pub use latest::Latest;
 pub use stage::Stage;
 pub use target::Target;
+
+#[cfg(test)]
+mod tests;
