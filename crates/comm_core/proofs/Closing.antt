@@ -1,21 +1,24 @@
 -- The comms of a target, one after the other, and a state that is written.
-use Rattle.std.proofs.Common.{◌≡◌, ℕ, ◌+◌, Bool, true, false, cond, List, [], ◌∷◌, ◌++◌, Option, None, Some, map, filter, refl, ap, sym, ◌∙◌, take, drop}
+use Rattle.std.proofs.Common.{◌≡◌, ℕ, ◌+◌, Bool, true, false, cond, List, [], ◌∷◌, ◌++◌, Option, None, Some, map, filter, fold, refl, ap, sym, ◌∙◌, take, drop}
 use Rattle.std.specs.Str.{bytes_eq}
 use Rattle.std.specs.List.{slice_get}
 use Rattle.std.specs.Map.{keys_of}
+use Rattle.std.specs.BTreeMap.{insert_entry}
+use Rattle.std.specs.Ordering.{nat_cmp}
+use Rattle.std.specs.Cmp.Lexicographic.{slice_cmp}
 use Rattle.std.proofs.lemmas.Slice.Eq.{bytes_eq-Decides}
 use Rattle.comm_targets.specs.Meaning.{Meaning, has_id, without, closes}
 use Rattle.comm_core.specs.Machine.{Name, at, with_at, ids_of}
-use Rattle.comm_core.specs.Reads.{Info, passes, infos_in}
-use Rattle.comm_core.specs.Tables.{Comms}
+use Rattle.comm_core.specs.Reads.{Info, in_order, passes, infos_in}
+use Rattle.comm_core.specs.Tables.{Opens}
 use Rattle.comm_core.specs.declared.comm.Comm.{Comm}
 use Rattle.comm_core.proofs.Entries.{take-further, drop-further}
 
-pub ids_of-more : (name : Name) (es : Comms) (k : Name) (o : Comm) → ids_of name (es ++ (k, o) ∷ []) ≡ ids_of name es ++ cond (bytes_eq name o.target) (k ∷ []) []
+pub ids_of-more : (name : Name) (es : Opens) (k : Name) (o : Comm) → ids_of name (es ++ (k, o) ∷ []) ≡ ids_of name es ++ cond (bytes_eq name o.target) (k ∷ []) []
 ids_of-more name [] k o = elim (bytes_eq name o.target) as (λ b. keys_of (cond b ((k, o) ∷ []) []) ≡ cond b (k ∷ []) []) [ true ↦ refl | false ↦ refl ]
 ids_of-more name (e ∷ es) k o =
     let more = ids_of-more name es k o in
-    let F : Comms → Comms = λ l. filter (λ (z : Name × Comm). bytes_eq name z.1.target) l in
+    let F : Opens → Opens = λ l. filter (λ (z : Name × Comm). bytes_eq name z.1.target) l in
     elim (bytes_eq name e.1.target) as (λ b. keys_of (cond b (e ∷ F (es ++ (k, o) ∷ [])) (F (es ++ (k, o) ∷ []))) ≡ keys_of (cond b (e ∷ F es) (F es)) ++ cond (bytes_eq name o.target) (k ∷ []) []) [
       | true ↦ ap (λ l. e.0 ∷ l) more
       | false ↦ more
@@ -24,11 +27,11 @@ ids_of-more name (e ∷ es) k o =
 abbrev info : Name × Comm → Info
 info e = (e.0, e.1.target)
 
-infos_in-more : (f : Option Name) (es : Comms) (k : Name) (o : Comm) → infos_in (es ++ (k, o) ∷ []) f ≡ infos_in es f ++ cond (passes f o) ((k, o.target) ∷ []) []
+infos_in-more : (f : Option Name) (es : Opens) (k : Name) (o : Comm) → infos_in (es ++ (k, o) ∷ []) f ≡ infos_in es f ++ cond (passes f o) ((k, o.target) ∷ []) []
 infos_in-more f [] k o = elim (passes f o) as (λ b. map info (cond b ((k, o) ∷ []) []) ≡ cond b ((k, o.target) ∷ []) []) [ true ↦ refl | false ↦ refl ]
 infos_in-more f (e ∷ es) k o =
     let more = infos_in-more f es k o in
-    let F : Comms → Comms = λ l. filter (λ (z : Name × Comm). passes f z.1) l in
+    let F : Opens → Opens = λ l. filter (λ (z : Name × Comm). passes f z.1) l in
     elim (passes f e.1) as (λ b. map info (cond b (e ∷ F (es ++ (k, o) ∷ [])) (F (es ++ (k, o) ∷ []))) ≡ map info (cond b (e ∷ F es) (F es)) ++ cond (passes f o) ((k, o.target) ∷ []) []) [
       | true ↦ ap (λ (l : List Info). (e.0, e.1.target) ∷ l) more
       | false ↦ more
@@ -38,17 +41,25 @@ append-nil : {X : Type 0} (xs : List X) → xs ++ [] ≡ xs
 append-nil [] = refl
 append-nil (x ∷ xs) = ap (λ l. x ∷ l) (append-nil xs)
 
-module _ (name : Name) (all : Comms) (i : ℕ) (e : Name × Comm) (read_at : slice_get all i ≡ Some e) where
-  pub listed_one : (f : Option Name) → passes f e.1 ≡ true → (k t : Name) (so_far : List Info) → so_far ≡ infos_in (take i all) f → k ≡ e.0 → t ≡ e.1.target
-      → so_far ++ (k, t) ∷ [] ≡ infos_in (take (i + 1) all) f
-  listed_one f met k t so_far is_so ek et =
-      ap (λ l. l ++ (k, t) ∷ []) is_so ∙ ap (λ k. infos_in (take i all) f ++ (k, t) ∷ []) ek ∙ ap (λ t. infos_in (take i all) f ++ (e.0, t) ∷ []) et
-      ∙ sym (ap (λ l. infos_in l f) (take-further all i _ read_at) ∙ infos_in-more f (take i all) e.0 e.1 ∙ ap (λ b. infos_in (take i all) f ++ cond b ((e.0, e.1.target) ∷ []) []) met)
+fold-more : (xs : List Info) (x : Info) (so_far : List Info) → fold (λ (done : List Info) (x : Info). insert_entry (slice_cmp nat_cmp) done x.0 x.1) so_far (xs ++ x ∷ []) ≡ insert_entry (slice_cmp nat_cmp) (fold (λ (done : List Info) (x : Info). insert_entry (slice_cmp nat_cmp) done x.0 x.1) so_far xs) x.0 x.1
+fold-more [] x so_far = refl
+fold-more (y ∷ ys) x so_far = fold-more ys x (insert_entry (slice_cmp nat_cmp) so_far y.0 y.1)
 
-  pub listed_none : (f : Option Name) → passes f e.1 ≡ false → (so_far : List Info) → so_far ≡ infos_in (take i all) f → so_far ≡ infos_in (take (i + 1) all) f
+module _ (name : Name) (all : Opens) (i : ℕ) (e : Name × Comm) (read_at : slice_get all i ≡ Some e) where
+  pub listed_one : (f : Option Name) → passes f e.1 ≡ true → (k t : Name) (so_far : List Info) → so_far ≡ in_order (infos_in (take i all) f) → k ≡ e.0 → t ≡ e.1.target
+      → insert_entry (slice_cmp nat_cmp) so_far k t ≡ in_order (infos_in (take (i + 1) all) f)
+  listed_one f met k t so_far is_so ek et =
+      let whole : infos_in (take (i + 1) all) f ≡ infos_in (take i all) f ++ (e.0, e.1.target) ∷ [] =
+      ap (λ l. infos_in l f) (take-further all i _ read_at) ∙ infos_in-more f (take i all) e.0 e.1 ∙ ap (λ b. infos_in (take i all) f ++ cond b ((e.0, e.1.target) ∷ []) []) met in
+      ap (λ l. insert_entry (slice_cmp nat_cmp) l k t) is_so
+      ∙ ap (λ k. insert_entry (slice_cmp nat_cmp) (in_order (infos_in (take i all) f)) k t) ek
+      ∙ ap (λ t. insert_entry (slice_cmp nat_cmp) (in_order (infos_in (take i all) f)) e.0 t) et
+      ∙ sym (ap in_order whole ∙ fold-more (infos_in (take i all) f) (e.0, e.1.target) [])
+
+  pub listed_none : (f : Option Name) → passes f e.1 ≡ false → (so_far : List Info) → so_far ≡ in_order (infos_in (take i all) f) → so_far ≡ in_order (infos_in (take (i + 1) all) f)
   listed_none f unmet so_far is_so =
-      is_so ∙ sym (ap (λ l. infos_in l f) (take-further all i _ read_at) ∙ infos_in-more f (take i all) e.0 e.1 ∙ ap (λ b. infos_in (take i all) f ++ cond b ((e.0, e.1.target) ∷ []) []) unmet
-      ∙ append-nil (infos_in (take i all) f))
+      is_so ∙ sym (ap in_order (ap (λ l. infos_in l f) (take-further all i _ read_at) ∙ infos_in-more f (take i all) e.0 e.1 ∙ ap (λ b. infos_in (take i all) f ++ cond b ((e.0, e.1.target) ∷ []) []) unmet
+      ∙ append-nil (infos_in (take i all) f)))
 
   further : ids_of name (take (i + 1) all) ≡ ids_of name (take i all) ++ cond (bytes_eq name e.1.target) (e.0 ∷ []) []
   further = ap (ids_of name) (take-further all i _ read_at) ∙ ids_of-more name (take i all) e.0 e.1

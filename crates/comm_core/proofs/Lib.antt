@@ -1,4 +1,15 @@
+pub mod Agreeing
+pub mod Asking
 pub mod Boxed
+pub mod Carried
 pub mod Closing
+pub mod Committing
 pub mod Entries
+pub mod Exacting
+pub mod Gone
+pub mod Keys
 pub mod Names
+pub mod Readying
+pub mod Staging
+pub mod Stopping
+pub mod Unmaking

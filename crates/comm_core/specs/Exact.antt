@@ -22,7 +22,7 @@ is_exact m = list_all (λ e. not (is_free e.1.kind)) m.targets
 
 abbrev pub outcome_by : Option Registered → Question → Option Outcome
 outcome_by None q = None
-outcome_by (Some r) q = Some (answer_of r.kind r.notes q.now q.event)
+outcome_by (Some r) q = Some (answer_of r.kind r.notes q.state q.event)
 
 abbrev pub outcome_at : Machine → Option Question → Option Outcome
 outcome_at m None = None

@@ -1,7 +1,8 @@
 -- What a manager is asked without changing it ('Messaging in Jupyter' 5.3, "Comm info").
-use Rattle.std.specs.Prelude.{ℕ, Bool, true, List, [], ◌∷◌, map, filter, Option, Some, None, if◌then◌else◌}
+use Rattle.std.specs.Prelude.{Bool, true, List, [], map, filter, fold, Option, Some, None}
 use Rattle.std.specs.Str.{bytes_eq}
-use Rattle.std.specs.Ordering.{nat_cmp, is_lt}
+use Rattle.std.specs.Ordering.{nat_cmp}
+use Rattle.std.specs.BTreeMap.{insert_entry}
 use Rattle.std.specs.Cmp.Lexicographic.{slice_cmp}
 use Rattle.comm_value.specs.Tree.{Members}
 use Rattle.comm_core.specs.Machine.{Name, Machine, at}
@@ -13,18 +14,9 @@ use Rattle.comm_core.specs.declared.reply.StateAnswer.TheVariants.{NoComm, NoSta
 abbrev pub Info : Type 0
 Info = Name × Name
 
--- it stands before the other, in the byte order of the ids
-abbrev pub is_before : Info → Info → Bool
-is_before x y = is_lt (slice_cmp nat_cmp x.0 y.0)
-
--- put where it belongs among those in order
-abbrev pub put_in_order : Info → List Info → List Info
-put_in_order x [] = x ∷ []
-put_in_order x (y ∷ ys) = if is_before x y then x ∷ y ∷ ys else y ∷ put_in_order x ys
-
+-- each put in its place in the byte order of the ids
 abbrev pub in_order : List Info → List Info
-in_order [] = []
-in_order (x ∷ xs) = put_in_order x (in_order xs)
+in_order infos = fold (λ done x. insert_entry (slice_cmp nat_cmp) done x.0 x.1) [] infos
 
 -- a comm of this target is asked for
 abbrev pub passes : Option Name → Comm → Bool

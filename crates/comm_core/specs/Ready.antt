@@ -9,8 +9,8 @@ use Rattle.comm_targets.specs.declared.event.Event.TheVariants as event
 use Rattle.comm_targets.specs.declared.fault.TargetFault.{TargetFault}
 use Rattle.comm_targets.specs.declared.fault.TargetFault.TheVariants as fault
 use Rattle.comm_core.specs.Machine.{Name, Machine, at, has, ids_of}
-use Rattle.comm_core.specs.Step.{Outcome, Stepped, Verdict, Done, Asked, step, asks, stepped, answered, registered, unregistered, closed, Allowed}
-use Rattle.comm_core.specs.Tables.{Targets, Comms, targets_of, machine_of, emptied}
+use Rattle.comm_core.specs.Step.{Outcome, Stepped, Verdict, Done, Asked, step, asks, stepped, answered, registered, unregistered, closed, holds_widget, Allowed}
+use Rattle.comm_core.specs.Tables.{Targets, Opens, targets_of, machine_of, emptied}
 use Rattle.comm_core.specs.declared.comm.Comm.{Comm}
 use Rattle.comm_core.specs.declared.question.Question.{Question}
 use Rattle.comm_core.specs.declared.call.Call.{Call}
@@ -28,14 +28,14 @@ use Rattle.comm_core.specs.declared.plan.Judged.TheVariants as judged
 pub record State : Type 0 where
   pub limit : ℕ
   pub boxes : Targets
-  pub comms : Comms
+  pub comms : Opens
   pub settled : Bool
 
 -- the machine that it means
 abbrev pub machine : State → Machine
 machine s = machine_of s.boxes s.comms
 
-abbrev pub state : ℕ → Targets → Comms → Bool → State
+abbrev pub state : ℕ → Targets → Opens → Bool → State
 state limit boxes comms settled = record { limit = limit; boxes = boxes; comms = comms; settled = settled }
 
 -- the targets, with nothing staged
@@ -52,7 +52,7 @@ AreDistinct [] = Unit {0}
 AreDistinct (e ∷ es) = (at es e.0 ≡ None) × AreDistinct es
 
 -- each target has the ids of its comms, and each comm its target
-pub record Agrees (boxes : Targets) (comms : Comms) : Type 0 where
+pub record Agrees (boxes : Targets) (comms : Opens) : Type 0 where
   pub names : AreDistinct boxes
   pub distinct : AreDistinct comms
   pub ids : (name : Name) (m : Meaning) → at boxes name ≡ Some m → m.ids ≡ ids_of name comms
@@ -63,11 +63,15 @@ abbrev pub HaveStaged : Targets → (Name → Option Stage) → Type 0
 HaveStaged boxes staged = (name : Name) (m : Meaning) → at boxes name ≡ Some m → m.staged ≡ staged name
 
 -- the tables agree; where no call stands ready nothing is staged, else there is room for one more target and one more comm
-pub record IsSound (boxes : Targets) (free : ℕ) (comms : Comms) (spare : ℕ) (settled : Bool) : Type 0 where
+pub record IsSound (boxes : Targets) (free : ℕ) (comms : Opens) (spare : ℕ) (settled : Bool) : Type 0 where
   pub agrees : Agrees (bare boxes) comms
   pub unstaged : settled ≡ true → HaveStaged boxes (λ _. None)
   pub room : settled ≡ false → 0 < free
   pub space : settled ≡ false → 0 < spare
+
+-- the tables agree, nothing is staged, and they mean this machine
+abbrev pub Carried : Targets → Opens → Machine → Type 0
+Carried boxes comms m = Agrees (bare boxes) comms × HaveStaged boxes (λ _. None) × (machine_of boxes comms ≡ m)
 
 -- ---- what stands ready
 
@@ -96,18 +100,31 @@ staged_by (Unregister n) o name = None
 staged_by (Close id) o name = None
 
 -- a comm is opened that isn't there, or told that is the target's
-abbrev pub SuitsComms : Comms → Name → Event → Type 0
+abbrev pub SuitsComms : Opens → Name → Event → Type 0
 SuitsComms comms name (event.Open id version body) = at comms id ≡ None
 SuitsComms comms name (event.Launch id state) = at comms id ≡ None
 SuitsComms comms name (event.Msg id body) = (c : Comm) × (at comms id ≡ Some c) × (c.target ≡ name)
 SuitsComms comms name (event.Push id state) = (c : Comm) × (at comms id ≡ Some c) × (c.target ≡ name)
+
+-- the kernel's own events are for widgets
+abbrev pub SuitsKind : Targets → Name → Event → Type 0
+SuitsKind boxes name (event.Open id version body) = Unit {0}
+SuitsKind boxes name (event.Msg id body) = Unit {0}
+SuitsKind boxes name (event.Launch id state) = holds_widget (at (targets_of boxes) name) ≡ true
+SuitsKind boxes name (event.Push id state) = holds_widget (at (targets_of boxes) name) ≡ true
+
+-- the target is there, and may be asked this
+pub record CanAsk (boxes : Targets) (comms : Opens) (q : Question) : Type 0 where
+  pub here : has (targets_of boxes) q.name ≡ true
+  pub comms_suit : SuitsComms comms q.name q.event
+  pub kind_suits : SuitsKind boxes q.name q.event
 
 -- the target that a register hands in is idle, and of the kind and with the notes of the call
 abbrev pub IsNewcomer : Targets → Name → Option Meaning → Meaning → Type 0
 IsNewcomer boxes name boxed m = (boxed ≡ Some m) × (at boxes name ≡ None) × IsIdle m
 
 -- the plan can be carried out on these tables
-abbrev pub Suits : Targets → Comms → Option Meaning → Plan → Option Outcome → Type 0
+abbrev pub Suits : Targets → Opens → Option Meaning → Plan → Option Outcome → Type 0
 Suits boxes comms boxed Nothing o = Unit {0}
 Suits boxes comms boxed (Register name kind notes) o = (m : Meaning) × IsNewcomer boxes name boxed m × (m.kind ≡ kind) × (m.notes ≡ notes)
 Suits boxes comms boxed (Unregister name) o = Unit {0}
@@ -149,6 +166,7 @@ abbrev pub back_of : Reply → Option Meaning → Option Meaning
 back_of reply.Registered boxed = None
 back_of r boxed = boxed
 
+-- what stands ready: the call, what a target gave, the reply, what goes out, what is to be done, and a target that was handed in
 pub record Readied : Type 0 where
   pub call : Call
   pub outcome : Option Outcome
@@ -170,8 +188,22 @@ pub record IsReady (s : State) (r : Readied) : Type 0 where
   pub ended : ended_by s.boxes r.plan ≡ ended_of s.boxes r.call
   pub back : back_by r.plan r.boxed ≡ back_of r.reply r.boxed
 
+-- what a call comes to can be carried out, or asked
+abbrev pub Stands : Targets → Opens → Call → Judged → Type 0
+Stands boxes comms c (judged.Done r out plan) = Suits (bare boxes) comms None plan None × (ended_by boxes plan ≡ ended_of boxes c)
+Stands boxes comms c (judged.Asked q) = CanAsk boxes comms q × ((bs : Targets) → ended_of bs c ≡ None)
+
+-- What came of a question: reply and outgoing of the step, an outcome that is allowed, and what is staged now.
+pub record HasAnswered (old : Targets) (comms : Opens) (q : Question) (o : Option Outcome) (r : Reply) (out : List Outgoing) (plan : Plan) (new : Targets) : Type 0 where
+  pub step_is : stepped (machine_of old comms) (Asked q) o ≡ Some (record { reply = r; outgoing = out; next = planned (machine_of old comms) plan o })
+  pub allowed : Allowed (machine_of old comms) (Some q) o
+  pub staged : HaveStaged new (staged_by plan o)
+  pub bare_is : bare new ≡ bare old
+  pub suits : Suits (bare new) comms None plan o
+  pub ended : ended_by new plan ≡ None
+
 -- What came of a call: reply and outgoing of the step, an outcome that is allowed, and what is staged now.
-pub record HasCome (limit : ℕ) (old : Targets) (comms : Comms) (c : Call) (o : Option Outcome) (r : Reply) (out : List Outgoing) (plan : Plan) (new : Targets) : Type 0 where
+pub record HasCome (limit : ℕ) (old : Targets) (comms : Opens) (c : Call) (o : Option Outcome) (r : Reply) (out : List Outgoing) (plan : Plan) (new : Targets) : Type 0 where
   pub step_is : step limit (machine_of old comms) c o ≡ Some (record { reply = r; outgoing = out; next = planned (machine_of old comms) plan o })
   pub allowed : Allowed (machine_of old comms) (asks limit (machine_of old comms) c) o
   pub staged : HaveStaged new (staged_by plan o)
@@ -193,6 +225,6 @@ is_memory fault.Memory = true
 is_memory f = false
 
 -- each target has the ids of its comms, and nothing staged
-abbrev pub AllAgree : Targets → Comms → Type 0
+abbrev pub AllAgree : Targets → Opens → Type 0
 AllAgree [] comms = Unit {0}
 AllAgree (e ∷ es) comms = (e.1.ids ≡ ids_of e.0 comms) × (e.1.staged ≡ None) × AllAgree es comms

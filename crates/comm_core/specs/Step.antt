@@ -105,9 +105,9 @@ judged limit m (Open id target version body) =
     if has m.comms id then stays m reply.IdInUse
     else if not (has m.targets target) then refused_open m id refusal.NoTarget
     else if is_full limit m then refused_open m id refusal.TooManyComms
-    else Asked (record { name = target; now = None; event = event.Open id version body })
+    else Asked (record { name = target; state = None; event = event.Open id version body })
 judged limit m (Msg id body) =
-    of_comm m (at m.comms id) (λ c. Asked (record { name = c.target; now = c.state; event = event.Msg id body }))
+    of_comm m (at m.comms id) (λ c. Asked (record { name = c.target; state = c.state; event = event.Msg id body }))
 judged limit m (Close id) = of_comm m (at m.comms id) (λ c. Done reply.Closed [] (closed m id))
 judged limit m (Unregister name) =
     if has m.targets name then Done (reply.Unregistered (ids_of name m.comms)) (map out.Close (ids_of name m.comms)) (unregistered m name)
@@ -117,10 +117,10 @@ judged limit m (Launch uuid target state) =
     else if not (has m.targets target) then stays m reply.NoTarget
     else if not (holds_widget (at m.targets target)) then stays m reply.NotWidget
     else if is_full limit m then stays m (reply.OpenRefused refusal.TooManyComms)
-    else Asked (record { name = target; now = None; event = event.Launch (comm_id uuid) state })
+    else Asked (record { name = target; state = None; event = event.Launch (comm_id uuid) state })
 judged limit m (Push id state) =
     of_comm m (at m.comms id)
-      (λ c. if holds_widget (at m.targets c.target) then Asked (record { name = c.target; now = c.state; event = event.Push id state })
+      (λ c. if holds_widget (at m.targets c.target) then Asked (record { name = c.target; state = c.state; event = event.Push id state })
             else stays m reply.NotWidget)
 judged limit m (Send id body) = of_comm m (at m.comms id) (λ c. Done (reply.Delivered None) (out.Msg id body ∷ []) m)
 judged limit m (HangUp id) = of_comm m (at m.comms id) (λ c. Done reply.Closed (out.Close id ∷ []) (closed m id))
@@ -194,8 +194,8 @@ asks limit m call = question_of (judged limit m call)
 
 abbrev pub Gives : Option Registered → Question → Outcome → Type 0
 Gives None q o = ⊥
-Gives (Some r) q (Ok a) = Answers r.kind r.notes q.now q.event a
-Gives (Some r) q (Err f) = Refuses r.kind r.notes q.now q.event f
+Gives (Some r) q (Ok a) = Answers r.kind r.notes q.state q.event a
+Gives (Some r) q (Err f) = Refuses r.kind r.notes q.state q.event f
 
 -- an outcome is there exactly where a target is asked, and it is one that its kind may give
 abbrev pub Allowed : Machine → Option Question → Option Outcome → Type 0

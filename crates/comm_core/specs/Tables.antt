@@ -13,8 +13,8 @@ pub record Table (X : Type 0) : Type 0 where
 abbrev pub Targets : Type 0
 Targets = List (Name × Meaning)
 
-abbrev pub Comms : Type 0
-Comms = List (Name × Comm)
+abbrev pub Opens : Type 0
+Opens = List (Name × Comm)
 
 -- what a target tells of itself
 abbrev pub registered_of : Meaning → Registered
@@ -23,7 +23,7 @@ registered_of m = record { kind = m.kind; notes = m.notes }
 abbrev pub targets_of : Targets → List (Name × Registered)
 targets_of boxes = map (λ e. (e.0, registered_of e.1)) boxes
 
-abbrev pub machine_of : Targets → Comms → Machine
+abbrev pub machine_of : Targets → Opens → Machine
 machine_of boxes comms = record { targets = targets_of boxes; comms = comms }
 
 -- a target whose comms are closed

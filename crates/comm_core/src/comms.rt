@@ -3,7 +3,7 @@ ghost use Rattle.std.specs.Prelude.{◌≡◌, ◌<◌, ◌≤◌, ◌++◌, tru
 ghost use Rattle.std.specs.Str.{bytes_eq};
 ghost use Rattle.comm_targets.specs.Meaning.{Meaning};
 ghost use Rattle.comm_core.specs.Machine.{at, has, without, with_at, ids_of, others};
-ghost use Rattle.comm_core.specs.Reads.{infos_in, passes};
+ghost use Rattle.comm_core.specs.Reads.{in_order, infos_in, passes};
 ghost use Rattle.comm_core.specs.Tables.{emptied};
 ghost use Rattle.comm_core.specs.declared.comm.Comm.{Comm};
 
@@ -13,6 +13,7 @@ use comm_targets::{Held, Target};
 use comm_value::{Dict, Text};
 use indexmap::IndexMap;
 use std::alloc::{AllocError, Global};
+use std::collections::BTreeMap;
 use std::marker::Model;
 
 /// The open comms in the order of opening, by their ids.
@@ -113,15 +114,19 @@ impl Comms {
         Ok(ids)
     }
 
-    /// The ids with the names of their targets, those of one target where a name is given, in the order of opening.
-    pub fn listed(&self, alloc: Global, target: Option<&Text>) -> Result<Vec<(Text, Text)>, AllocError>
-        ensures { IfOk result (λ v. v.items ≡ infos_in self.now.all (option_map (λ t. t.now) target.entry)) }
+    /// The ids with the names of their targets, those of one target where a name is given, in the byte order of the ids.
+    pub fn infos(
+        &self,
+        alloc: Global,
+        target: Option<&Text>,
+    ) -> Result<BTreeMap<Text, Text>, AllocError>
+        ensures { IfOk result (λ m. m.entries ≡ in_order (infos_in self.now.all (option_map (λ t. t.now) target.entry))) }
     {
-        let mut all = Vec::new(alloc);
+        let mut all = BTreeMap::new(alloc);
         for i in 0..self.all.len() {
             if let Some((id, comm)) = self.all.get_index(i) {
                 if is_asked_for(target, comm) {
-                    all.push((id.copy()?, comm.target.copy()?))?;
+                    all.insert(id.copy()?, comm.target.copy()?)?;
                 }
             }
         }

@@ -1,19 +1,28 @@
 //! A comm manager for one thread: targets by name, comms by id, and each call one step of a machine.
 #![tactic(auto)]
 
+mod ask;
 mod boxes;
 mod call;
 mod comm;
 mod comms;
+mod finish;
 mod ids;
+mod judge;
+mod laws;
 mod limits;
+mod manager;
+mod outgoing;
 mod plan;
 mod question;
+mod reads;
 mod reply;
 
 pub use call::Call;
 pub use comm::Comm;
 pub use ids::Ids;
+pub use laws::{exact_machines_leave_no_choice, steps_keep_machines_exact};
 pub use limits::{Limits, NewFault};
+pub use manager::{Core, Finished, Ready};
 pub use question::Question;
 pub use reply::{Refusal, Reply, StateAnswer};

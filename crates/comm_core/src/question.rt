@@ -1,10 +1,10 @@
 use comm_targets::Event;
 use comm_value::{Dict, Text};
 
-/// What a target is asked: the target of this name, of a comm whose state is `now`.
+/// What a target is asked: the target of this name, of a comm whose state is `state`.
 #[derive(Drop)]
 pub struct Question {
     pub name: Text,
-    pub now: Option<Dict>,
+    pub state: Option<Dict>,
     pub event: Event,
 }

@@ -423,46 +423,37 @@ fn writes_a_close(rt: HostRuntime) -> Result<(), Fail> {
     Ok(())
 }
 
+fn info(alloc: Global, comm: &str, target: &str) -> Result<Info, Fail> {
+    let id = Text::copy_of(alloc, comm)?;
+    let target = Text::copy_of(alloc, target)?;
+    Ok(Info { id, target })
+}
+
+fn two_comms(alloc: Global) -> Result<Infos, Fail> {
+    let mut all = Vec::new(alloc);
+    all.push(info(alloc, "a", "jupyter.widget")?)?;
+    all.push(info(alloc, "b", "t")?)?;
+    Ok(Infos::new(all))
+}
+
+fn reply(alloc: Global, comms: Infos, client: u8, front: u64) -> Result<String, Fail> {
+    let reply = Outgoing::InfoReply { comms };
+    written(alloc, &reply, &Parent::Read { client, front })
+}
+
 #[test]
 fn writes_the_open_comms(rt: HostRuntime) -> Result<(), Fail> {
     let alloc = rt.alloc();
-    let none = Outgoing::InfoReply {
-        comms: Infos::new(Vec::new(alloc)),
-    };
+    let none = reply(alloc, Infos::new(Vec::new(alloc)), 0, 0)?;
     assert_eq!(rt;
-        written(
-            alloc,
-            &none,
-            &Parent::Read {
-                client: 0,
-                front: 0
-            }
-        )?
-        .as_str(),
+        none.as_str(),
         r#"{"buffers":[],"client":0,"content":{"comms":{},"status":"ok"},"front":0,"header":{"msg_type":"comm_info_reply"},"metadata":{}}"#
     );
-    let mut all = Vec::new(alloc);
-    all.push(Info {
-        id: id(alloc, "a")?,
-        target: id(alloc, "jupyter.widget")?,
-    })?;
-    all.push(Info {
-        id: id(alloc, "b")?,
-        target: id(alloc, "t")?,
-    })?;
-    let two = Outgoing::InfoReply {
-        comms: Infos::new(all),
-    };
+    let comms = two_comms(alloc)?;
+    assert_eq!(rt; comms.as_slice().len(), 2);
+    let two = reply(alloc, comms, 2, 7)?;
     assert_eq!(rt;
-        written(
-            alloc,
-            &two,
-            &Parent::Read {
-                client: 2,
-                front: 7
-            }
-        )?
-        .as_str(),
+        two.as_str(),
         r#"{"buffers":[],"client":2,"content":{"comms":{"a":{"target_name":"jupyter.widget"},"b":{"target_name":"t"}},"status":"ok"},"front":7,"header":{"msg_type":"comm_info_reply"},"metadata":{}}"#
     );
     Ok(())

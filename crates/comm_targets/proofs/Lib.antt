@@ -1,2 +1,4 @@
 pub mod CounterCommit
+pub mod Ids
 pub mod Places
+pub mod Sends

@@ -4,3 +4,4 @@ pub mod Widget
 pub mod Answers
 pub mod Book
 pub mod Code
+pub mod Latest

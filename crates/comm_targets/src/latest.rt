@@ -1,4 +1,5 @@
-ghost use Rattle.std.specs.Prelude.{◌≡◌, [], None};
+ghost use Rattle.std.specs.Prelude.{◌≡◌, [], None, IfOk};
+ghost use Rattle.comm_targets.specs.Latest.{latest_of};
 
 use crate::answer::Answer;
 use crate::book::Book;
@@ -7,7 +8,7 @@ use crate::fault::TargetFault;
 use crate::kind::Kind;
 use crate::target::Target;
 use comm_value::Dict;
-use std::alloc::Global;
+use std::alloc::{AllocError, Global};
 
 /// A target of kind Free: a comm's state is the data that came last on it.
 ///
@@ -31,6 +32,20 @@ impl Latest {
     }
 }
 
+// The data of an opening or a message is the comm's state.
+fn answer_to(alloc: Global, event: &Event) -> Result<Answer, AllocError>
+    ensures { IfOk result (λ a. a ≡ latest_of event.now) }
+{
+    let mut answer = Answer::empty(alloc);
+    match event {
+        Event::Open { body, .. } => answer.state = Some(body.content().copy()?),
+        Event::Msg { body, .. } => answer.state = Some(body.content().copy()?),
+        Event::Launch { .. } => {}
+        Event::Push { .. } => {}
+    }
+    Ok(answer)
+}
+
 impl Target for Latest {
     ghost use Rattle.comm_targets.specs.declared.kind.Kind.TheVariants as kind;
 
@@ -49,13 +64,7 @@ impl Target for Latest {
     }
 
     fn prepare(&mut self, event: &Event, _now: Option<&Dict>) -> Result<Answer, TargetFault> {
-        let mut answer = Answer::empty(self.alloc);
-        match event {
-            Event::Open { body, .. } => answer.state = Some(body.content().copy()?),
-            Event::Msg { body, .. } => answer.state = Some(body.content().copy()?),
-            Event::Launch { .. } => {}
-            Event::Push { .. } => {}
-        }
+        let answer = answer_to(self.alloc, event)?;
         self.book.stage(self.alloc, event, &answer)?;
         Ok(answer)
     }

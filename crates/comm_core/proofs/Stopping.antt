@@ -1,0 +1,31 @@
+-- The targets of a settled manager, as they are ended.
+use Rattle.std.proofs.Common.{◌≡◌, ◌<◌, ℕ, Bool, true, false, List, [], ◌∷◌, ◌++◌, length, Option, None, Some, refl, ap, sym, ◌∙◌, subst, arith, length-append}
+use Rattle.std.specs.Str.{bytes_eq}
+use Rattle.comm_targets.specs.Meaning.{Meaning}
+use Rattle.comm_core.specs.Machine.{at, ids_of}
+use Rattle.comm_core.specs.Tables.{Targets, Opens}
+use Rattle.comm_core.specs.Ready.{State, AreDistinct, Agrees, HaveStaged, IsSound, AllAgree, bare, state}
+use Rattle.comm_core.proofs.Keys.{same_text, text_itself}
+use Rattle.comm_core.proofs.Staging.{bare-at, distinct-bare}
+
+each : (b : Targets) (c : Opens) → AreDistinct b → ((name : List ℕ) (m : Meaning) → at b name ≡ Some m → m.ids ≡ ids_of name c) → HaveStaged b (λ _. None) → AllAgree b c
+each [] c d ids none = tt
+each (e ∷ es) c d ids none =
+    let one : at (e ∷ es) e.0 ≡ Some e.1 = rw (text_itself e.0) in
+    let later : (name : List ℕ) (m : Meaning) → at es name ≡ Some m → at (e ∷ es) name ≡ Some m = λ name m there.
+    (elim (bytes_eq name e.0) as (λ x. bytes_eq name e.0 ≡ x → at (e ∷ es) name ≡ Some m) [
+      | true ↦ λ p. let q : at es e.0 ≡ Some m = subst (λ k. at es k ≡ Some m) (same_text name e.0 p) there in let z = d.0 in cc
+      | false ↦ λ p. rw p there
+    ]) refl in
+    (ids e.0 e.1 one, none e.0 e.1 one, each es c d.1 (λ name m there. ids name m (later name m there)) (λ name m there. none name m (later name m there)))
+
+pub all_agree : (b : Targets) (r : ℕ) (c : Opens) (s : ℕ) (z : Bool) → IsSound b r c s z → z ≡ true → AllAgree b c
+all_agree b r c s z h e = each b c (distinct-bare b h.agrees.names) (λ name m there. h.agrees.ids name _ (bare-at b name m there)) (h.unstaged e)
+
+pub all_but : (b : Targets) (n : List ℕ) (m : Meaning) (c : Opens) → AllAgree (b ++ (n, m) ∷ []) c → AllAgree b c × (m.ids ≡ ids_of n c) × (m.staged ≡ None)
+all_but [] n m c h = (tt, h.0, h.1)
+all_but (e ∷ es) n m c h = let r = all_but es n m c h.2 in ((h.0, h.1, r.0), r.1, r.2)
+
+pub shorter : (b : Targets) (n : List ℕ) (m : Meaning) → length b < length (b ++ (n, m) ∷ [])
+shorter [] n m = omega arith
+shorter (e ∷ es) n m = let more = shorter es n m in omega arith

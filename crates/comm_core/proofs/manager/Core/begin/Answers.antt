@@ -1,0 +1,29 @@
+use Rattle.std.proofs.Common.{◌≡◌, ap, sym, ◌∙◌, refl}
+use Rattle.comm_core.specs.Ready.{State}
+use Rattle.comm_core.proofs.Readying.{sound-settled, sound_begun, call_ready, came_step, came_allowed, came_machine, undone_is}
+use Rattle.comm_core.proofs.manager.Core.begin.Goals as goal
+
+pub invariant_of-self : goal.invariant_of-self
+invariant_of-self g c = sound-settled _ _ _ _ _ _ _ _ _ c.self.invariant c.reserve.ensures.all refl (ap (λ (s : State). s.settled) c.self.view_is ∙ c.requires.settled)
+
+pub invariant_of-self-in_err-reserve-2 : goal.invariant_of-self-in_err-reserve-2
+invariant_of-self-in_err-reserve-2 g c = sound-settled _ _ _ _ _ _ _ _ _ c.self.invariant c.reserve.ensures.all c.reserve-2.ensures.all (ap (λ (s : State). s.settled) c.self.view_is ∙ c.requires.settled)
+
+pub invariant_of-self-in_err-came : goal.invariant_of-self-in_err-came
+invariant_of-self-in_err-came g c = sound-settled _ _ _ _ _ _ _ _ _ c.self.invariant (c.in_err-came.ensures.err ∙ c.reserve.ensures.all) c.reserve-2.ensures.all (ap (λ (s : State). s.settled) c.self.view_is ∙ c.requires.settled)
+
+pub returns-clause-ready : goal.returns-clause-ready
+returns-clause-ready g c = call_ready _ _ _ _ _ _ _ _ _ c.in_ok-came.ensures.came
+
+pub returns-clause-allowed : goal.returns-clause-allowed
+returns-clause-allowed g c = came_allowed _ _ _ _ _ _ _ _ c.self.view_is c.reserve.ensures.all c.reserve-2.ensures.all _ _ _ _ _ c.in_ok-came.ensures.came
+
+pub returns-clause-step : goal.returns-clause-step
+returns-clause-step g c = came_step _ _ _ _ _ _ _ _ c.self.view_is c.reserve.ensures.all c.reserve-2.ensures.all _ _ _ _ _ c.in_ok-came.ensures.came
+
+pub returns-clause-machine : goal.returns-clause-machine
+returns-clause-machine g c = came_machine _ _ _ _ _ _ _ _ c.self.view_is c.reserve.ensures.all c.reserve-2.ensures.all _ _ _ _ _ c.in_ok-came.ensures.came
+
+pub returns-clause-undone : goal.returns-clause-undone
+returns-clause-undone g c =
+    undone_is _ _ _ _ c.comes_of.new.boxes.all _ _ _ _ _ c.self.view_is c.requires.settled c.self.invariant c.reserve.ensures.all c.reserve-2.ensures.all c.in_ok-came.ensures.came.bare_is

@@ -1,0 +1,13 @@
+use Rattle.std.proofs.Common.{◌≡◌, ap, sym, ◌∙◌, refl}
+use Rattle.comm_core.specs.Ready.{State}
+use Rattle.comm_core.proofs.Readying.{sound-settled, register_ready, undone_is}
+use Rattle.comm_core.proofs.manager.Core.begin_register.Goals as goal
+
+pub invariant_of-self : goal.invariant_of-self
+invariant_of-self g c = sound-settled _ _ _ _ _ _ _ _ _ c.self.invariant c.reserve.ensures.all refl (ap (λ (s : State). s.settled) c.self.view_is ∙ c.requires.settled)
+
+pub invariant_of-self-then-is_err-2 : goal.invariant_of-self-then-is_err-2
+invariant_of-self-then-is_err-2 g c = sound-settled _ _ _ _ _ _ _ _ _ c.self.invariant c.reserve.ensures.all c.reserve-2.ensures.all (ap (λ (s : State). s.settled) c.self.view_is ∙ c.requires.settled)
+
+pub returns-clause-undone : goal.returns-clause-undone
+returns-clause-undone g c = undone_is _ _ _ _ c.reserve.new.self.all _ _ _ _ _ c.self.view_is c.requires.settled c.self.invariant c.reserve.ensures.all c.reserve-2.ensures.all refl

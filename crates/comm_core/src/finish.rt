@@ -1,0 +1,188 @@
+//! How the plan of a call is carried out, and how it is taken back.
+ghost use Rattle.std.specs.Prelude.{◌≡◌, ◌<◌, Option, None, Some, Ok, option_map};
+ghost use Rattle.comm_targets.specs.Meaning.{Meaning};
+ghost use Rattle.comm_core.specs.Machine.{at};
+ghost use Rattle.comm_core.specs.Step.{Outcome, answered, closed, stated, unregistered};
+ghost use Rattle.comm_core.specs.Tables.{Opens, emptied, machine_of};
+ghost use Rattle.comm_core.specs.Ready.{AreDistinct, Agrees, Carried, HaveStaged, Suits, IdleWhere, bare, planned, staged_by, ended_by, back_by};
+ghost use Rattle.comm_core.specs.declared.comm.Comm.{Comm};
+ghost use Rattle.comm_core.specs.declared.plan.Plan.TheVariants.{Commit};
+
+use crate::boxes::Boxes;
+use crate::comm::Comm;
+use crate::comms::Comms;
+use crate::plan::Plan;
+use crate::question::Question;
+use comm_targets::{Answer, Event, Held, Target, TargetFault};
+use comm_value::{Dict, Text};
+
+/// What a change gives beside its reply.
+pub struct Made<T: Target> {
+    pub ended: Option<Held<T>>,
+    pub back: Option<T>,
+}
+
+/// Carries the plan out.
+pub fn make<T: Target>(
+    boxes: &mut Boxes<T>,
+    comms: &mut Comms,
+    plan: Plan,
+    outcome: Option<Result<Answer, TargetFault>>,
+    boxed: Option<T>,
+) -> Made<T>
+    requires room { 0 < boxes.old.room }
+    requires space { 0 < comms.old.room }
+    requires agrees { Agrees (bare boxes.old.all) comms.old.all }
+    requires staged { HaveStaged boxes.old.all (staged_by plan outcome) }
+    requires suits { Suits (bare boxes.old.all) comms.old.all (option_map T.means boxed) plan outcome }
+    ensures carried { Carried boxes.new.all comms.new.all (planned (machine_of boxes.old.all comms.old.all) plan outcome) }
+    ensures ended { result.ended ≡ ended_by boxes.old.all plan }
+    ensures idle { IdleWhere result.ended }
+    ensures back { option_map T.means result.back ≡ back_by plan (option_map T.means boxed) }
+{
+    match plan {
+        Plan::Nothing => Made {
+            ended: None,
+            back: boxed,
+        },
+        Plan::Register { name, .. } => match boxed {
+            Some(target) => {
+                boxes.push(name, Held::new(target));
+                Made {
+                    ended: None,
+                    back: None,
+                }
+            }
+            None => Made {
+                ended: None,
+                back: None,
+            },
+        },
+        Plan::Unregister { name } => {
+            let ended = unregister(boxes, comms, &name);
+            Made { ended, back: boxed }
+        }
+        Plan::Close { id } => {
+            close(boxes, comms, &id);
+            Made {
+                ended: None,
+                back: boxed,
+            }
+        }
+        Plan::Commit(question) => match outcome {
+            Some(Ok(answer)) => {
+                commit(boxes, comms, question, answer);
+                Made {
+                    ended: None,
+                    back: boxed,
+                }
+            }
+            Some(Err(_)) => Made {
+                ended: None,
+                back: boxed,
+            },
+            None => Made {
+                ended: None,
+                back: boxed,
+            },
+        },
+    }
+}
+
+/// Makes the change that the target staged, and notes its comm.
+fn commit<T: Target>(
+    boxes: &mut Boxes<T>,
+    comms: &mut Comms,
+    question: Question,
+    answer: Answer,
+)
+    requires space { 0 < comms.old.room }
+    requires agrees { Agrees (bare boxes.old.all) comms.old.all }
+    requires staged { HaveStaged boxes.old.all (staged_by (Commit question) (Some (Ok answer))) }
+    requires suits { Suits (bare boxes.old.all) comms.old.all None (Commit question) (Some (Ok answer)) }
+    ensures { Carried boxes.new.all comms.new.all (answered (machine_of boxes.old.all comms.old.all) question.name question.event answer).next }
+{
+    boxes.commit(&question.name);
+    let Question {
+        name,
+        state: _,
+        event,
+    } = question;
+    let state = answer.state;
+    match event {
+        Event::Open { id, .. } => comms.insert(
+            id,
+            Comm {
+                target: name,
+                state,
+            },
+        ),
+        Event::Launch { id, .. } => comms.insert(
+            id,
+            Comm {
+                target: name,
+                state,
+            },
+        ),
+        Event::Msg { id, .. } => note_state(comms, &id, state),
+        Event::Push { id, .. } => note_state(comms, &id, state),
+    }
+}
+
+/// The comm's new state, where the answer has one.
+fn note_state(comms: &mut Comms, id: &Text, state: Option<Dict>)
+    ensures { (c : Comm) → at comms.old.all id.now ≡ Some c → comms.new.all ≡ stated comms.old.all id.now c.target state }
+{
+    if let Some(state) = state {
+        comms.set_state(id, state);
+    }
+}
+
+/// Takes a comm out, in its target first.
+fn close<T: Target>(boxes: &mut Boxes<T>, comms: &mut Comms, id: &Text)
+    requires agrees { Agrees (bare boxes.old.all) comms.old.all }
+    requires none { HaveStaged boxes.old.all (λ _. None) }
+    ensures { Carried boxes.new.all comms.new.all (closed (machine_of boxes.old.all comms.old.all) id.now) }
+{
+    if let Some(comm) = comms.take(id) {
+        boxes.close(&comm.target, id);
+    }
+}
+
+/// Takes a target out with its comms, which are closed in it.
+fn unregister<T: Target>(
+    boxes: &mut Boxes<T>,
+    comms: &mut Comms,
+    name: &Text,
+) -> Option<Held<T>>
+    requires agrees { Agrees (bare boxes.old.all) comms.old.all }
+    requires none { HaveStaged boxes.old.all (λ _. None) }
+    ensures tables { Carried boxes.new.all comms.new.all (unregistered (machine_of boxes.old.all comms.old.all) name.now) }
+    ensures ended { result ≡ option_map emptied (at boxes.old.all name.now) }
+    ensures idle { IdleWhere result }
+{
+    let taken = match boxes.take(name) {
+        Some(mut held) => {
+            comms.close_those_of(name, &mut held);
+            Some(held)
+        }
+        None => None,
+    };
+    comms.remove_those_of(name);
+    taken
+}
+
+/// Takes back what the plan's target staged.
+pub fn unmake<T: Target>(boxes: &mut Boxes<T>, plan: &Plan)
+    requires distinct { AreDistinct (bare boxes.old.all) }
+    requires staged { (c : Opens) × (boxed : Option Meaning) × (o : Option Outcome) × Suits (bare boxes.old.all) c boxed plan.now o × HaveStaged boxes.old.all (staged_by plan.now o) }
+    ensures { boxes.new.all ≡ bare boxes.old.all }
+{
+    match plan {
+        Plan::Commit(question) => boxes.abandon(&question.name),
+        Plan::Nothing => {}
+        Plan::Register { .. } => {}
+        Plan::Unregister { .. } => {}
+        Plan::Close { .. } => {}
+    }
+}

@@ -1,0 +1,293 @@
+//! What a call comes to before a target is asked.
+ghost use Rattle.std.specs.Prelude.{◌≡◌, ℕ, List, IfOk, None};
+ghost use Rattle.comm_targets.specs.declared.event.Event.TheVariants as event;
+ghost use Rattle.comm_core.specs.Machine.{Machine};
+ghost use Rattle.comm_core.specs.Step.{judged, stays, refused_open, comm_id};
+ghost use Rattle.comm_core.specs.Tables.{Targets, Opens, machine_of};
+ghost use Rattle.comm_core.specs.Ready.{Agrees, bare, verdict_of, ended_of, Stands, HandsNothingIn};
+ghost use Rattle.comm_core.specs.declared.call.Call.{Call};
+ghost use Rattle.comm_core.specs.declared.call.Call.TheVariants as call;
+
+use crate::boxes::Boxes;
+use crate::call::Call;
+use crate::comm::Comm;
+use crate::comms::Comms;
+use crate::outgoing::{closing, closings, comm_id, one};
+use crate::plan::{Judged, Plan};
+use crate::question::Question;
+use crate::reply::{Refusal, Reply};
+use comm_messages::{Body, Outgoing};
+use comm_targets::{Event, Target};
+use comm_value::{Dict, Text};
+use std::alloc::{AllocError, Global};
+use uuid::Uuid;
+
+/// The first of a call's tests that holds, or else what the call does.
+pub fn judge<T: Target>(
+    boxes: &Boxes<T>,
+    comms: &Comms,
+    limit: usize,
+    alloc: Global,
+    call: &Call,
+) -> Result<Judged, AllocError>
+    requires call { HandsNothingIn call.now }
+    requires agrees { Agrees (bare boxes.now.all) comms.now.all }
+    ensures verdict { IfOk result (λ j. verdict_of (machine_of boxes.now.all comms.now.all) j ≡ judged limit (machine_of boxes.now.all comms.now.all) call.now) }
+    ensures stands { IfOk result (λ j. Stands boxes.now.all comms.now.all call.now j) }
+{
+    match call {
+        Call::Open {
+            id,
+            target,
+            version,
+            body,
+        } => judge_open(boxes, comms, limit, alloc, id, target, version, body),
+        Call::Msg { id, body } => judge_msg(boxes, comms, alloc, id, body),
+        Call::Close { id } => judge_close(comms, alloc, id),
+        Call::Unregister { name } => judge_unregister(boxes, comms, alloc, name),
+        Call::Launch { id, target, state } => {
+            let id = comm_id(alloc, id)?;
+            judge_launch(boxes, comms, limit, alloc, id, target, state)
+        }
+        Call::Push { id, state } => judge_push(boxes, comms, alloc, id, state),
+        Call::Send { id, body } => judge_send(comms, alloc, id, body),
+        Call::HangUp { id } => judge_hang_up(comms, alloc, id),
+        Call::Register { .. } => Err(AllocError),
+    }
+}
+
+/// The reply to a call that changes nothing and sends nothing.
+fn stays(alloc: Global, reply: Reply) -> Judged
+    ensures verdict { (m : Machine) → verdict_of m result ≡ stays m reply }
+    ensures stands { (boxes : Targets) (comms : Opens) (c : Call) → ended_of boxes c ≡ None → Stands boxes comms c result }
+{
+    Judged::Done(reply, Vec::new(alloc), Plan::Nothing)
+}
+
+/// The reply to an open that is refused before its target is asked.
+fn refused_open(alloc: Global, id: &Text, why: Refusal) -> Result<Judged, AllocError>
+    ensures verdict { IfOk result (λ j. (m : Machine) → verdict_of m j ≡ refused_open m id.now why) }
+    ensures stands { IfOk result (λ j. (boxes : Targets) (comms : Opens) (c : Call) → ended_of boxes c ≡ None → Stands boxes comms c j) }
+{
+    let outgoing = closing(alloc, id)?;
+    Ok(Judged::Done(
+        Reply::OpenRefused(why),
+        outgoing,
+        Plan::Nothing,
+    ))
+}
+
+fn judge_open<T: Target>(
+    boxes: &Boxes<T>,
+    comms: &Comms,
+    limit: usize,
+    alloc: Global,
+    id: &Text,
+    target: &Text,
+    version: &Option<Text>,
+    body: &Body,
+) -> Result<Judged, AllocError>
+    ensures verdict { IfOk result (λ j. verdict_of (machine_of boxes.now.all comms.now.all) j ≡ judged limit (machine_of boxes.now.all comms.now.all) (call.Open id.now target.now version.now body.now)) }
+    ensures stands { IfOk result (λ j. Stands boxes.now.all comms.now.all (call.Open id.now target.now version.now body.now) j) }
+{
+    if comms.contains(id) {
+        return Ok(stays(alloc, Reply::IdInUse));
+    }
+    if !boxes.contains(target) {
+        return refused_open(alloc, id, Refusal::NoTarget);
+    }
+    if comms.is_full(limit) {
+        return refused_open(alloc, id, Refusal::TooManyComms);
+    }
+    let name = target.copy()?;
+    let event = open_event(alloc, id, version, body)?;
+    Ok(Judged::Asked(Question {
+        name,
+        state: None,
+        event,
+    }))
+}
+
+fn open_event(
+    alloc: Global,
+    id: &Text,
+    version: &Option<Text>,
+    body: &Body,
+) -> Result<Event, AllocError>
+    ensures { IfOk result (λ e. e ≡ event.Open id.now version.now body.now) }
+{
+    let id = id.copy()?;
+    let version = match version {
+        Some(version) => Some(version.copy()?),
+        None => None,
+    };
+    let body = body.copy(alloc)?;
+    Ok(Event::Open { id, version, body })
+}
+
+fn judge_msg<T: Target>(
+    boxes: &Boxes<T>,
+    comms: &Comms,
+    alloc: Global,
+    id: &Text,
+    body: &Body,
+) -> Result<Judged, AllocError>
+    requires { Agrees (bare boxes.now.all) comms.now.all }
+    ensures verdict { (limit : ℕ) → IfOk result (λ j. verdict_of (machine_of boxes.now.all comms.now.all) j ≡ judged limit (machine_of boxes.now.all comms.now.all) (call.Msg id.now body.now)) }
+    ensures stands { IfOk result (λ j. Stands boxes.now.all comms.now.all (call.Msg id.now body.now) j) }
+{
+    let Some(comm) = comms.get(id) else {
+        return Ok(stays(alloc, Reply::NoComm));
+    };
+    let name = comm.target.copy()?;
+    let state_now = state_copy(comm)?;
+    let event = Event::Msg {
+        id: id.copy()?,
+        body: body.copy(alloc)?,
+    };
+    Ok(Judged::Asked(Question {
+        name,
+        state: state_now,
+        event,
+    }))
+}
+
+/// The comm's state, shared.
+pub fn state_copy(comm: &Comm) -> Result<Option<Dict>, AllocError>
+    ensures { IfOk result (λ s. s ≡ comm.now.state) }
+{
+    match &comm.state {
+        Some(state) => Ok(Some(state.copy()?)),
+        None => Ok(None),
+    }
+}
+
+fn judge_close(comms: &Comms, alloc: Global, id: &Text) -> Result<Judged, AllocError>
+    ensures verdict { (limit : ℕ) (boxes : Targets) → IfOk result (λ j. verdict_of (machine_of boxes comms.now.all) j ≡ judged limit (machine_of boxes comms.now.all) (call.Close id.now)) }
+    ensures stands { (boxes : Targets) → IfOk result (λ j. Stands boxes comms.now.all (call.Close id.now) j) }
+{
+    if !comms.contains(id) {
+        return Ok(stays(alloc, Reply::NoComm));
+    }
+    let plan = Plan::Close { id: id.copy()? };
+    Ok(Judged::Done(Reply::Closed, Vec::new(alloc), plan))
+}
+
+fn judge_unregister<T: Target>(
+    boxes: &Boxes<T>,
+    comms: &Comms,
+    alloc: Global,
+    name: &Text,
+) -> Result<Judged, AllocError>
+    ensures verdict { (limit : ℕ) → IfOk result (λ j. verdict_of (machine_of boxes.now.all comms.now.all) j ≡ judged limit (machine_of boxes.now.all comms.now.all) (call.Unregister name.now)) }
+    ensures stands { IfOk result (λ j. Stands boxes.now.all comms.now.all (call.Unregister name.now) j) }
+{
+    if !boxes.contains(name) {
+        return Ok(stays(alloc, Reply::NoTarget));
+    }
+    let ids = comms.ids_of(alloc, name)?;
+    let outgoing = closings(alloc, ids.as_slice())?;
+    let plan = Plan::Unregister {
+        name: name.copy()?,
+    };
+    Ok(Judged::Done(Reply::Unregistered(ids), outgoing, plan))
+}
+
+fn judge_launch<T: Target>(
+    boxes: &Boxes<T>,
+    comms: &Comms,
+    limit: usize,
+    alloc: Global,
+    id: Text,
+    target: &Text,
+    state: &Dict,
+) -> Result<Judged, AllocError>
+    ensures verdict { (uuid : List ℕ) → id ≡ comm_id uuid → IfOk result (λ j. verdict_of (machine_of boxes.now.all comms.now.all) j ≡ judged limit (machine_of boxes.now.all comms.now.all) (call.Launch uuid target.now state.now)) }
+    ensures stands { (uuid : List ℕ) → IfOk result (λ j. Stands boxes.now.all comms.now.all (call.Launch uuid target.now state.now) j) }
+{
+    if comms.contains(&id) {
+        return Ok(stays(alloc, Reply::IdInUse));
+    }
+    if !boxes.contains(target) {
+        return Ok(stays(alloc, Reply::NoTarget));
+    }
+    if !boxes.has_widget(target) {
+        return Ok(stays(alloc, Reply::NotWidget));
+    }
+    if comms.is_full(limit) {
+        return Ok(stays(alloc, Reply::OpenRefused(Refusal::TooManyComms)));
+    }
+    let name = target.copy()?;
+    let state = state.copy()?;
+    Ok(Judged::Asked(Question {
+        name,
+        state: None,
+        event: Event::Launch { id, state },
+    }))
+}
+
+fn judge_push<T: Target>(
+    boxes: &Boxes<T>,
+    comms: &Comms,
+    alloc: Global,
+    id: &Text,
+    state: &Dict,
+) -> Result<Judged, AllocError>
+    requires { Agrees (bare boxes.now.all) comms.now.all }
+    ensures verdict { (limit : ℕ) → IfOk result (λ j. verdict_of (machine_of boxes.now.all comms.now.all) j ≡ judged limit (machine_of boxes.now.all comms.now.all) (call.Push id.now state.now)) }
+    ensures stands { IfOk result (λ j. Stands boxes.now.all comms.now.all (call.Push id.now state.now) j) }
+{
+    let Some(comm) = comms.get(id) else {
+        return Ok(stays(alloc, Reply::NoComm));
+    };
+    if !boxes.has_widget(&comm.target) {
+        return Ok(stays(alloc, Reply::NotWidget));
+    }
+    let name = comm.target.copy()?;
+    let state_now = state_copy(comm)?;
+    let event = Event::Push {
+        id: id.copy()?,
+        state: state.copy()?,
+    };
+    Ok(Judged::Asked(Question {
+        name,
+        state: state_now,
+        event,
+    }))
+}
+
+fn judge_send(
+    comms: &Comms,
+    alloc: Global,
+    id: &Text,
+    body: &Body,
+) -> Result<Judged, AllocError>
+    ensures verdict { (limit : ℕ) (boxes : Targets) → IfOk result (λ j. verdict_of (machine_of boxes comms.now.all) j ≡ judged limit (machine_of boxes comms.now.all) (call.Send id.now body.now)) }
+    ensures stands { (boxes : Targets) → IfOk result (λ j. Stands boxes comms.now.all (call.Send id.now body.now) j) }
+{
+    if !comms.contains(id) {
+        return Ok(stays(alloc, Reply::NoComm));
+    }
+    let message = Outgoing::Msg {
+        id: id.copy()?,
+        body: body.copy(alloc)?,
+    };
+    let outgoing = one(alloc, message)?;
+    Ok(Judged::Done(
+        Reply::Delivered(None),
+        outgoing,
+        Plan::Nothing,
+    ))
+}
+
+fn judge_hang_up(comms: &Comms, alloc: Global, id: &Text) -> Result<Judged, AllocError>
+    ensures verdict { (limit : ℕ) (boxes : Targets) → IfOk result (λ j. verdict_of (machine_of boxes comms.now.all) j ≡ judged limit (machine_of boxes comms.now.all) (call.HangUp id.now)) }
+    ensures stands { (boxes : Targets) → IfOk result (λ j. Stands boxes comms.now.all (call.HangUp id.now) j) }
+{
+    if !comms.contains(id) {
+        return Ok(stays(alloc, Reply::NoComm));
+    }
+    let outgoing = closing(alloc, id)?;
+    let plan = Plan::Close { id: id.copy()? };
+    Ok(Judged::Done(Reply::Closed, outgoing, plan))
+}

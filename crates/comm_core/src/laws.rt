@@ -1,0 +1,16 @@
+//! Laws of the definitions. Each is the contract of a function that does nothing.
+ghost use Rattle.std.specs.Prelude.{◌≡◌, ℕ, Option, Some, true, false};
+ghost use Rattle.comm_core.specs.Machine.{Machine};
+ghost use Rattle.comm_core.specs.Step.{Outcome, Stepped, Allowed, asks, step};
+ghost use Rattle.comm_core.specs.Exact.{is_exact, exact_outcome, registers_free};
+ghost use Rattle.comm_core.specs.declared.call.Call.{Call};
+
+/// Where no target is Free, the only outcome that is allowed is that of the definitions of the other kinds.
+pub fn exact_machines_leave_no_choice()
+    ensures { (limit : ℕ) (m : Machine) (c : Call) (o : Option Outcome) → is_exact m ≡ true → Allowed m (asks limit m c) o → o ≡ exact_outcome limit m c }
+{}
+
+/// A step keeps a machine without Free targets so, unless it registers one.
+pub fn steps_keep_machines_exact()
+    ensures { (limit : ℕ) (m : Machine) (c : Call) (o : Option Outcome) (s : Stepped) → is_exact m ≡ true → registers_free c ≡ false → step limit m c o ≡ Some s → is_exact s.next ≡ true }
+{}

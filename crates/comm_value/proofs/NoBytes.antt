@@ -1,0 +1,144 @@
+-- Values in which no bytes stand.
+use Rattle.std.proofs.Common.{◌≡◌, ℕ, suc, List, [], ◌∷◌, map, Bool, true, false, cond, Ordering, Less, Equal, Greater, refl, sym, ap, ◌∙◌}
+use Rattle.std.specs.Prelude.{◌||◌, Option, Some, None, option_map, option_and_then}
+use Rattle.std.specs.Ordering.{is_eq, match_ordering}
+use Rattle.serde_json.specs.Data as json
+use Rattle.comm_value.specs.declared.path.Step.TheVariants.{Key, Index}
+use Rattle.comm_value.specs.Tree.{Tree, null, boolean, whole, text, bytes, list, dict, Items, no_items, item, Members, no_members, member}
+use Rattle.comm_value.specs.Node.{Path, get}
+use Rattle.comm_value.specs.Order.{key_cmp}
+use Rattle.comm_value.specs.Put.{insert}
+use Rattle.comm_value.specs.FromJson.{tree_of, items_of, members_of, whole_of}
+use Rattle.comm_value.specs.Paths.{items_from, step_tree, path_tree, paths_tree}
+use Rattle.comm_value.specs.Places.{has_bytes, items_have_bytes, members_have_bytes, plain, plain_item, plain_items, plain_members, is_buffer}
+use Rattle.comm_value.proofs.BytesLemmas.{neither}
+use Rattle.comm_value.proofs.PlainLemmas.{item_plain, member_kept, member_gone}
+
+pub both_none : (a b : Bool) → a ≡ false → b ≡ false → (a || b) ≡ false
+both_none a b p q = ap (λ c. c || b) p ∙ q
+
+-- a fact on what there may be
+abbrev Free : {A : Type 0} → (A → Bool) → Option A → Type 0
+Free test None = Unit {0}
+Free test (Some x) = test x ≡ false
+
+free_some : {A : Type 0} (test : A → Bool) (o : Option A) (x : A) → o ≡ Some x → Free test o → test x ≡ false
+free_some test None x h f = cc
+free_some test (Some y) x h f = let same : y ≡ x = cc in ap test (sym same) ∙ f
+
+free_map : {A B : Type 0} (test : B → Bool) (of : A → Bool) (f : A → B) (o : Option A) → ((x : A) → of x ≡ false → test (f x) ≡ false) → Free of o → Free test (option_map f o)
+free_map test of f None h g = tt
+free_map test of f (Some x) h g = h x g
+
+-- ---- what was read as JSON
+
+leaf_free : (o : Option Tree) → ((t : Tree) → o ≡ Some t → has_bytes t ≡ false) → Free has_bytes o
+leaf_free None f = tt
+leaf_free (Some t) f = f t refl
+
+number_free : (n : json.Num) → Free has_bytes (option_map whole (whole_of n))
+number_free n = free_map has_bytes (λ z. false) whole (whole_of n) (λ z h. refl) (no_test (whole_of n))
+  where
+    no_test : {A : Type 0} (o : Option A) → Free (λ x. false) o
+    no_test None = tt
+    no_test (Some x) = refl
+
+item_free : (o : Option Tree) (rest : Option Items) → Free has_bytes o → Free items_have_bytes rest → Free items_have_bytes (option_and_then (λ t. option_map (item t) rest) o)
+item_free None rest f g = tt
+item_free (Some t) None f g = tt
+item_free (Some t) (Some ts) f g = both_none (has_bytes t) (items_have_bytes ts) f g
+
+member_free : (k : List ℕ) (o : Option Tree) (rest : Option Members) → Free has_bytes o → Free members_have_bytes rest → Free members_have_bytes (option_and_then (λ t. option_map (member k t) rest) o)
+member_free k None rest f g = tt
+member_free k (Some t) None f g = tt
+member_free k (Some t) (Some ms) f g = both_none (has_bytes t) (members_have_bytes ms) f g
+
+mutual
+  tree_free : (d : json.Data) → Free has_bytes (tree_of d)
+  tree_free json.null = refl
+  tree_free (json.boolean b) = refl
+  tree_free (json.number n) = number_free n
+  tree_free (json.string s) = refl
+  tree_free (json.array ds) = free_map has_bytes items_have_bytes list (items_of ds) (λ x h. h) (items_free ds)
+  tree_free (json.object ms) = free_map has_bytes members_have_bytes dict (members_of ms) (λ x h. h) (members_free ms)
+
+  items_free : (ds : json.Items) → Free items_have_bytes (items_of ds)
+  items_free json.no_items = refl
+  items_free (json.item d ds) = item_free (tree_of d) (items_of ds) (tree_free d) (items_free ds)
+
+  members_free : (ms : json.Members) → Free members_have_bytes (members_of ms)
+  members_free json.no_members = refl
+  members_free (json.member k d ms) = member_free k (tree_of d) (members_of ms) (tree_free d) (members_free ms)
+
+pub read_value : (d : json.Data) (t : Tree) → tree_of d ≡ Some t → has_bytes t ≡ false
+read_value d t h = free_some has_bytes (tree_of d) t h (tree_free d)
+
+pub read_members : (ds : json.Members) (ms : Members) → members_of ds ≡ Some ms → members_have_bytes ms ≡ false
+read_members ds ms h = free_some members_have_bytes (members_of ds) ms h (members_free ds)
+
+-- ---- without its bytes
+
+member_case : (k : List ℕ) (t : Tree) (ms : Members) (b : Bool) → is_buffer t ≡ b → (is_buffer t ≡ false → has_bytes (plain t) ≡ false) → members_have_bytes (plain_members ms) ≡ false
+    → members_have_bytes (plain_members (member k t ms)) ≡ false
+member_case k t ms true e f h = ap members_have_bytes (member_gone k t ms e) ∙ h
+member_case k t ms false e f h = ap members_have_bytes (member_kept k t ms e) ∙ both_none (has_bytes (plain t)) _ (f e) h
+
+item_case : (t : Tree) → (is_buffer t ≡ false → has_bytes (plain t) ≡ false) → has_bytes (plain_item t) ≡ false
+item_case null f = refl
+item_case (boolean b) f = refl
+item_case (whole z) f = refl
+item_case (text s) f = refl
+item_case (bytes b) f = refl
+item_case (list ts) f = f refl
+item_case (dict ms) f = f refl
+
+mutual
+  plain_free : (t : Tree) → is_buffer t ≡ false → has_bytes (plain t) ≡ false
+  plain_free null h = refl
+  plain_free (boolean b) h = refl
+  plain_free (whole z) h = refl
+  plain_free (text s) h = refl
+  plain_free (bytes b) h = cc
+  plain_free (list ts) h = plain_items_free ts
+  plain_free (dict ms) h = plain_members_free ms
+
+  plain_items_free : (ts : Items) → items_have_bytes (plain_items ts) ≡ false
+  plain_items_free no_items = refl
+  plain_items_free (item t ts) =
+      ap items_have_bytes (item_plain t ts) ∙ both_none (has_bytes (plain_item t)) _ (item_case t (λ h. plain_free t h)) (plain_items_free ts)
+
+  pub plain_members_free : (ms : Members) → members_have_bytes (plain_members ms) ≡ false
+  plain_members_free no_members = refl
+  plain_members_free (member k t ms) = member_case k t ms (is_buffer t) refl (λ h. plain_free t h) (plain_members_free ms)
+
+-- ---- lists of paths
+
+steps_free : (p : Path) → items_have_bytes (items_from (map step_tree p)) ≡ false
+steps_free [] = refl
+steps_free (Key k ∷ p) = steps_free p
+steps_free (Index n ∷ p) = steps_free p
+
+pub paths_free : (ps : List Path) → has_bytes (paths_tree ps) ≡ false
+paths_free [] = refl
+paths_free (p ∷ ps) = both_none (has_bytes (path_tree p)) _ (steps_free p) (paths_free ps)
+
+-- ---- at a key
+
+insert_case : (k : List ℕ) (t : Tree) (l : List ℕ) (u : Tree) (ms : Members) (o : Ordering) → has_bytes t ≡ false → members_have_bytes (member l u ms) ≡ false → members_have_bytes (insert k t ms) ≡ false
+    → members_have_bytes (match_ordering o (member k t (member l u ms)) (member k t ms) (member l u (insert k t ms))) ≡ false
+insert_case k t l u ms Less f h r = both_none (has_bytes t) _ f h
+insert_case k t l u ms Equal f h r = both_none (has_bytes t) _ f (neither (has_bytes u) _ h).1
+insert_case k t l u ms Greater f h r = both_none (has_bytes u) _ (neither (has_bytes u) (members_have_bytes ms) h).0 r
+
+pub insert_free : (k : List ℕ) (t : Tree) (ms : Members) → has_bytes t ≡ false → members_have_bytes ms ≡ false → members_have_bytes (insert k t ms) ≡ false
+insert_free k t no_members f h = both_none (has_bytes t) false f refl
+insert_free k t (member l u ms) f h = insert_case k t l u ms (key_cmp k l) f h (insert_free k t ms f (neither (has_bytes u) (members_have_bytes ms) h).1)
+
+got_case : (x : Bool) (t c : Tree) (rest : Option Tree) → has_bytes t ≡ false → (rest ≡ Some c → has_bytes c ≡ false) → cond x (Some t) rest ≡ Some c → has_bytes c ≡ false
+got_case true t c rest f r h = let same : t ≡ c = cc in ap has_bytes (sym same) ∙ f
+got_case false t c rest f r h = r h
+
+pub get_free : (k : List ℕ) (ms : Members) (c : Tree) → members_have_bytes ms ≡ false → get k ms ≡ Some c → has_bytes c ≡ false
+get_free k no_members c f h = cc
+get_free k (member l t ms) c f h =
+    let p = neither (has_bytes t) (members_have_bytes ms) f in got_case (is_eq (key_cmp k l)) t c (get k ms) p.0 (λ e. get_free k ms c p.1 e) h
