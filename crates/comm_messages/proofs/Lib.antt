@@ -1,3 +1,4 @@
 pub mod ObjectLemmas
 pub mod BufferLemmas
 pub mod NoBytes
+pub mod WriteLemmas

@@ -3,3 +3,5 @@ pub mod Gives
 pub mod Fields
 pub mod Buffers
 pub mod Message
+pub mod Text
+pub mod Parts

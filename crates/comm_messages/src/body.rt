@@ -35,6 +35,15 @@ impl Body {
         Body { content, buffers }
     }
 
+    /// The same body. Its members and its buffers are shared.
+    pub fn copy(&self, alloc: Global) -> Result<Body, AllocError>
+        ensures { IfOk result (λ b. b ≡ self.now) }
+    {
+        let content = self.content.copy()?;
+        let buffers = self.buffers.copy(alloc)?;
+        Ok(Body { content, buffers })
+    }
+
     /// The message's `data`.
     pub fn content(&self) -> &Dict
         ensures content { result.now ≡ self.now.content }

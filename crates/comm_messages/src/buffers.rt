@@ -19,7 +19,7 @@ pub fn buffers_of(alloc: Global, value: Option<&Value>) -> Result<Buffers, Messa
     ensures { Gives (λ b. b) result (buffers_of (seen value.entry)) }
 {
     match value {
-        None | Some(Value::Null) => Ok(Buffers::new(Vec::new(alloc))),
+        None | Some(Value::Null) => Ok(Buffers::none(alloc)),
         Some(Value::Array(texts)) => decoded_all(alloc, texts),
         Some(_) => Err(MessageFault::BadContent(Field::Buffers)),
     }

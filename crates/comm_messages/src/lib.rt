@@ -6,7 +6,9 @@ mod buffers;
 mod fault;
 mod fields;
 mod incoming;
+mod outgoing;
 mod read;
+mod write;
 
 pub use body::Body;
 pub use buffers::buffers_of;
@@ -15,4 +17,6 @@ pub use fields::{
     Fields, client_of, fields_of, member, object_in, object_or_empty, text, whole_dict,
 };
 pub use incoming::Incoming;
+pub use outgoing::{Outgoing, Parent};
 pub use read::{message_of, read_message};
+pub use write::{append_message, write_message};

@@ -1,0 +1,81 @@
+-- Texts that are written one after the other.
+use Rattle.std.proofs.Common.{◌≡◌, ◌+◌, ◌<◌, ℕ, suc, Bool, true, false, nat_lt, List, [], ◌∷◌, ◌++◌, map, length, get_or, drop, refl, sym, ap, ◌∙◌, arith, append_assoc, codes, decimal}
+use Rattle.std.proofs.lemmas.Bool.{lt-ltb}
+use Rattle.std.proofs.Math.Seq.{drop-cons}
+use Rattle.base64.specs.GeneralPurpose.{encode_of}
+use Rattle.base64.specs.Engines.{standard}
+use Rattle.json.specs.Print.{quoted}
+use Rattle.serde_json.specs.Written.{comma_if, items_text, compact_text}
+use Rattle.serde_json.specs.Data.{object}
+use Rattle.comm_value.specs.ToJson.{json_members}
+use Rattle.comm_messages.specs.Content.{Content}
+use Rattle.serde_json.proofs.OnLiterals.{serde_json_on_literals}
+use Rattle.comm_messages.specs.Text.{buffer_texts, text}
+use Rattle.comm_messages.specs.Parts.{Appends, buffers_text, parent_text, content_text, end_text}
+use Rattle.comm_messages.specs.declared.outgoing.Outgoing.{Outgoing}
+use Rattle.comm_messages.specs.declared.outgoing.Outgoing.TheVariants.{Open, Msg, Close}
+use Rattle.comm_messages.specs.declared.outgoing.Parent.{Parent}
+use Rattle.comm_messages.specs.declared.outgoing.Parent.TheVariants.{Call}
+
+-- what is still to be written of the buffers from i on
+abbrev pub rest : List (List ℕ) → ℕ → List ℕ
+rest bs i = items_text (nat_lt 0 i) (buffer_texts (drop i bs))
+
+rest-step : (bs : List (List ℕ)) (i : ℕ) (b : List ℕ) → i < length bs → b ≡ get_or bs i b
+    → rest bs i ≡ (comma_if (nat_lt 0 i) ++ quoted (encode_of standard b)) ++ items_text true (buffer_texts (drop (suc i) bs))
+rest-step bs i b h is =
+    ap (λ l. items_text (nat_lt 0 i) (buffer_texts l)) (drop-cons bs i b h ∙ ap (λ c. c ∷ drop (suc i) bs) (sym is))
+    ∙ sym (append_assoc (comma_if (nat_lt 0 i)) (quoted (encode_of standard b)) (items_text true (buffer_texts (drop (suc i) bs))))
+
+later : (i : ℕ) → nat_lt 0 (suc i) ≡ true
+later i = lt-ltb 0 (suc i) (omega arith)
+
+pub one_more : (bs : List (List ℕ)) (i : ℕ) (b old new whole : List ℕ) → i < length bs → b ≡ get_or bs i b
+    → Appends old (comma_if (nat_lt 0 i) ++ quoted (encode_of standard b)) new → old ++ rest bs i ≡ whole → new ++ rest bs (i + 1) ≡ whole
+one_more bs i b old new whole h is more before =
+    let next : i + 1 ≡ suc i = omega arith in
+    let written = comma_if (nat_lt 0 i) ++ quoted (encode_of standard b) in
+    ap (λ l. l ++ rest bs (i + 1)) more.is ∙ ap (λ n. (old ++ written) ++ rest bs n) next
+    ∙ append_assoc old written (rest bs (suc i))
+    ∙ ap (λ k. old ++ (written ++ items_text k (buffer_texts (drop (suc i) bs)))) (later i)
+    ∙ ap (λ l. old ++ l) (sym (rest-step bs i b h is)) ∙ before
+
+-- a part is written, and then the rest
+pub written : {first second last part more : List ℕ} → Appends first part second → Appends second more last → Appends first (part ++ more) last
+written {first} {second} {last} {part} {more} h k = record { is = k.is ∙ ap (λ l. l ++ more) h.is ∙ append_assoc first part more }
+
+pub text_in_parts : (message : Outgoing) (parent : Parent) →
+    text message parent ≡ codes "{\"buffers\":[" ++ (buffers_text message ++ (parent_text parent ++ (codes ",\"content\":" ++ (content_text message ++ end_text message))))
+unfolding text serde_json_on_literals
+text_in_parts message (Call client number) = simp append_assoc
+
+pub same_part : {old part other new : List ℕ} → part ≡ other → Appends old other new → Appends old part new
+same_part {old} {part} {other} {new} e h = record { is = h.is ∙ ap (λ l. old ++ l) (sym e) }
+
+pub open_content : (m : Outgoing) (id target version : List ℕ) (body : Content) → m ≡ Open id target version body
+    → content_text m ≡ (codes "{\"comm_id\":" ++ quoted id) ++ ((codes ",\"data\":" ++ compact_text (object (json_members body.content)))
+    ++ (codes ",\"target_name\":" ++ (quoted target ++ codes "}")))
+unfolding serde_json_on_literals
+open_content m id target version body is = rw is (simp append_assoc)
+
+pub msg_content : (m : Outgoing) (id : List ℕ) (body : Content) → m ≡ Msg id body
+    → content_text m ≡ (codes "{\"comm_id\":" ++ quoted id) ++ ((codes ",\"data\":" ++ compact_text (object (json_members body.content))) ++ codes "}")
+unfolding serde_json_on_literals
+msg_content m id body is = rw is (simp append_assoc)
+
+pub close_content : (m : Outgoing) (id : List ℕ) → m ≡ Close id → content_text m ≡ (codes "{\"comm_id\":" ++ quoted id) ++ codes ",\"data\":{}}"
+unfolding serde_json_on_literals
+close_content m id is = rw is (simp append_assoc)
+
+pub open_end : (m : Outgoing) (id target version : List ℕ) (body : Content) → m ≡ Open id target version body
+    → end_text m ≡ codes ",\"header\":{\"msg_type\":\"comm_open\"},\"metadata\":{\"version\":" ++ (quoted version ++ codes "}}")
+unfolding serde_json_on_literals
+open_end m id target version body is = rw is (simp append_assoc)
+
+pub msg_end : (m : Outgoing) (id : List ℕ) (body : Content) → m ≡ Msg id body → end_text m ≡ codes ",\"header\":{\"msg_type\":\"comm_msg\"},\"metadata\":{}}"
+unfolding serde_json_on_literals
+msg_end m id body is = rw is refl
+
+pub close_end : (m : Outgoing) (id : List ℕ) → m ≡ Close id → end_text m ≡ codes ",\"header\":{\"msg_type\":\"comm_close\"},\"metadata\":{}}"
+unfolding serde_json_on_literals
+close_end m id is = rw is refl

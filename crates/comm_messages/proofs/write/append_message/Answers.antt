@@ -1,0 +1,10 @@
+use Rattle.comm_messages.specs.Parts.{Appends}
+use Rattle.comm_messages.proofs.WriteLemmas.{written, same_part, text_in_parts}
+use Rattle.comm_messages.proofs.write.append_message.Goals as goal
+
+pub returns : goal.returns
+returns c =
+    let whole = same_part (text_in_parts c.args.message.now c.args.parent.now)
+    (written c.in_ok-append.ensures (written c.in_ok-append_buffers.ensures (written c.in_ok-append_parent.ensures
+    (written c.in_ok-append-2.ensures (written c.in_ok-append_content.ensures c.in_ok-append_end.ensures))))) in
+    whole.is

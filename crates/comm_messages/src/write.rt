@@ -1,0 +1,185 @@
+ghost use Rattle.std.specs.Prelude.{◌≡◌, ◌++◌, ◌∷◌, [], false, OnOk, IfOk, nat_lt, codes, decimal};
+ghost use Rattle.base64.specs.GeneralPurpose.{encode_of};
+ghost use Rattle.base64.specs.Engines.{standard};
+ghost use Rattle.json.specs.Print.{quoted};
+ghost use Rattle.serde_json.specs.Written.{comma_if, items_text, compact_text};
+ghost use Rattle.serde_json.specs.Data.{object};
+ghost use Rattle.comm_value.specs.ToJson.{json_members};
+ghost use Rattle.comm_messages.specs.Text.{text, buffer_texts};
+ghost use Rattle.comm_messages.specs.Parts.{Appends, buffers_text, parent_text, content_text, end_text};
+
+use crate::body::Body;
+use crate::outgoing::{Outgoing, Parent};
+use base64::engine::general_purpose::STANDARD;
+use comm_value::{Buffers, Bytes, Text, write_text};
+use std::alloc::{AllocError, Global};
+
+/// The JSON text of a message.
+pub fn write_message(
+    alloc: Global,
+    message: &Outgoing,
+    parent: &Parent,
+) -> Result<Vec<u8>, AllocError>
+    ensures { IfOk result (λ bytes. bytes.items ≡ text message.now parent.now) }
+{
+    let mut out = Vec::new(alloc);
+    append_message(alloc, message, parent, &mut out)?;
+    Ok(out)
+}
+
+/// Puts the JSON text of a message behind what the buffer holds. Where memory runs out the buffer may hold a part of it.
+pub fn append_message(
+    alloc: Global,
+    message: &Outgoing,
+    parent: &Parent,
+    out: &mut Vec<u8>,
+) -> Result<(), AllocError>
+    ensures { OnOk result (out.new.items ≡ out.old.items ++ text message.now parent.now) }
+{
+    append(b"{\"buffers\":[", out)?;
+    append_buffers(alloc, message, out)?;
+    append_parent(parent, out)?;
+    append(b",\"content\":", out)?;
+    append_content(message, out)?;
+    append_end(message, out)?;
+    Ok(())
+}
+
+fn append_parent(parent: &Parent, out: &mut Vec<u8>) -> Result<(), AllocError>
+    ensures { OnOk result (Appends out.old.items (parent_text parent.now) out.new.items) }
+{
+    let Parent::Call { client, number } = parent;
+    append(b",\"call\":", out)?;
+    append_number(*number, out)?;
+    append(b",\"client\":", out)?;
+    append_number(*client as u64, out)?;
+    Ok(())
+}
+
+fn append_content(message: &Outgoing, out: &mut Vec<u8>) -> Result<(), AllocError>
+    ensures { OnOk result (Appends out.old.items (content_text message.now) out.new.items) }
+{
+    match message {
+        Outgoing::Open {
+            id,
+            target,
+            body,
+            ..
+        } => {
+            append_id(id, out)?;
+            append_data(body, out)?;
+            append(b",\"target_name\":", out)?;
+            append_text(target, out)?;
+            append(b"}", out)?;
+        }
+        Outgoing::Msg { id, body } => {
+            append_id(id, out)?;
+            append_data(body, out)?;
+            append(b"}", out)?;
+        }
+        Outgoing::Close { id } => {
+            append_id(id, out)?;
+            append(b",\"data\":{}}", out)?;
+        }
+    }
+    Ok(())
+}
+
+fn append_id(id: &Text, out: &mut Vec<u8>) -> Result<(), AllocError>
+    ensures { OnOk result (Appends out.old.items (codes "{\"comm_id\":" ++ quoted id.now) out.new.items) }
+{
+    append(b"{\"comm_id\":", out)?;
+    append_text(id, out)?;
+    Ok(())
+}
+
+fn append_data(body: &Body, out: &mut Vec<u8>) -> Result<(), AllocError>
+    ensures { OnOk result (Appends out.old.items (codes ",\"data\":" ++ compact_text (object (json_members body.now.content))) out.new.items) }
+{
+    append(b",\"data\":", out)?;
+    body.content().write_json(out)?;
+    Ok(())
+}
+
+fn append_end(message: &Outgoing, out: &mut Vec<u8>) -> Result<(), AllocError>
+    ensures { OnOk result (Appends out.old.items (end_text message.now) out.new.items) }
+{
+    match message {
+        Outgoing::Open { version, .. } => {
+            append(
+                b",\"header\":{\"msg_type\":\"comm_open\"},\"metadata\":{\"version\":",
+                out,
+            )?;
+            append_text(version, out)?;
+            append(b"}}", out)?;
+        }
+        Outgoing::Msg { .. } => append(
+            b",\"header\":{\"msg_type\":\"comm_msg\"},\"metadata\":{}}",
+            out,
+        )?,
+        Outgoing::Close { .. } => append(
+            b",\"header\":{\"msg_type\":\"comm_close\"},\"metadata\":{}}",
+            out,
+        )?,
+    }
+    Ok(())
+}
+
+fn append(bytes: &[u8], out: &mut Vec<u8>) -> Result<(), AllocError>
+    ensures { OnOk result (Appends out.old.items bytes.now out.new.items) }
+{
+    out.extend_from_slice(bytes)
+}
+
+fn append_text(text: &Text, out: &mut Vec<u8>) -> Result<(), AllocError>
+    ensures { OnOk result (Appends out.old.items (quoted text.now) out.new.items) }
+{
+    write_text(text.as_str(), out)
+}
+
+fn append_number(number: u64, out: &mut Vec<u8>) -> Result<(), AllocError>
+    ensures { OnOk result (Appends out.old.items (decimal number) out.new.items) }
+{
+    let mut buffer = itoa::Buffer::new();
+    out.extend_from_slice(buffer.format(number).as_bytes())
+}
+
+// The items of the list and its closing bracket.
+fn append_buffers(alloc: Global, message: &Outgoing, out: &mut Vec<u8>) -> Result<(), AllocError>
+    ensures { OnOk result (Appends out.old.items (buffers_text message.now) out.new.items) }
+{
+    match message {
+        Outgoing::Open { body, .. } | Outgoing::Msg { body, .. } => append_all(
+            alloc,
+            body.buffers(),
+            out,
+        )?,
+        Outgoing::Close { .. } => append(b"]", out)?,
+    }
+    Ok(())
+}
+
+fn append_all(alloc: Global, buffers: &Buffers, out: &mut Vec<u8>) -> Result<(), AllocError>
+    ensures { OnOk result (Appends out.old.items (items_text false (buffer_texts buffers.now)) out.new.items) }
+{
+    for (number, buffer) in buffers.as_slice().iter().enumerate() {
+        append_buffer(alloc, number, buffer, out)?;
+    }
+    append(b"]", out)
+}
+
+// A comma stands before each buffer but the first.
+fn append_buffer(
+    alloc: Global,
+    number: usize,
+    buffer: &Bytes,
+    out: &mut Vec<u8>,
+) -> Result<(), AllocError>
+    ensures { OnOk result (Appends out.old.items (comma_if (nat_lt 0 number) ++ quoted (encode_of standard buffer.now)) out.new.items) }
+{
+    if number > 0 {
+        out.push(b',')?;
+    }
+    let text = STANDARD.encode(alloc, buffer.as_slice())?;
+    write_text(text.as_str(), out)
+}

@@ -1,0 +1,104 @@
+// Values as JSON text.
+ghost use Rattle.std.specs.Prelude.{◌≡◌, [], ◌∷◌, ◌++◌, false, OnOk};
+ghost use Rattle.serde_json.specs.Data.{object};
+ghost use Rattle.serde_json.specs.Find.{of_integer};
+ghost use Rattle.serde_json.specs.Written.{compact_text, items_text, members_text, comma_if, number_text};
+ghost use Rattle.comm_value.specs.Places.{has_bytes, items_have_bytes, members_have_bytes};
+ghost use Rattle.comm_value.specs.ToJson.{json_of, json_items, json_members};
+ghost use Rattle.comm_value.specs.View.{tree};
+
+use crate::json_string::write_text;
+use crate::val::{Dict, Items, Val};
+use crate::whole::Whole;
+use itoa::Buffer;
+use std::alloc::AllocError;
+
+impl Val {
+    /// Appends the compact JSON text (RFC 8259) of a value without bytes. After an error some of it may be there.
+    pub fn write_json(&self, out: &mut Vec<u8>) -> Result<(), AllocError>
+        requires { has_bytes (tree self.now) ≡ false }
+        ensures { OnOk result (out.new.items ≡ out.old.items ++ compact_text (json_of (tree self.now))) }
+    {
+        write_value(self, out)
+    }
+}
+
+impl Dict {
+    /// Appends the compact JSON text (RFC 8259) of a dict without bytes, its keys in the order of their bytes. After an error some of it may be there.
+    pub fn write_json(&self, out: &mut Vec<u8>) -> Result<(), AllocError>
+        requires { members_have_bytes self.now ≡ false }
+        ensures { OnOk result (out.new.items ≡ out.old.items ++ compact_text (object (json_members self.now))) }
+    {
+        write_members(self, out)
+    }
+}
+
+fn write_whole(whole: Whole, out: &mut Vec<u8>) -> Result<(), AllocError>
+    ensures { OnOk result (out.new.items ≡ out.old.items ++ number_text (of_integer whole)) }
+{
+    let number = whole.get();
+    let mut buffer = Buffer::new();
+    if number >= 0 {
+        out.extend_from_slice(buffer.format(number as u64).as_bytes())
+    } else {
+        out.extend_from_slice(buffer.format(number as i64).as_bytes())
+    }
+}
+
+fn write_comma(later: bool, out: &mut Vec<u8>) -> Result<(), AllocError>
+    ensures { OnOk result (out.new.items ≡ out.old.items ++ comma_if later) }
+{
+    if later {
+        out.push(b',')?;
+    }
+    Ok(())
+}
+
+#[cycle(json_text)]
+fn write_value(value: &Val, out: &mut Vec<u8>) -> Result<(), AllocError>
+    requires { has_bytes (tree value.now) ≡ false }
+    ensures { OnOk result (out.new.items ≡ out.old.items ++ compact_text (json_of (tree value.now))) }
+{
+    match value {
+        Val::Null => out.extend_from_slice(b"null"),
+        Val::Bool(true) => out.extend_from_slice(b"true"),
+        Val::Bool(false) => out.extend_from_slice(b"false"),
+        Val::Whole(whole) => write_whole(*whole, out),
+        Val::Text(text) => write_text(text.as_str(), out),
+        Val::Bytes(_) => unreachable!(),
+        Val::List(items) => write_items(items, out),
+        Val::Dict(dict) => write_members(dict, out),
+    }
+}
+
+#[cycle(json_text)]
+fn write_items(items: &Items, out: &mut Vec<u8>) -> Result<(), AllocError>
+    requires { items_have_bytes items.now ≡ false }
+    ensures { OnOk result (out.new.items ≡ out.old.items ++ 91 ∷ items_text false (json_items items.now)) }
+{
+    out.push(b'[')?;
+    let mut later = false;
+    for item in items.all.as_slice() {
+        write_comma(later, out)?;
+        write_value(item, out)?;
+        later = true;
+    }
+    Ok(out.push(b']')?)
+}
+
+#[cycle(json_text)]
+fn write_members(dict: &Dict, out: &mut Vec<u8>) -> Result<(), AllocError>
+    requires { members_have_bytes dict.now ≡ false }
+    ensures { OnOk result (out.new.items ≡ out.old.items ++ 123 ∷ members_text false (json_members dict.now)) }
+{
+    out.push(b'{')?;
+    let mut later = false;
+    for member in dict.members() {
+        write_comma(later, out)?;
+        write_text(member.key.as_str(), out)?;
+        out.push(b':')?;
+        write_value(&member.value, out)?;
+        later = true;
+    }
+    Ok(out.push(b'}')?)
+}
