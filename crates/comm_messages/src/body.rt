@@ -59,16 +59,6 @@ impl Body {
         &self.buffers
     }
 
-    /// The same data and buffers, shared.
-    pub fn copy(&self, alloc: Global) -> Result<Body, AllocError>
-        ensures { IfOk result (λ b. b ≡ self.now) }
-    {
-        Ok(Body {
-            content: self.content.copy()?,
-            buffers: self.buffers.copy(alloc)?,
-        })
-    }
-
     /// The data and the buffers by themselves.
     pub fn into_parts(self) -> (Dict, Buffers)
         ensures content { result.0 ≡ self.content }
