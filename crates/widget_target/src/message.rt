@@ -3,6 +3,7 @@ ghost use Rattle.comm_value.specs.Node.{get};
 ghost use Rattle.comm_targets.specs.Widget.{told, one_message, update_of, handed};
 ghost use Rattle.widget_target.specs.Gives.{Gives};
 
+use crate::answers::one_message;
 use crate::method::{Method, method_of};
 use crate::update::{update_body, updated};
 use comm_messages::Body;
@@ -26,21 +27,21 @@ pub fn told(alloc: Global, body: &Body, now: &Dict) -> Result<Answer, TargetFaul
 fn requested(alloc: Global, now: &Dict) -> Result<Answer, AllocError>
     ensures { IfOk result (λ a. a ≡ one_message (update_of now.now)) }
 {
-    let mut answer = Answer::empty(alloc);
-    answer.messages.push(update_body(alloc, now)?)?;
-    Ok(answer)
+    one_message(alloc, update_body(alloc, now)?)
 }
 
 // The answer to `custom`: the caller is handed the data's `content` and all the message's buffers.
 fn handed(alloc: Global, body: &Body) -> Result<Answer, AllocError>
     ensures { IfOk result (λ a. a ≡ handed (get (codes "content") body.now.content) body.now.buffers) }
 {
+    let Some(content) = body.content().get("content") else {
+        return Ok(Answer::empty(alloc));
+    };
+    let custom = Custom {
+        content: content.copy()?,
+        buffers: body.buffers().copy(alloc)?,
+    };
     let mut answer = Answer::empty(alloc);
-    if let Some(content) = body.content().get("content") {
-        answer.custom = Some(Custom {
-            content: content.copy()?,
-            buffers: body.buffers().copy(alloc)?,
-        });
-    }
+    answer.custom = Some(custom);
     Ok(answer)
 }

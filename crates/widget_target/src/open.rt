@@ -2,7 +2,7 @@ ghost use Rattle.std.specs.Prelude.{option_map};
 ghost use Rattle.comm_targets.specs.Widget.{opened};
 ghost use Rattle.widget_target.specs.Gives.{Gives};
 
-use crate::update::state_of;
+use crate::state::state_of;
 use crate::version::is_spoken;
 use comm_messages::Body;
 use comm_targets::TargetFault;

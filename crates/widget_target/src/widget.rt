@@ -1,8 +1,9 @@
 ghost use Rattle.std.specs.Prelude.{◌≡◌, [], None, unwrap_or, option_map};
 ghost use Rattle.comm_value.specs.Tree.{no_members};
-ghost use Rattle.comm_targets.specs.Widget.{answer_of, new_state};
+ghost use Rattle.comm_targets.specs.Widget.{answer_of};
 ghost use Rattle.widget_target.specs.Gives.{Gives};
 
+use crate::answers::new_state;
 use crate::message::told;
 use crate::open::opened;
 use crate::update::pushed;
@@ -81,13 +82,4 @@ fn answer_to(alloc: Global, event: &Event, now: Option<&Dict>) -> Result<Answer,
         Event::Launch { state, .. } => Ok(new_state(alloc, state.copy()?)),
         Event::Push { state, .. } => Ok(pushed(alloc, state, now)?),
     }
-}
-
-// The answer that gives the comm this state.
-fn new_state(alloc: Global, state: Dict) -> Answer
-    ensures { result ≡ new_state state }
-{
-    let mut answer = Answer::empty(alloc);
-    answer.state = Some(state);
-    answer
 }
