@@ -1,0 +1,47 @@
+ghost use Rattle.std.specs.Prelude.{◌≡◌, IfOk, codes};
+ghost use Rattle.comm_value.specs.Node.{get};
+ghost use Rattle.comm_targets.specs.Widget.{told, one_message, update_of, handed};
+ghost use Rattle.widget_target.specs.Gives.{Gives};
+
+use crate::answers::one_message;
+use crate::method::{Method, method_of};
+use crate::update::{update_body, updated};
+use comm_messages::Body;
+use comm_targets::{Answer, Custom, TargetFault};
+use comm_value::Dict;
+use std::alloc::{AllocError, Global};
+
+/// The answer to a message on the comm of a widget whose state is `now`, by the data's `method`.
+/// NoMethod, UnknownMethod, and the faults of `update`.
+pub fn told(alloc: Global, body: &Body, now: &Dict) -> Result<Answer, TargetFault>
+    ensures { Gives result (told (get (codes "method") body.now.content) now.now body.now) }
+{
+    match method_of(body.content())? {
+        Method::Update => updated(alloc, body, now),
+        Method::RequestState => Ok(requested(alloc, now)?),
+        Method::Custom => Ok(handed(alloc, body)?),
+    }
+}
+
+// The answer to `request_state`: the whole state goes out.
+fn requested(alloc: Global, now: &Dict) -> Result<Answer, AllocError>
+    ensures { IfOk result (λ a. a ≡ one_message (update_of now.now)) }
+{
+    one_message(alloc, update_body(alloc, now)?)
+}
+
+// The answer to `custom`: the caller is handed the data's `content` and all the message's buffers.
+fn handed(alloc: Global, body: &Body) -> Result<Answer, AllocError>
+    ensures { IfOk result (λ a. a ≡ handed (get (codes "content") body.now.content) body.now.buffers) }
+{
+    let Some(content) = body.content().get("content") else {
+        return Ok(Answer::empty(alloc));
+    };
+    let custom = Custom {
+        content: content.copy()?,
+        buffers: body.buffers().copy(alloc)?,
+    };
+    let mut answer = Answer::empty(alloc);
+    answer.custom = Some(custom);
+    Ok(answer)
+}
