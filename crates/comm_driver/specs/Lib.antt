@@ -1,5 +1,6 @@
 pub mod Line
 pub mod Command
 pub mod Lines
+pub mod Session
 pub mod Stock
 pub mod Words

@@ -6,6 +6,7 @@ mod command;
 mod fault;
 mod line;
 mod lines;
+mod session;
 mod stock;
 mod words;
 
