@@ -9,7 +9,7 @@ use Rattle.std.specs.Cmp.Lexicographic.{slice_cmp}
 use Rattle.std.proofs.lemmas.Slice.Eq.{bytes_eq-Decides}
 use Rattle.comm_targets.specs.Meaning.{Meaning, has_id, without, closes}
 use Rattle.comm_core.specs.Machine.{Name, at, with_at, ids_of}
-use Rattle.comm_core.specs.Reads.{Info, in_order, passes, infos_in}
+use Rattle.comm_core.specs.Reads.{Pair, in_order, passes, pairs_in}
 use Rattle.comm_core.specs.Tables.{Opens}
 use Rattle.comm_core.specs.declared.comm.Comm.{Comm}
 use Rattle.comm_core.proofs.Entries.{take-further, drop-further}
@@ -24,16 +24,16 @@ ids_of-more name (e ∷ es) k o =
       | false ↦ more
     ]
 
-abbrev info : Name × Comm → Info
+abbrev info : Name × Comm → Pair
 info e = (e.0, e.1.target)
 
-infos_in-more : (f : Option Name) (es : Opens) (k : Name) (o : Comm) → infos_in (es ++ (k, o) ∷ []) f ≡ infos_in es f ++ cond (passes f o) ((k, o.target) ∷ []) []
-infos_in-more f [] k o = elim (passes f o) as (λ b. map info (cond b ((k, o) ∷ []) []) ≡ cond b ((k, o.target) ∷ []) []) [ true ↦ refl | false ↦ refl ]
-infos_in-more f (e ∷ es) k o =
-    let more = infos_in-more f es k o in
+pairs_in-more : (f : Option Name) (es : Opens) (k : Name) (o : Comm) → pairs_in (es ++ (k, o) ∷ []) f ≡ pairs_in es f ++ cond (passes f o) ((k, o.target) ∷ []) []
+pairs_in-more f [] k o = elim (passes f o) as (λ b. map info (cond b ((k, o) ∷ []) []) ≡ cond b ((k, o.target) ∷ []) []) [ true ↦ refl | false ↦ refl ]
+pairs_in-more f (e ∷ es) k o =
+    let more = pairs_in-more f es k o in
     let F : Opens → Opens = λ l. filter (λ (z : Name × Comm). passes f z.1) l in
     elim (passes f e.1) as (λ b. map info (cond b (e ∷ F (es ++ (k, o) ∷ [])) (F (es ++ (k, o) ∷ []))) ≡ map info (cond b (e ∷ F es) (F es)) ++ cond (passes f o) ((k, o.target) ∷ []) []) [
-      | true ↦ ap (λ (l : List Info). (e.0, e.1.target) ∷ l) more
+      | true ↦ ap (λ (l : List Pair). (e.0, e.1.target) ∷ l) more
       | false ↦ more
     ]
 
@@ -41,25 +41,25 @@ append-nil : {X : Type 0} (xs : List X) → xs ++ [] ≡ xs
 append-nil [] = refl
 append-nil (x ∷ xs) = ap (λ l. x ∷ l) (append-nil xs)
 
-fold-more : (xs : List Info) (x : Info) (so_far : List Info) → fold (λ (done : List Info) (x : Info). insert_entry (slice_cmp nat_cmp) done x.0 x.1) so_far (xs ++ x ∷ []) ≡ insert_entry (slice_cmp nat_cmp) (fold (λ (done : List Info) (x : Info). insert_entry (slice_cmp nat_cmp) done x.0 x.1) so_far xs) x.0 x.1
+fold-more : (xs : List Pair) (x : Pair) (so_far : List Pair) → fold (λ (done : List Pair) (x : Pair). insert_entry (slice_cmp nat_cmp) done x.0 x.1) so_far (xs ++ x ∷ []) ≡ insert_entry (slice_cmp nat_cmp) (fold (λ (done : List Pair) (x : Pair). insert_entry (slice_cmp nat_cmp) done x.0 x.1) so_far xs) x.0 x.1
 fold-more [] x so_far = refl
 fold-more (y ∷ ys) x so_far = fold-more ys x (insert_entry (slice_cmp nat_cmp) so_far y.0 y.1)
 
 module _ (name : Name) (all : Opens) (i : ℕ) (e : Name × Comm) (read_at : slice_get all i ≡ Some e) where
-  pub listed_one : (f : Option Name) → passes f e.1 ≡ true → (k t : Name) (so_far : List Info) → so_far ≡ in_order (infos_in (take i all) f) → k ≡ e.0 → t ≡ e.1.target
-      → insert_entry (slice_cmp nat_cmp) so_far k t ≡ in_order (infos_in (take (i + 1) all) f)
+  pub listed_one : (f : Option Name) → passes f e.1 ≡ true → (k t : Name) (so_far : List Pair) → so_far ≡ in_order (pairs_in (take i all) f) → k ≡ e.0 → t ≡ e.1.target
+      → insert_entry (slice_cmp nat_cmp) so_far k t ≡ in_order (pairs_in (take (i + 1) all) f)
   listed_one f met k t so_far is_so ek et =
-      let whole : infos_in (take (i + 1) all) f ≡ infos_in (take i all) f ++ (e.0, e.1.target) ∷ [] =
-      ap (λ l. infos_in l f) (take-further all i _ read_at) ∙ infos_in-more f (take i all) e.0 e.1 ∙ ap (λ b. infos_in (take i all) f ++ cond b ((e.0, e.1.target) ∷ []) []) met in
+      let whole : pairs_in (take (i + 1) all) f ≡ pairs_in (take i all) f ++ (e.0, e.1.target) ∷ [] =
+      ap (λ l. pairs_in l f) (take-further all i _ read_at) ∙ pairs_in-more f (take i all) e.0 e.1 ∙ ap (λ b. pairs_in (take i all) f ++ cond b ((e.0, e.1.target) ∷ []) []) met in
       ap (λ l. insert_entry (slice_cmp nat_cmp) l k t) is_so
-      ∙ ap (λ k. insert_entry (slice_cmp nat_cmp) (in_order (infos_in (take i all) f)) k t) ek
-      ∙ ap (λ t. insert_entry (slice_cmp nat_cmp) (in_order (infos_in (take i all) f)) e.0 t) et
-      ∙ sym (ap in_order whole ∙ fold-more (infos_in (take i all) f) (e.0, e.1.target) [])
+      ∙ ap (λ k. insert_entry (slice_cmp nat_cmp) (in_order (pairs_in (take i all) f)) k t) ek
+      ∙ ap (λ t. insert_entry (slice_cmp nat_cmp) (in_order (pairs_in (take i all) f)) e.0 t) et
+      ∙ sym (ap in_order whole ∙ fold-more (pairs_in (take i all) f) (e.0, e.1.target) [])
 
-  pub listed_none : (f : Option Name) → passes f e.1 ≡ false → (so_far : List Info) → so_far ≡ in_order (infos_in (take i all) f) → so_far ≡ in_order (infos_in (take (i + 1) all) f)
+  pub listed_none : (f : Option Name) → passes f e.1 ≡ false → (so_far : List Pair) → so_far ≡ in_order (pairs_in (take i all) f) → so_far ≡ in_order (pairs_in (take (i + 1) all) f)
   listed_none f unmet so_far is_so =
-      is_so ∙ sym (ap in_order (ap (λ l. infos_in l f) (take-further all i _ read_at) ∙ infos_in-more f (take i all) e.0 e.1 ∙ ap (λ b. infos_in (take i all) f ++ cond b ((e.0, e.1.target) ∷ []) []) unmet
-      ∙ append-nil (infos_in (take i all) f)))
+      is_so ∙ sym (ap in_order (ap (λ l. pairs_in l f) (take-further all i _ read_at) ∙ pairs_in-more f (take i all) e.0 e.1 ∙ ap (λ b. pairs_in (take i all) f ++ cond b ((e.0, e.1.target) ∷ []) []) unmet
+      ∙ append-nil (pairs_in (take i all) f)))
 
   further : ids_of name (take (i + 1) all) ≡ ids_of name (take i all) ++ cond (bytes_eq name e.1.target) (e.0 ∷ []) []
   further = ap (ids_of name) (take-further all i _ read_at) ∙ ids_of-more name (take i all) e.0 e.1

@@ -10,6 +10,7 @@ pub mod Gone
 pub mod Keys
 pub mod Names
 pub mod Readying
+pub mod Refusing
 pub mod Staging
 pub mod Stopping
 pub mod Unmaking

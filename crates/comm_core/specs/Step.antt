@@ -182,6 +182,16 @@ stepped m v o = None
 abbrev pub step : ℕ → Machine → Call → Option Outcome → Option Stepped
 step limit m call outcome = stepped m (judged limit m call) outcome
 
+-- the replies of the calls that are done; any other leaves the machine as it was
+abbrev pub is_done : Reply → Bool
+is_done reply.Registered = true
+is_done reply.Opened = true
+is_done (reply.Delivered custom) = true
+is_done reply.Closed = true
+is_done (reply.Unregistered ids) = true
+is_done reply.Launched = true
+is_done r = false
+
 -- ---- which outcomes are allowed
 
 abbrev pub question_of : Verdict → Option Question

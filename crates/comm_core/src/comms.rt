@@ -3,7 +3,7 @@ ghost use Rattle.std.specs.Prelude.{◌≡◌, ◌<◌, ◌≤◌, ◌++◌, tru
 ghost use Rattle.std.specs.Str.{bytes_eq};
 ghost use Rattle.comm_targets.specs.Meaning.{Meaning};
 ghost use Rattle.comm_core.specs.Machine.{at, has, without, with_at, ids_of, others};
-ghost use Rattle.comm_core.specs.Reads.{in_order, infos_in, passes};
+ghost use Rattle.comm_core.specs.Reads.{in_order, pairs_in, passes};
 ghost use Rattle.comm_core.specs.Tables.{emptied};
 ghost use Rattle.comm_core.specs.declared.comm.Comm.{Comm};
 
@@ -120,7 +120,7 @@ impl Comms {
         alloc: Global,
         target: Option<&Text>,
     ) -> Result<BTreeMap<Text, Text>, AllocError>
-        ensures { IfOk result (λ m. m.entries ≡ in_order (infos_in self.now.all (option_map (λ t. t.now) target.entry))) }
+        ensures { IfOk result (λ m. m.entries ≡ in_order (pairs_in self.now.all (option_map (λ t. t.now) target.entry))) }
     {
         let mut all = BTreeMap::new(alloc);
         for i in 0..self.all.len() {

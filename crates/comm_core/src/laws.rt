@@ -1,7 +1,7 @@
 //! Laws of the definitions. Each is the contract of a function that does nothing.
 ghost use Rattle.std.specs.Prelude.{◌≡◌, ℕ, Option, Some, true, false};
 ghost use Rattle.comm_core.specs.Machine.{Machine};
-ghost use Rattle.comm_core.specs.Step.{Outcome, Stepped, Allowed, asks, step};
+ghost use Rattle.comm_core.specs.Step.{Outcome, Stepped, Allowed, asks, is_done, step};
 ghost use Rattle.comm_core.specs.Exact.{is_exact, exact_outcome, registers_free};
 ghost use Rattle.comm_core.specs.declared.call.Call.{Call};
 
@@ -13,4 +13,9 @@ pub fn exact_machines_leave_no_choice()
 /// A step keeps a machine without Free targets so, unless it registers one.
 pub fn steps_keep_machines_exact()
     ensures { (limit : ℕ) (m : Machine) (c : Call) (o : Option Outcome) (s : Stepped) → is_exact m ≡ true → registers_free c ≡ false → step limit m c o ≡ Some s → is_exact s.next ≡ true }
+{}
+
+/// A call that is refused leaves the machine as it was.
+pub fn refused_calls_change_nothing()
+    ensures { (limit : ℕ) (m : Machine) (c : Call) (o : Option Outcome) (s : Stepped) → step limit m c o ≡ Some s → is_done s.reply ≡ false → s.next ≡ m }
 {}

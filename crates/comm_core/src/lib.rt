@@ -21,8 +21,13 @@ mod reply;
 pub use call::Call;
 pub use comm::Comm;
 pub use ids::Ids;
-pub use laws::{exact_machines_leave_no_choice, steps_keep_machines_exact};
+pub use laws::{
+    exact_machines_leave_no_choice, refused_calls_change_nothing, steps_keep_machines_exact,
+};
 pub use limits::{Limits, NewFault};
 pub use manager::{Core, Finished, Ready};
 pub use question::Question;
 pub use reply::{Refusal, Reply, StateAnswer};
+
+#[cfg(test)]
+mod tests;

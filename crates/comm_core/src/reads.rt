@@ -1,27 +1,25 @@
 //! What a manager is asked without changing it.
-ghost use Rattle.std.specs.Prelude.{◌≡◌, IfOk, option_map};
-ghost use Rattle.comm_core.specs.Reads.{infos, state_of};
+ghost use Rattle.std.specs.Prelude.{◌≡◌, IfOk, map, option_map};
+ghost use Rattle.comm_core.specs.Reads.{info_of, infos, state_of};
 ghost use Rattle.comm_core.specs.Ready.{machine};
 
 use crate::judge::state_copy;
 use crate::manager::Core;
 use crate::reply::StateAnswer;
+use comm_messages::{Info, Infos};
 use comm_targets::Target;
 use comm_value::Text;
-use std::alloc::AllocError;
+use std::alloc::{AllocError, Global};
+use std::collections::BTreeMap;
 
 impl<T: Target> Core<T> {
     /// The open comms with the names of their targets, those of one target where a name is given, in the byte order of the ids
     /// ('Messaging in Jupyter' 5.3, "Comm info").
-    pub fn infos(&self, target: Option<&Text>) -> Result<Vec<(Text, Text)>, AllocError>
-        ensures { IfOk result (λ v. v.items ≡ infos (machine self.now) (option_map (λ t. t.now) target.entry)) }
+    pub fn infos(&self, target: Option<&Text>) -> Result<Infos, AllocError>
+        ensures { IfOk result (λ v. v ≡ infos (machine self.now) (option_map (λ t. t.now) target.entry)) }
     {
-        let map = self.comms.infos(self.alloc, target)?;
-        let mut infos = Vec::with_capacity(self.alloc, map.len())?;
-        for (id, name) in map {
-            infos.push((id, name))?;
-        }
-        Ok(infos)
+        let pairs = self.comms.infos(self.alloc, target)?;
+        listed(self.alloc, pairs)
     }
 
     /// The state of a comm, shared.
@@ -36,4 +34,14 @@ impl<T: Target> Core<T> {
             Some(state) => Ok(StateAnswer::State(state)),
         }
     }
+}
+
+fn listed(alloc: Global, pairs: BTreeMap<Text, Text>) -> Result<Infos, AllocError>
+    ensures { IfOk result (λ v. v ≡ map info_of pairs.entries) }
+{
+    let mut all = Vec::with_capacity(alloc, pairs.len())?;
+    for (id, target) in pairs {
+        all.push(Info { id, target })?;
+    }
+    Ok(Infos::new(all))
 }
