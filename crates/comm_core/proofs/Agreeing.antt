@@ -204,4 +204,3 @@ agrees-registered b c name m h new empty =
           | false ↦ λ _. refl
           | true ↦ λ p. absurd (true≢false (sym (h.named q x there) ∙ ap is_some (ap (at b) (sym (same_text name x.target p)) ∙ new)))
         ]) refl
-

@@ -122,12 +122,12 @@ module _ (b : Targets) (c : Opens) (h : Agrees (bare b) c) (none : HaveStaged b 
       ap targets_of eb ∙ map-append (λ e. (e.0, registered_of e.1)) b ((name, m) ∷ []) ∙ ap (λ x. targets_of b ++ (name, x) ∷ []) r in (
         rw (bare2, ec) (agrees-registered (bare b) c name (abandons m) h fresh idle.0),
         rw eb (λ q j at_j.
-        (elim (bytes_eq q name) as (λ z. bytes_eq q name ≡ z → j.staged ≡ None) [
-          | true ↦ λ p.
-              let s : at (b ++ (name, m) ∷ []) name ≡ Some j = subst (λ z. at (b ++ (name, m) ∷ []) z ≡ Some j) (same_text q name p) at_j in
-              let r : m ≡ j = (let q = at-newest b name m new in cc) in sym (ap (λ (z : Meaning). z.staged) r) ∙ idle.1
-          | false ↦ λ p. none q j (sym (at-more b name m q p) ∙ at_j)
-        ]) refl),
+            (elim (bytes_eq q name) as (λ z. bytes_eq q name ≡ z → j.staged ≡ None) [
+              | true ↦ λ p.
+                  let s : at (b ++ (name, m) ∷ []) name ≡ Some j = subst (λ z. at (b ++ (name, m) ∷ []) z ≡ Some j) (same_text q name p) at_j in
+                  let r : m ≡ j = (let q = at-newest b name m new in cc) in sym (ap (λ (z : Meaning). z.staged) r) ∙ idle.1
+              | false ↦ λ p. none q j (sym (at-more b name m q p) ∙ at_j)
+            ]) refl),
         ap (λ n. whole n c2) names ∙ ap (whole (targets_of b ++ (name, record { kind = k; notes = n }) ∷ [])) ec,
       )
 

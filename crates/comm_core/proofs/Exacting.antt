@@ -113,7 +113,7 @@ judged_keeps limit m (Close id) free = keeps_of m (at m.comms id) _ (λ x e. e)
 judged_keeps limit m (Unregister name) free = keeps_if m (has m.targets name) _ _ (λ e. all_without m.targets name e) (λ e. e)
 judged_keeps limit m (Launch uuid target state) free =
     keeps_if m (has m.comms (comm_id uuid)) _ _ (λ e. e) (keeps_if m (not (has m.targets target)) _ _ (λ e. e)
-      (keeps_if m (not (holds_widget (at m.targets target))) _ _ (λ e. e) (keeps_if m (is_full limit m) _ _ (λ e. e) tt)))
+    (keeps_if m (not (holds_widget (at m.targets target))) _ _ (λ e. e) (keeps_if m (is_full limit m) _ _ (λ e. e) tt)))
 judged_keeps limit m (Push id state) free = keeps_of m (at m.comms id) _ (λ x. keeps_if m (holds_widget (at m.targets x.target)) _ _ tt (λ e. e))
 judged_keeps limit m (Send id body) free = keeps_of m (at m.comms id) _ (λ x e. e)
 judged_keeps limit m (HangUp id) free = keeps_of m (at m.comms id) _ (λ x e. e)

@@ -106,11 +106,13 @@ module _ (S : State) (l : ℕ) (b b1 b' : Targets) (c c' : Opens) (z : Bool) (es
   same_limit = ap (λ (x : State). x.limit) es
 
   pub came_step : (s : Stepped) × (step S.limit (machine S) k o ≡ Some s) × (r ≡ s.reply) × (out ≡ s.outgoing)
-  came_step =
-      (record { reply = r; outgoing = out; next = planned (machine_of b1 c') plan o },
-      subst (λ m. step S.limit m k o ≡ Some (record { reply = r; outgoing = out; next = planned (machine_of b1 c') plan o })) same_machine
-      (subst (λ n. step n (machine_of b1 c') k o ≡ Some (record { reply = r; outgoing = out; next = planned (machine_of b1 c') plan o })) same_limit h.step_is),
-      refl, refl)
+  came_step = (
+    record { reply = r; outgoing = out; next = planned (machine_of b1 c') plan o },
+    subst (λ m. step S.limit m k o ≡ Some (record { reply = r; outgoing = out; next = planned (machine_of b1 c') plan o })) same_machine
+        (subst (λ n. step n (machine_of b1 c') k o ≡ Some (record { reply = r; outgoing = out; next = planned (machine_of b1 c') plan o })) same_limit h.step_is),
+    refl,
+    refl,
+  )
 
   pub came_allowed : Allowed (machine S) (asks S.limit (machine S) k) o
   came_allowed = subst (λ m. Allowed m (asks S.limit m k) o) same_machine (subst (λ n. Allowed (machine_of b1 c') (asks n (machine_of b1 c') k) o) same_limit h.allowed)

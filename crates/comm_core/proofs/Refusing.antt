@@ -34,7 +34,7 @@ judged_leaves limit m (Close id) = leaves_of m (at m.comms id) _ (λ x e. done_n
 judged_leaves limit m (Unregister name) = leaves_if m (has m.targets name) _ _ (λ e. done_not e) (λ e. refl)
 judged_leaves limit m (Launch uuid target state) =
     leaves_if m (has m.comms (comm_id uuid)) _ _ (λ e. refl) (leaves_if m (not (has m.targets target)) _ _ (λ e. refl)
-      (leaves_if m (not (holds_widget (at m.targets target))) _ _ (λ e. refl) (leaves_if m (is_full limit m) _ _ (λ e. refl) tt)))
+    (leaves_if m (not (holds_widget (at m.targets target))) _ _ (λ e. refl) (leaves_if m (is_full limit m) _ _ (λ e. refl) tt)))
 judged_leaves limit m (Push id state) = leaves_of m (at m.comms id) _ (λ x. leaves_if m (holds_widget (at m.targets x.target)) _ _ tt (λ e. refl))
 judged_leaves limit m (Send id body) = leaves_of m (at m.comms id) _ (λ x e. refl)
 judged_leaves limit m (HangUp id) = leaves_of m (at m.comms id) _ (λ x e. done_not e)

@@ -120,8 +120,8 @@ judged limit m (Launch uuid target state) =
     else Asked (record { name = target; state = None; event = event.Launch (comm_id uuid) state })
 judged limit m (Push id state) =
     of_comm m (at m.comms id)
-      (λ c. if holds_widget (at m.targets c.target) then Asked (record { name = c.target; state = c.state; event = event.Push id state })
-            else stays m reply.NotWidget)
+    (λ c. if holds_widget (at m.targets c.target) then Asked (record { name = c.target; state = c.state; event = event.Push id state })
+    else stays m reply.NotWidget)
 judged limit m (Send id body) = of_comm m (at m.comms id) (λ c. Done (reply.Delivered None) (out.Msg id body ∷ []) m)
 judged limit m (HangUp id) = of_comm m (at m.comms id) (λ c. Done reply.Closed (out.Close id ∷ []) (closed m id))
 
@@ -143,7 +143,7 @@ sent id messages = map (λ body. out.Msg id body) messages
 abbrev pub opening_of : Members → Content
 opening_of s = record {
   content = member (codes "buffer_paths") (paths_tree (member_paths s)) (member (codes "state") (dict (plain_members s)) no_members);
-  buffers = member_buffers s
+  buffers = member_buffers s;
 }
 
 abbrev pub answered : Machine → Name → Event → Answer → Stepped
@@ -151,17 +151,17 @@ answered m target (event.Open id version body) a = record { reply = reply.Opened
 answered m target (event.Msg id body) a = record {
   reply = reply.Delivered a.custom;
   outgoing = sent id a.messages;
-  next = told m id target (event.Msg id body) a
+  next = told m id target (event.Msg id body) a;
 }
 answered m target (event.Launch id state) a = record {
   reply = reply.Launched;
   outgoing = out.Open id target (codes "2.0.0") (opening_of state) ∷ [];
-  next = opened m id target a.state
+  next = opened m id target a.state;
 }
 answered m target (event.Push id state) a = record {
   reply = reply.Delivered None;
   outgoing = sent id a.messages;
-  next = told m id target (event.Push id state) a
+  next = told m id target (event.Push id state) a;
 }
 
 -- a widget refuses neither of the kernel's own events

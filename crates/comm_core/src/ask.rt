@@ -102,7 +102,10 @@ fn answered(
             Ok((Reply::Delivered(custom), outgoing))
         }
         Event::Launch { id, state } => {
-            Ok((Reply::Launched, launching(alloc, id, &question.name, state)?))
+            Ok((
+                Reply::Launched,
+                launching(alloc, id, &question.name, state)?,
+            ))
         }
         Event::Push { id, .. } => Ok((Reply::Delivered(None), sent(alloc, id, &answer.messages)?)),
     }

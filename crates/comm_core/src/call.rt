@@ -10,7 +10,11 @@ use uuid::Uuid;
 #[derive(Drop)]
 pub enum Call {
     /// Registers a target of this kind and with these notes under a name.
-    Register { name: Text, kind: Kind, notes: u64 },
+    Register {
+        name: Text,
+        kind: Kind,
+        notes: u64,
+    },
     /// The frontend opens a comm towards the target of this name. `version` is the text of the metadata's `version`,
     /// where it is one.
     Open {
@@ -20,11 +24,18 @@ pub enum Call {
         body: Body,
     },
     /// The frontend sends a message on a comm.
-    Msg { id: Text, body: Body },
+    Msg {
+        id: Text,
+        body: Body,
+    },
     /// The frontend closes a comm.
-    Close { id: Text },
+    Close {
+        id: Text,
+    },
     /// Takes a target out, closing its comms.
-    Unregister { name: Text },
+    Unregister {
+        name: Text,
+    },
     /// The kernel opens a widget's comm with this state. The comm's id is the hyphenated text of the UUID, in small letters.
     Launch {
         id: Uuid,
@@ -32,9 +43,17 @@ pub enum Call {
         state: Dict,
     },
     /// The kernel changes these keys of a widget's state.
-    Push { id: Text, state: Dict },
+    Push {
+        id: Text,
+        state: Dict,
+    },
     /// The kernel sends a message on a comm.
-    Send { id: Text, body: Body },
+    Send {
+        id: Text,
+        body: Body,
+    },
     /// The kernel closes a comm.
-    HangUp { id: Text },
+    HangUp {
+        id: Text,
+    },
 }

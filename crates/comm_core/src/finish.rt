@@ -90,12 +90,7 @@ pub fn make<T: Target>(
 }
 
 /// Makes the change that the target staged, and notes its comm.
-fn commit<T: Target>(
-    boxes: &mut Boxes<T>,
-    comms: &mut Comms,
-    question: Question,
-    answer: Answer,
-)
+fn commit<T: Target>(boxes: &mut Boxes<T>, comms: &mut Comms, question: Question, answer: Answer)
     requires space { 0 < comms.old.room }
     requires agrees { Agrees (bare boxes.old.all) comms.old.all }
     requires staged { HaveStaged boxes.old.all (staged_by (Commit question) (Some (Ok answer))) }
@@ -150,11 +145,7 @@ fn close<T: Target>(boxes: &mut Boxes<T>, comms: &mut Comms, id: &Text)
 }
 
 /// Takes a target out with its comms, which are closed in it.
-fn unregister<T: Target>(
-    boxes: &mut Boxes<T>,
-    comms: &mut Comms,
-    name: &Text,
-) -> Option<Held<T>>
+fn unregister<T: Target>(boxes: &mut Boxes<T>, comms: &mut Comms, name: &Text) -> Option<Held<T>>
     requires agrees { Agrees (bare boxes.old.all) comms.old.all }
     requires none { HaveStaged boxes.old.all (λ _. None) }
     ensures tables { Carried boxes.new.all comms.new.all (unregistered (machine_of boxes.old.all comms.old.all) name.now) }

@@ -70,11 +70,7 @@ fn refused_open(alloc: Global, id: &Text, why: Refusal) -> Result<Judged, AllocE
     ensures stands { IfOk result (λ j. (boxes : Targets) (comms : Opens) (c : Call) → ended_of boxes c ≡ None → Stands boxes comms c j) }
 {
     let outgoing = closing(alloc, id)?;
-    Ok(Judged::Done(
-        Reply::OpenRefused(why),
-        outgoing,
-        Plan::Nothing,
-    ))
+    Ok(Judged::Done(Reply::OpenRefused(why), outgoing, Plan::Nothing))
 }
 
 fn judge_open<T: Target>(
@@ -187,9 +183,7 @@ fn judge_unregister<T: Target>(
     }
     let ids = comms.ids_of(alloc, name)?;
     let outgoing = closings(alloc, ids.as_slice())?;
-    let plan = Plan::Unregister {
-        name: name.copy()?,
-    };
+    let plan = Plan::Unregister { name: name.copy()? };
     Ok(Judged::Done(Reply::Unregistered(ids), outgoing, plan))
 }
 
@@ -256,12 +250,7 @@ fn judge_push<T: Target>(
     }))
 }
 
-fn judge_send(
-    comms: &Comms,
-    alloc: Global,
-    id: &Text,
-    body: &Body,
-) -> Result<Judged, AllocError>
+fn judge_send(comms: &Comms, alloc: Global, id: &Text, body: &Body) -> Result<Judged, AllocError>
     ensures verdict { (limit : ℕ) (boxes : Targets) → IfOk result (λ j. verdict_of (machine_of boxes comms.now.all) j ≡ judged limit (machine_of boxes comms.now.all) (call.Send id.now body.now)) }
     ensures stands { (boxes : Targets) → IfOk result (λ j. Stands boxes comms.now.all (call.Send id.now body.now) j) }
 {
@@ -273,11 +262,7 @@ fn judge_send(
         body: body.copy(alloc)?,
     };
     let outgoing = one(alloc, message)?;
-    Ok(Judged::Done(
-        Reply::Delivered(None),
-        outgoing,
-        Plan::Nothing,
-    ))
+    Ok(Judged::Done(Reply::Delivered(None), outgoing, Plan::Nothing))
 }
 
 fn judge_hang_up(comms: &Comms, alloc: Global, id: &Text) -> Result<Judged, AllocError>

@@ -80,12 +80,12 @@ fn opening_of(alloc: Global, state: &Dict) -> Result<Body, AllocError>
 {
     let parts = separate(alloc, state)?;
     let paths = paths_val(alloc, parts.paths.as_slice())?;
-    let content = Dict::new().insert(
+    let content = Dict::new().insert(alloc, Text::copy_of(alloc, "buffer_paths")?, paths)?;
+    let content = content.insert(
         alloc,
-        Text::copy_of(alloc, "buffer_paths")?,
-        paths,
+        Text::copy_of(alloc, "state")?,
+        Val::Dict(parts.plain),
     )?;
-    let content = content.insert(alloc, Text::copy_of(alloc, "state")?, Val::Dict(parts.plain))?;
     Ok(Body::new(content, parts.buffers))
 }
 

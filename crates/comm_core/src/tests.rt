@@ -10,6 +10,7 @@ use std::alloc::{AllocError, Global};
 use std::sync::Arc;
 use std::sync::atomic::{AtomicU64, Ordering};
 use std::test::Fail;
+use uuid::Uuid;
 
 /// A target of kind Free. It refuses to open for empty data, with code 7. It answers a message with the state `{"s":1}`, no message and
 /// a value for the caller. It counts its ends: 1 for each where no comm is open, else 100.
@@ -125,7 +126,10 @@ fn words(alloc: Global, reply: &Reply) -> Result<String, AllocError> {
         Reply::Opened => String::from_str(alloc, "opened"),
         Reply::IdInUse => String::from_str(alloc, "id_in_use"),
         Reply::OpenRefused(Refusal::NoTarget) => String::from_str(alloc, "refused no_target"),
-        Reply::OpenRefused(Refusal::TooManyComms) => String::from_str(alloc, "refused too_many_comms"),
+        Reply::OpenRefused(Refusal::TooManyComms) => String::from_str(
+            alloc,
+            "refused too_many_comms",
+        ),
         Reply::OpenRefused(Refusal::Fault(fault)) => format!(in alloc; "refused, {fault}"),
         Reply::Delivered(Some(_)) => String::from_str(alloc, "custom"),
         Reply::Delivered(None) => String::from_str(alloc, "delivered"),
@@ -190,12 +194,7 @@ fn limits(comms: usize) -> Limits {
     }
 }
 
-fn step<T: Target>(
-    alloc: Global,
-    core: &mut Core<T>,
-    call: Call,
-    want: &str,
-) -> Result<(), Fail>
+fn step<T: Target>(alloc: Global, core: &mut Core<T>, call: Call, want: &str) -> Result<(), Fail>
     requires settled { core.old.settled ≡ true }
     requires call { HandsNothingIn call }
     ensures { core.new.settled ≡ true }
@@ -290,8 +289,7 @@ fn with(
     id: &str,
     data: &str,
 ) -> Result<String, AllocError> {
-    format!(
-        in alloc;
+    format!(in alloc;
         "{reply}\n{{\"buffers\":[],\"call\":7,\"client\":0,\"content\":{{\"comm_id\":\"{id}\",\"data\":{data}}},\"header\":{{\"msg_type\":\"{kind}\"}},\"metadata\":{{}}}}"
     )
 }
@@ -351,7 +349,12 @@ fn limited<T: Target>(alloc: Global, target: T) -> Result<(), Fail>
     done
 }
 
-fn limited_in<T: Target>(alloc: Global, core: &mut Core<T>, target: T, refused: &str) -> Result<(), Fail>
+fn limited_in<T: Target>(
+    alloc: Global,
+    core: &mut Core<T>,
+    target: T,
+    refused: &str,
+) -> Result<(), Fail>
     requires settled { core.old.settled ≡ true }
     requires idle { IsIdle (T.means target) }
     ensures { core.new.settled ≡ true }
@@ -398,12 +401,34 @@ fn counted<T: Target>(alloc: Global, core: &mut Core<T>, target: T) -> Result<()
     let id = a.copy()?;
     let state = Dict::new();
     step(alloc, core, Call::Push { id, state }, "not_widget")?;
+    launch(alloc, core, "nowhere", "no_target")?;
+    launch(alloc, core, "n", "not_widget")?;
     let id = a.copy()?;
     let body = body(alloc, false)?;
     step(alloc, core, Call::Send { id, body }, &sent)?;
     let id = a.copy()?;
     step(alloc, core, Call::HangUp { id }, &closed)?;
     step(alloc, core, Call::HangUp { id: a }, "no_comm")
+}
+
+/// Launches the comm 67e55044-10b1-426f-9247-bb680e5fe0c8.
+fn launch<T: Target>(
+    alloc: Global,
+    core: &mut Core<T>,
+    target: &str,
+    want: &str,
+) -> Result<(), Fail>
+    requires settled { core.old.settled ≡ true }
+    ensures { core.new.settled ≡ true }
+{
+    let id = match Uuid::parse_str("67e5504410b1426f9247bb680e5fe0c8") {
+        Ok(id) => id,
+        Err(_) => return Err(Fail::new("no uuid")),
+    };
+    let target = Text::copy_of(alloc, target)?;
+    let state = Dict::new();
+    let call = Call::Launch { id, target, state };
+    step(alloc, core, call, want)
 }
 
 #[test]
@@ -426,12 +451,18 @@ fn run_counter<T: Target>(alloc: Global, target: T) -> Result<(), Fail>
 }
 
 /// A free target: what it refuses, its state and its value for the caller; its comms are closed in the order of opening, before it ends.
-fn scripted<T: Target>(alloc: Global, core: &mut Core<T>, target: T) -> Result<(), Fail>
+fn free_scenario<T: Target>(alloc: Global, core: &mut Core<T>, target: T) -> Result<(), Fail>
     requires settled { core.old.settled ≡ true }
     requires idle { IsIdle (T.means target) }
     ensures { core.new.settled ≡ true }
 {
-    let refused = with(alloc, "refused, the target refused with code 7", "comm_close", "c", "{}")?;
+    let refused = with(
+        alloc,
+        "refused, the target refused with code 7",
+        "comm_close",
+        "c",
+        "{}",
+    )?;
     let unregistered = with(alloc, "unregistered b a", "comm_close", "b", "{}")?;
     let both = with(alloc, &unregistered, "comm_close", "a", "{}")?;
     let _back = register(alloc, core, "t", target, "registered")?;
@@ -465,7 +496,7 @@ fn run_free<T: Target>(alloc: Global, target: T) -> Result<(), Fail>
         Ok(core) => core,
         Err(_) => return Err(Fail::new("no core")),
     };
-    let done = scripted(alloc, &mut core, target);
+    let done = free_scenario(alloc, &mut core, target);
     core.stop_all();
     done
 }
@@ -481,7 +512,11 @@ fn limits_have_bounds() -> Result<(), Fail> {
     holds(most.are_allowed())?;
     holds(!Limits { clients: 5, ..most }.are_allowed())?;
     holds(!Limits { clients: 0, ..most }.are_allowed())?;
-    holds(!Limits { comms: 4_097, ..most }.are_allowed())?;
+    holds(!Limits {
+        comms: 4_097,
+        ..most
+    }
+    .are_allowed())?;
     holds(!Limits { history: 0, ..most }.are_allowed())?;
     holds(!Limits {
         outbox: 65_537,

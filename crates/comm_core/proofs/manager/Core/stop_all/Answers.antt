@@ -16,9 +16,10 @@ pub close_those_of-requires-clause-unstaged : goal.close_those_of-requires-claus
 close_those_of-requires-clause-unstaged g c κs within = (all_but _ _ _ _ (subst (λ l. AllAgree l c.self.inside.comms.all) c.in-Some.ensures.all c.loop-name.invariant)).2
 
 pub end-requires-after_bounds : goal.end-requires-after_bounds
-end-requires-after_bounds g c κs within =
-    (ap (λ (m : Meaning). m.ids) c.close_those_of.ensures,
-    ap (λ (m : Meaning). m.staged) c.close_those_of.ensures ∙ (all_but _ _ _ _ (subst (λ l. AllAgree l c.self.inside.comms.all) c.in-Some.ensures.all c.loop-name.invariant)).2)
+end-requires-after_bounds g c κs within = (
+  ap (λ (m : Meaning). m.ids) c.close_those_of.ensures,
+  ap (λ (m : Meaning). m.staged) c.close_those_of.ensures ∙ (all_but _ _ _ _ (subst (λ l. AllAgree l c.self.inside.comms.all) c.in-Some.ensures.all c.loop-name.invariant)).2,
+)
 
 pub loop-name-preserved : goal.loop-name-preserved
 loop-name-preserved g c = (all_but _ _ _ _ (subst (λ l. AllAgree l c.self.inside.comms.all) c.in-Some.ensures.all c.loop-name.invariant)).0
