@@ -1,5 +1,5 @@
 -- The tables agree after each change.
-use Rattle.std.proofs.Common.{◌≡◌, ℕ, Bool, true, false, cond, List, [], ◌∷◌, ◌++◌, Option, None, Some, is_some, map, filter, refl, ap, sym, ◌∙◌, subst, true≢false}
+use Rattle.std.proofs.Common.{◌≡◌, ℕ, true, false, cond, List, [], ◌∷◌, ◌++◌, Option, None, Some, is_some, refl, ap, sym, ◌∙◌, subst, true≢false}
 use Rattle.std.specs.Str.{bytes_eq}
 use Rattle.comm_value.specs.Tree.{Members}
 use Rattle.comm_targets.specs.Meaning.{Meaning, without as without_id}

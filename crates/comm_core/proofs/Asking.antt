@@ -1,5 +1,5 @@
 -- What may be asked of a target, and what comes of it.
-use Rattle.std.proofs.Common.{◌≡◌, ◌<◌, ℕ, Bool, true, false, cond, List, [], ◌∷◌, Option, None, Some, is_some, Result, Ok, Err, option_map, filter, refl, ap, sym, ◌∙◌, subst, true≢false, IfOk}
+use Rattle.std.proofs.Common.{◌≡◌, ℕ, true, false, cond, List, [], ◌∷◌, Option, None, Some, is_some, Result, Ok, Err, option_map, filter, refl, ap, sym, ◌∙◌, subst, true≢false, IfOk}
 use Rattle.std.specs.declared.alloc.AllocError.{AllocError}
 use Rattle.std.specs.Str.{bytes_eq}
 use Rattle.std.specs.Map.{keys_of}
@@ -15,7 +15,7 @@ use Rattle.comm_targets.specs.declared.event.Event.TheVariants as event
 use Rattle.comm_targets.specs.declared.answer.Answer.{Answer}
 use Rattle.comm_targets.specs.declared.fault.TargetFault.{TargetFault}
 use Rattle.comm_core.specs.Machine.{Name, Machine, at, has, with_at, ids_of}
-use Rattle.comm_core.specs.Step.{Outcome, Verdict, Done, Asked, judged, stepped, answered, refused, holds_widget, is_widget, question_of, Gives, Allowed}
+use Rattle.comm_core.specs.Step.{Outcome, Done, Asked, judged, stepped, answered, refused, holds_widget, is_widget, question_of, Gives, Allowed}
 use Rattle.comm_core.specs.Tables.{Targets, Opens, emptied, registered_of, targets_of, machine_of}
 use Rattle.comm_core.specs.Ready.{Agrees, HaveStaged, SuitsComms, SuitsKind, CanAsk, HasAnswered, HasCome, Suits, bare, planned, staged_by, ended_by, ended_of, verdict_of, Stands}
 use Rattle.comm_core.specs.declared.comm.Comm.{Comm}
@@ -27,7 +27,6 @@ use Rattle.comm_core.specs.declared.plan.Plan.{Plan}
 use Rattle.comm_core.specs.declared.plan.Plan.TheVariants.{Nothing, Register, Unregister, Close, Commit}
 use Rattle.comm_core.proofs.Keys.{text_itself}
 use Rattle.comm_core.proofs.Names.{target_at, has_target}
-use Rattle.comm_core.proofs.Agreeing.{some-at}
 use Rattle.comm_core.proofs.Staging.{none_of, bare-at, bare-there, bare-staged, one-staged}
 
 -- an id that isn't open is an id of no target

@@ -1,13 +1,12 @@
 -- A list of elements with a key and a value each, read as entries.
-use Rattle.std.proofs.Common.{◌≡◌, ℕ, ◌<◌, ◌++◌, List, [], ◌∷◌, length, map, position, remove, Option, Some, None, option_map, refl, ap, sym, ◌∙◌, arith, get_or, true≢false}
+use Rattle.std.proofs.Common.{◌≡◌, ℕ, ◌<◌, List, length, map, position, remove, Option, Some, None, ap, sym, ◌∙◌, arith, get_or}
 use Rattle.std.proofs.Math.ListN.{set, get_or-map}
 use Rattle.std.proofs.Math.Seq.{map-set}
 use Rattle.std.specs.Str.{bytes_eq}
 use Rattle.std.specs.List.{position_or_len}
-use Rattle.std.specs.Map.{lookup, remove_entry, set_value}
 use Rattle.comm_core.specs.Machine.{at, with_at, without}
 use Rattle.indexmap.proofs.SetLemmas.{map-remove}
-use Rattle.comm_core.proofs.Entries.{position-is, lookup-place, set-place, remove-place, place-there, none-at, lookup-no_place, remove-absent}
+use Rattle.comm_core.proofs.Entries.{position-is, lookup-place, set-place, remove-place, none-at, lookup-no_place, remove-absent}
 
 module _ {N X : Type 0} (key : N → List ℕ) (val : N → X) (ns : List N) (name : List ℕ) where
   abbrev pub read : N → List ℕ × X

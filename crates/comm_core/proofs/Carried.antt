@@ -1,8 +1,8 @@
 -- The tables after a plan is carried out.
-use Rattle.std.proofs.Common.{◌≡◌, ℕ, Bool, true, false, cond, List, [], ◌∷◌, ◌++◌, Option, None, Some, is_some, IsSome, Result, Ok, Err, map, option_map, refl, ap, sym, ◌∙◌, subst, true≢false}
+use Rattle.std.proofs.Common.{◌≡◌, ℕ, true, false, cond, List, [], ◌∷◌, ◌++◌, Option, None, Some, option_map, refl, ap, sym, ◌∙◌, subst}
 use Rattle.std.specs.Str.{bytes_eq}
 use Rattle.comm_value.specs.Tree.{Members}
-use Rattle.comm_targets.specs.Meaning.{Meaning, IsIdle, abandons, commits, closes, has_id, ids_after, notes_after}
+use Rattle.comm_targets.specs.Meaning.{Meaning, IsIdle, abandons, commits, closes, ids_after, notes_after}
 use Rattle.comm_targets.specs.declared.kind.Kind.{Kind}
 use Rattle.comm_targets.specs.declared.kind.Kind.TheVariants.{Echo, Counter, Widget, Free}
 use Rattle.comm_targets.specs.declared.stage.Stage.{Stage}
@@ -10,12 +10,12 @@ use Rattle.comm_targets.specs.declared.event.Event.{Event}
 use Rattle.comm_targets.specs.declared.event.Event.TheVariants as event
 use Rattle.comm_targets.specs.declared.answer.Answer.{Answer}
 use Rattle.comm_messages.specs.Content.{Content}
-use Rattle.comm_core.specs.Machine.{Name, Registered, Machine, at, with_at, without, ids_of, others}
+use Rattle.comm_core.specs.Machine.{Name, Registered, Machine, at, with_at, without, others}
 use Rattle.comm_core.specs.Step.{stated, noted, told, opened, closed, registered, unregistered}
 use Rattle.comm_core.specs.Tables.{Targets, Opens, registered_of, targets_of, machine_of}
 use Rattle.comm_core.specs.Ready.{Agrees, HaveStaged, Carried, bare}
 use Rattle.comm_core.specs.declared.comm.Comm.{Comm}
-use Rattle.comm_core.proofs.Entries.{lookup-map, set-map, remove-map, remove-absent, map-append}
+use Rattle.comm_core.proofs.Entries.{set-map, remove-map, remove-absent, map-append}
 use Rattle.comm_core.proofs.Keys.{same_text, text_itself, at-with_at, at-with_at-other, with_at-same}
 use Rattle.comm_core.proofs.Names.{target_at}
 use Rattle.comm_core.proofs.Gone.{at-without}

@@ -1,5 +1,5 @@
 -- The comms of a target, one after the other, and a state that is written.
-use Rattle.std.proofs.Common.{◌≡◌, ℕ, ◌+◌, Bool, true, false, cond, List, [], ◌∷◌, ◌++◌, Option, None, Some, map, filter, fold, refl, ap, sym, ◌∙◌, take, drop}
+use Rattle.std.proofs.Common.{◌≡◌, ℕ, ◌+◌, true, false, cond, List, [], ◌∷◌, ◌++◌, Option, Some, map, filter, fold, refl, ap, sym, ◌∙◌, take, drop}
 use Rattle.std.specs.Str.{bytes_eq}
 use Rattle.std.specs.List.{slice_get}
 use Rattle.std.specs.Map.{keys_of}
@@ -8,7 +8,7 @@ use Rattle.std.specs.Ordering.{nat_cmp}
 use Rattle.std.specs.Cmp.Lexicographic.{slice_cmp}
 use Rattle.std.proofs.lemmas.Slice.Eq.{bytes_eq-Decides}
 use Rattle.comm_targets.specs.Meaning.{Meaning, has_id, without, closes}
-use Rattle.comm_core.specs.Machine.{Name, at, with_at, ids_of}
+use Rattle.comm_core.specs.Machine.{Name, ids_of}
 use Rattle.comm_core.specs.Reads.{Pair, in_order, passes, pairs_in}
 use Rattle.comm_core.specs.Tables.{Opens}
 use Rattle.comm_core.specs.declared.comm.Comm.{Comm}

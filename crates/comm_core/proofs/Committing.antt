@@ -1,14 +1,14 @@
 -- The tables after a target's change is made, and after a target is registered.
-use Rattle.std.proofs.Common.{◌≡◌, ℕ, Bool, true, false, cond, List, [], ◌∷◌, ◌++◌, Option, None, Some, is_some, Result, Ok, Err, refl, ap, sym, ◌∙◌, subst}
+use Rattle.std.proofs.Common.{◌≡◌, ℕ, [], ◌∷◌, ◌++◌, Option, None, Some, is_some, Ok, Err, ap, sym, ◌∙◌, subst}
 use Rattle.comm_value.specs.Tree.{Members}
 use Rattle.comm_messages.specs.Content.{Content}
-use Rattle.comm_targets.specs.Meaning.{Meaning, IsIdle, abandons, commits, ids_after, notes_after}
+use Rattle.comm_targets.specs.Meaning.{Meaning, IsIdle, commits, ids_after, notes_after}
 use Rattle.comm_targets.specs.declared.kind.Kind.{Kind}
 use Rattle.comm_targets.specs.declared.stage.Stage.{Stage}
 use Rattle.comm_targets.specs.declared.event.Event.{Event}
 use Rattle.comm_targets.specs.declared.event.Event.TheVariants as event
 use Rattle.comm_targets.specs.declared.answer.Answer.{Answer}
-use Rattle.comm_core.specs.Machine.{Name, Machine, at, with_at}
+use Rattle.comm_core.specs.Machine.{Name, at, with_at}
 use Rattle.comm_targets.specs.declared.fault.TargetFault.{TargetFault}
 use Rattle.comm_core.specs.Step.{Outcome, answered, stated, told}
 use Rattle.comm_core.specs.Tables.{Targets, Opens, machine_of}
@@ -16,10 +16,10 @@ use Rattle.comm_core.specs.Ready.{Agrees, Carried, HaveStaged, Suits, SuitsComms
 use Rattle.comm_core.specs.declared.comm.Comm.{Comm}
 use Rattle.comm_core.specs.declared.question.Question.{Question}
 use Rattle.comm_core.specs.declared.plan.Plan.{Plan}
-use Rattle.comm_core.specs.declared.plan.Plan.TheVariants.{Nothing, Register, Unregister, Close, Commit}
+use Rattle.comm_core.specs.declared.plan.Plan.TheVariants.{Register, Commit}
 use Rattle.comm_core.proofs.Agreeing.{some-at}
 use Rattle.comm_core.proofs.Staging.{bare-there, none_of}
-use Rattle.comm_core.proofs.Carried.{stage, is_stage, opened_carried, told_carried, still_carried, registered_carried, open_notes, launch_notes}
+use Rattle.comm_core.proofs.Carried.{is_stage, opened_carried, told_carried, registered_carried, open_notes, launch_notes}
 
 module _ (b : Targets) (c : Opens) (h : Agrees (bare b) c) (q : Question) (a : Answer) (staged : HaveStaged b (staged_by (Commit q) (Some (Ok a))))
     (suits : Suits (bare b) c None (Commit q) (Some (Ok a))) (b2 : Targets) (c2 : Opens)

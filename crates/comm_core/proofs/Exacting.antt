@@ -1,10 +1,8 @@
 -- Machines without Free targets.
-use Rattle.std.proofs.Common.{◌≡◌, ℕ, Bool, true, false, not, cond, List, [], ◌∷◌, ◌++◌, Option, None, Some, Result, Ok, Err, filter, refl, ap, sym, ◌∙◌, subst, true≢false, ◌&&◌}
+use Rattle.std.proofs.Common.{◌≡◌, ℕ, Bool, true, false, not, cond, List, [], ◌∷◌, ◌++◌, Option, None, Some, Ok, Err, refl, ap, sym, ◌∙◌, true≢false, ◌&&◌}
 use Rattle.std.specs.Str.{bytes_eq}
 use Rattle.std.specs.List.{list_all}
 use Rattle.comm_value.specs.Tree.{Members}
-use Rattle.comm_messages.specs.declared.outgoing.Outgoing.{Outgoing}
-use Rattle.comm_messages.specs.declared.outgoing.Outgoing.TheVariants as out
 use Rattle.comm_targets.specs.Answers.{Answers, Refuses, answer_of}
 use Rattle.comm_targets.specs.Meaning.{notes_after}
 use Rattle.comm_targets.specs.declared.kind.Kind.{Kind}
@@ -13,14 +11,13 @@ use Rattle.comm_targets.specs.declared.event.Event.{Event}
 use Rattle.comm_targets.specs.declared.event.Event.TheVariants as event
 use Rattle.comm_targets.specs.declared.answer.Answer.{Answer}
 use Rattle.comm_targets.specs.declared.fault.TargetFault.{TargetFault}
-use Rattle.comm_core.specs.Machine.{Name, Registered, Machine, at, has, with_at, without, ids_of, others}
-use Rattle.comm_core.specs.Step.{Outcome, Stepped, Verdict, Done, Asked, Gives, Allowed, asks, judged, step, stepped, answered, refused, noted, opened, told, closed, of_comm, is_full, holds_widget, comm_id, registered, unregistered}
+use Rattle.comm_core.specs.Machine.{Name, Registered, Machine, at, has, with_at, without}
+use Rattle.comm_core.specs.Step.{Outcome, Stepped, Verdict, Done, Asked, Gives, Allowed, asks, judged, step, stepped, answered, refused, noted, of_comm, is_full, holds_widget, comm_id}
 use Rattle.comm_core.specs.Exact.{is_free, is_exact, outcome_by, outcome_at, exact_outcome, registers_free}
 use Rattle.comm_core.specs.declared.comm.Comm.{Comm}
 use Rattle.comm_core.specs.declared.question.Question.{Question}
 use Rattle.comm_core.specs.declared.call.Call.{Call}
 use Rattle.comm_core.specs.declared.call.Call.TheVariants.{Register, Open, Msg, Close, Unregister, Launch, Push, Send, HangUp}
-use Rattle.comm_core.specs.declared.reply.Reply.{Reply}
 
 -- ---- one outcome
 

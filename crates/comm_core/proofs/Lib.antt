@@ -8,6 +8,7 @@ pub mod Entries
 pub mod Exacting
 pub mod Gone
 pub mod Keys
+pub mod Legal
 pub mod Names
 pub mod Readying
 pub mod Refusing

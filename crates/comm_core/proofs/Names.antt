@@ -1,7 +1,7 @@
 -- The machine's targets are those of the boxes.
-use Rattle.std.proofs.Common.{◌≡◌, List, Option, None, Some, is_some, option_map, refl, ap, ◌∙◌}
+use Rattle.std.proofs.Common.{◌≡◌, Option, None, Some, is_some, option_map, refl, ap, ◌∙◌}
 use Rattle.std.specs.Str.{bytes_eq}
-use Rattle.comm_core.specs.Machine.{Name, Registered, at, has}
+use Rattle.comm_core.specs.Machine.{Name, at, has}
 use Rattle.comm_core.specs.Tables.{Targets, registered_of, targets_of}
 use Rattle.comm_core.proofs.Entries.{lookup-map}
 

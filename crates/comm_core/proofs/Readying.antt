@@ -1,12 +1,12 @@
 -- From what came of a call to what stands ready, and back to the state before it.
-use Rattle.std.proofs.Common.{◌≡◌, ◌<◌, ℕ, Bool, true, false, cond, List, [], ◌∷◌, Option, None, Some, is_some, refl, ap, sym, ◌∙◌, subst, true≢false}
+use Rattle.std.proofs.Common.{◌≡◌, ◌<◌, ℕ, Bool, true, false, cond, List, [], Option, None, Some, refl, ap, sym, ◌∙◌, subst, true≢false}
 use Rattle.comm_messages.specs.declared.outgoing.Outgoing.{Outgoing}
 use Rattle.comm_targets.specs.Meaning.{Meaning, IsIdle}
 use Rattle.comm_targets.specs.declared.kind.Kind.{Kind}
 use Rattle.comm_core.specs.Machine.{Name, Machine, at, has}
 use Rattle.comm_core.specs.Step.{Outcome, Stepped, Allowed, asks, step}
 use Rattle.comm_core.specs.Tables.{Targets, Opens, targets_of, machine_of}
-use Rattle.comm_core.specs.Ready.{State, Readied, IsReady, IsSound, Agrees, HaveStaged, HasCome, Carried, Suits, state, machine, bare, undone, planned, readied, staged_by, back_by, back_of, ended_by, ended_of}
+use Rattle.comm_core.specs.Ready.{State, Readied, IsReady, IsSound, Agrees, HaveStaged, HasCome, Carried, Suits, state, machine, bare, planned, readied, staged_by, back_by, back_of, ended_by, ended_of}
 use Rattle.comm_core.specs.declared.call.Call.{Call}
 use Rattle.comm_core.specs.declared.call.Call.TheVariants as call
 use Rattle.comm_core.specs.declared.reply.Reply.{Reply}

@@ -1,20 +1,18 @@
 -- What is staged in one target, and in no other.
-use Rattle.std.proofs.Common.{◌≡◌, ℕ, Bool, true, false, cond, List, [], ◌∷◌, Option, None, Some, is_some, IsSome, Result, Ok, Err, map, option_map, refl, ap, sym, ◌∙◌, subst, true≢false, inl, inr, ◌⊎◌}
+use Rattle.std.proofs.Common.{◌≡◌, true, false, cond, List, [], ◌∷◌, Option, None, Some, is_some, IsSome, option_map, refl, ap, sym, ◌∙◌, subst, true≢false, inl, inr, ◌⊎◌}
 use Rattle.std.specs.Str.{bytes_eq}
-use Rattle.std.specs.Map.{lookup}
 use Rattle.comm_targets.specs.Meaning.{Meaning, stages, abandons}
-use Rattle.comm_targets.specs.declared.stage.Stage.{Stage}
 use Rattle.comm_targets.specs.declared.event.Event.{Event}
 use Rattle.comm_targets.specs.declared.answer.Answer.{Answer}
 use Rattle.comm_targets.specs.declared.fault.TargetFault.{TargetFault}
-use Rattle.comm_targets.specs.declared.fault.TargetFault.TheVariants.{WrongVersion, NoState, BadState, BadPath, BufferMissing, NoMethod, UnknownMethod, Other, Memory}
+use Rattle.comm_targets.specs.declared.fault.TargetFault.TheVariants.{Memory}
 use Rattle.comm_core.specs.Machine.{Name, Registered, at, with_at}
 use Rattle.comm_core.specs.Tables.{Targets, Opens, registered_of, targets_of, machine_of}
 use Rattle.comm_core.specs.Machine.{Machine}
 use Rattle.comm_core.specs.Ready.{AreDistinct, HaveStaged, bare, is_memory}
 use Rattle.comm_core.proofs.Entries.{lookup-map, none-from_map, set-map}
 use Rattle.comm_core.proofs.Keys.{same_text, text_itself, at-with_at, at-with_at-other, with_at-same, with_at-twice}
-use Rattle.comm_core.proofs.Names.{is_some-map, target_at}
+use Rattle.comm_core.proofs.Names.{is_some-map}
 use Rattle.comm_core.proofs.Agreeing.{distinct-with_at}
 
 pub none_of : {X : Type 0} (o : Option X) → is_some o ≡ false → o ≡ None

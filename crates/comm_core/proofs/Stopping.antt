@@ -1,10 +1,10 @@
 -- The targets of a settled manager, as they are ended.
-use Rattle.std.proofs.Common.{◌≡◌, ◌<◌, ℕ, Bool, true, false, List, [], ◌∷◌, ◌++◌, length, Option, None, Some, refl, ap, sym, ◌∙◌, subst, arith, length-append}
+use Rattle.std.proofs.Common.{◌≡◌, ◌<◌, ℕ, Bool, true, false, List, [], ◌∷◌, ◌++◌, length, None, Some, refl, subst, arith}
 use Rattle.std.specs.Str.{bytes_eq}
 use Rattle.comm_targets.specs.Meaning.{Meaning}
 use Rattle.comm_core.specs.Machine.{at, ids_of}
 use Rattle.comm_core.specs.Tables.{Targets, Opens}
-use Rattle.comm_core.specs.Ready.{State, AreDistinct, Agrees, HaveStaged, IsSound, AllAgree, bare, state}
+use Rattle.comm_core.specs.Ready.{AreDistinct, HaveStaged, IsSound, AllAgree}
 use Rattle.comm_core.proofs.Keys.{same_text, text_itself}
 use Rattle.comm_core.proofs.Staging.{bare-at, distinct-bare}
 

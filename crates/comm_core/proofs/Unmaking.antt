@@ -1,6 +1,5 @@
 -- The targets after a plan is taken back.
-use Rattle.std.proofs.Common.{◌≡◌, Bool, true, false, cond, Option, None, Some, is_some, Result, Ok, Err, refl, ap, sym, ◌∙◌, subst}
-use Rattle.std.specs.Str.{bytes_eq}
+use Rattle.std.proofs.Common.{◌≡◌, Option, None, Some, Ok, Err, ap, sym, ◌∙◌, subst}
 use Rattle.comm_targets.specs.Meaning.{Meaning, abandons}
 use Rattle.comm_core.specs.Machine.{Name, at, with_at}
 use Rattle.comm_core.specs.Step.{Outcome}

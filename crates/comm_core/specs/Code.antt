@@ -1,14 +1,8 @@
 -- The tables and what stands ready as values that give them back, by which a proof tells them apart.
-use Rattle.std.specs.Prelude.{ℕ, Bool, List, Option, Result, refl}
-use Rattle.std.specs.Coded.{Coded, code_by, coded×, coded_ℕ, coded_bool, coded_list, coded_option, coded_result}
-use Rattle.comm_messages.specs.declared.outgoing.Outgoing.{Outgoing}
-use Rattle.comm_messages.specs.contracts.outgoing.Outgoing as outgoing
+use Rattle.std.specs.Prelude.{ℕ, List, refl}
+use Rattle.std.specs.Coded.{Coded, code_by, coded×, coded_ℕ, coded_list}
 use Rattle.comm_targets.specs.Meaning.{Meaning}
 use Rattle.comm_targets.specs.Code.{meaning_code}
-use Rattle.comm_targets.specs.declared.answer.Answer.{Answer}
-use Rattle.comm_targets.specs.declared.fault.TargetFault.{TargetFault}
-use Rattle.comm_targets.specs.contracts.answer.Answer as answer
-use Rattle.comm_targets.specs.contracts.fault.TargetFault as fault
 use Rattle.comm_core.specs.declared.comm.Comm.{Comm}
 use Rattle.comm_core.specs.contracts.comm.Comm as comm
 use Rattle.comm_core.specs.Tables.{Table}

@@ -1,10 +1,10 @@
 -- Where no target is Free, a call has one outcome at most.
-use Rattle.std.specs.Prelude.{ℕ, Bool, not, true, false, List, Option, Some, None, option_map, option_and_then}
+use Rattle.std.specs.Prelude.{ℕ, Bool, not, true, false, Option, Some, None}
 use Rattle.std.specs.List.{list_all}
 use Rattle.comm_targets.specs.Answers.{answer_of}
 use Rattle.comm_targets.specs.declared.kind.Kind.{Kind}
 use Rattle.comm_targets.specs.declared.kind.Kind.TheVariants.{Echo, Counter, Widget, Free}
-use Rattle.comm_core.specs.Machine.{Name, Registered, Machine, at}
+use Rattle.comm_core.specs.Machine.{Registered, Machine, at}
 use Rattle.comm_core.specs.Step.{Outcome, asks}
 use Rattle.comm_core.specs.declared.question.Question.{Question}
 use Rattle.comm_core.specs.declared.call.Call.{Call}

@@ -1,5 +1,5 @@
 -- A manager between its calls, and what stands ready between `begin` and `finish`.
-use Rattle.std.specs.Prelude.{◌≡◌, ◌<◌, ℕ, Bool, true, false, List, [], ◌∷◌, Option, None, Some, Result, Ok, Err, is_some, map, option_map, if◌then◌else◌}
+use Rattle.std.specs.Prelude.{◌≡◌, ◌<◌, ℕ, Bool, true, false, List, [], ◌∷◌, Option, None, Some, Ok, Err, is_some, map, option_map, if◌then◌else◌}
 use Rattle.std.specs.Str.{bytes_eq}
 use Rattle.comm_messages.specs.declared.outgoing.Outgoing.{Outgoing}
 use Rattle.comm_targets.specs.Meaning.{Meaning, abandons, IsIdle}
@@ -9,7 +9,7 @@ use Rattle.comm_targets.specs.declared.event.Event.TheVariants as event
 use Rattle.comm_targets.specs.declared.fault.TargetFault.{TargetFault}
 use Rattle.comm_targets.specs.declared.fault.TargetFault.TheVariants as fault
 use Rattle.comm_core.specs.Machine.{Name, Machine, at, has, ids_of}
-use Rattle.comm_core.specs.Step.{Outcome, Stepped, Verdict, Done, Asked, step, asks, stepped, answered, registered, unregistered, closed, holds_widget, Allowed}
+use Rattle.comm_core.specs.Step.{Outcome, Verdict, Done, Asked, step, asks, stepped, answered, registered, unregistered, closed, holds_widget, Allowed}
 use Rattle.comm_core.specs.Tables.{Targets, Opens, targets_of, machine_of, emptied}
 use Rattle.comm_core.specs.declared.comm.Comm.{Comm}
 use Rattle.comm_core.specs.declared.question.Question.{Question}

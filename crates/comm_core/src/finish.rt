@@ -22,6 +22,16 @@ pub struct Made<T: Target> {
     pub back: Option<T>,
 }
 
+impl<T: Target> Made<T> {
+    /// No target ends.
+    fn ending_none(back: Option<T>) -> Made<T>
+        ensures ended { result.ended ≡ None }
+        ensures back { option_map T.means result.back ≡ option_map T.means back }
+    {
+        Made { ended: None, back }
+    }
+}
+
 /// Carries the plan out.
 pub fn make<T: Target>(
     boxes: &mut Boxes<T>,
@@ -41,22 +51,13 @@ pub fn make<T: Target>(
     ensures back { option_map T.means result.back ≡ back_by plan (option_map T.means boxed) }
 {
     match plan {
-        Plan::Nothing => Made {
-            ended: None,
-            back: boxed,
-        },
+        Plan::Nothing => Made::ending_none(boxed),
         Plan::Register { name, .. } => match boxed {
             Some(target) => {
                 boxes.push(name, Held::new(target));
-                Made {
-                    ended: None,
-                    back: None,
-                }
+                Made::ending_none(None)
             }
-            None => Made {
-                ended: None,
-                back: None,
-            },
+            None => Made::ending_none(None),
         },
         Plan::Unregister { name } => {
             let ended = unregister(boxes, comms, &name);
@@ -64,27 +65,15 @@ pub fn make<T: Target>(
         }
         Plan::Close { id } => {
             close(boxes, comms, &id);
-            Made {
-                ended: None,
-                back: boxed,
-            }
+            Made::ending_none(boxed)
         }
         Plan::Commit(question) => match outcome {
             Some(Ok(answer)) => {
                 commit(boxes, comms, question, answer);
-                Made {
-                    ended: None,
-                    back: boxed,
-                }
+                Made::ending_none(boxed)
             }
-            Some(Err(_)) => Made {
-                ended: None,
-                back: boxed,
-            },
-            None => Made {
-                ended: None,
-                back: boxed,
-            },
+            Some(Err(_)) => Made::ending_none(boxed),
+            None => Made::ending_none(boxed),
         },
     }
 }

@@ -1,8 +1,9 @@
 //! Laws of the definitions. Each is the contract of a function that does nothing.
-ghost use Rattle.std.specs.Prelude.{◌≡◌, ℕ, Option, Some, true, false};
+ghost use Rattle.std.specs.Prelude.{◌≡◌, ℕ, List, [], ◌∷◌, ◌++◌, Option, Some, true, false};
 ghost use Rattle.comm_core.specs.Machine.{Machine};
 ghost use Rattle.comm_core.specs.Step.{Outcome, Stepped, Allowed, asks, is_done, step};
 ghost use Rattle.comm_core.specs.Exact.{is_exact, exact_outcome, registers_free};
+ghost use Rattle.comm_core.specs.History.{Entry, Follows, IsLegal, has_end};
 ghost use Rattle.comm_core.specs.declared.call.Call.{Call};
 
 /// Where no target is Free, the only outcome that is allowed is that of the definitions of the other kinds.
@@ -18,4 +19,14 @@ pub fn steps_keep_machines_exact()
 /// A call that is refused leaves the machine as it was.
 pub fn refused_calls_change_nothing()
     ensures { (limit : ℕ) (m : Machine) (c : Call) (o : Option Outcome) (s : Stepped) → step limit m c o ≡ Some s → is_done s.reply ≡ false → s.next ≡ m }
+{}
+
+/// What comes before in a legal history is a legal history.
+pub fn prefixes_of_legal_histories_are_legal()
+    ensures { (clients limit : ℕ) (es fs : List Entry) → IsLegal clients limit (es ++ fs) → IsLegal clients limit es }
+{}
+
+/// A legal history without an end stays legal with an entry that may come after it.
+pub fn legal_histories_grow()
+    ensures { (clients limit : ℕ) (es : List Entry) (e : Entry) → IsLegal clients limit es → has_end es ≡ false → Follows clients limit es e → IsLegal clients limit (es ++ e ∷ []) }
 {}

@@ -1,4 +1,9 @@
 //! A comm manager for one thread: targets by name, comms by id, and each call one step of a machine.
+//!
+//! A [`Core`] holds the targets that are registered and the comms that are open. A [`Call`] goes through `begin`, which
+//! takes all memory and asks the target, and then through `finish`, which makes the change and can't fail, or `withdraw`,
+//! which takes everything back. `specs/Machine` and `specs/Step` say what each call does, `specs/History` what a run of
+//! calls is, and `specs/Reads` what a read gives.
 #![tactic(auto)]
 
 mod ask;
@@ -22,7 +27,8 @@ pub use call::Call;
 pub use comm::Comm;
 pub use ids::Ids;
 pub use laws::{
-    exact_machines_leave_no_choice, refused_calls_change_nothing, steps_keep_machines_exact,
+    exact_machines_leave_no_choice, legal_histories_grow, prefixes_of_legal_histories_are_legal,
+    refused_calls_change_nothing, steps_keep_machines_exact,
 };
 pub use limits::{Limits, NewFault};
 pub use manager::{Core, Finished, Ready};

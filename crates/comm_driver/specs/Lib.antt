@@ -1,6 +1,7 @@
 pub mod Line
 pub mod Command
 pub mod Lines
-pub mod Session
 pub mod Stock
 pub mod Words
+pub mod Played
+pub mod Session

@@ -1,5 +1,5 @@
 -- The lines that are written.
-use Rattle.std.specs.Prelude.{ℕ, List, [], ◌∷◌, ◌++◌, Option, Some, None, codes, decimal, map}
+use Rattle.std.specs.Prelude.{ℕ, List, [], ◌∷◌, ◌++◌, Option, Some, None, codes, decimal}
 use Rattle.serde_json.specs.Data.{Data, array, object, no_members, member}
 use Rattle.serde_json.specs.Written.{compact_text}
 use Rattle.comm_value.specs.Tree.{Members}
@@ -10,7 +10,6 @@ use Rattle.comm_value.specs.Places.{member_paths, member_buffers, plain_members}
 use Rattle.comm_value.specs.declared.fault.ValueFault.{ValueFault}
 use Rattle.comm_value.specs.declared.fault.ValueFault.TheVariants as value
 use Rattle.comm_messages.specs.Text.{text, texts, buffer_texts}
-use Rattle.comm_messages.specs.declared.infos.Info.{Info}
 use Rattle.comm_messages.specs.declared.outgoing.Outgoing.{Outgoing}
 use Rattle.comm_messages.specs.declared.outgoing.Parent.{Parent}
 use Rattle.comm_messages.specs.declared.outgoing.Parent.TheVariants.{Call}
@@ -154,7 +153,3 @@ out_line message parent = codes "out " ++ (text message parent ++ 10 ∷ [])
 abbrev pub out_lines : List Outgoing → Parent → List ℕ
 out_lines [] parent = []
 out_lines (o ∷ os) parent = out_line o parent ++ out_lines os parent
-
--- open comms as a reply lists them
-abbrev pub comms_of : List (List ℕ × List ℕ) → List Info
-comms_of infos = map (λ i. record { id = i.0; target = i.1 }) infos

@@ -1,4 +1,4 @@
-use Rattle.std.proofs.Common.{◌≡◌, refl, sym}
+use Rattle.std.proofs.Common.{refl, sym}
 use Rattle.comm_core.proofs.Agreeing.{some-at}
 use Rattle.comm_core.proofs.Asking.{comm_there, comm_open}
 use Rattle.comm_core.proofs.Carried.{closed_carried, gone_carried}

@@ -1,4 +1,3 @@
-use Rattle.std.proofs.Common.{◌≡◌}
 use Rattle.comm_core.proofs.Committing.{commit_opened, commit_launched, commit_told, commit_pushed}
 use Rattle.comm_core.proofs.finish.commit.Goals as goal
 

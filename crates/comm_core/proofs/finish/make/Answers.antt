@@ -1,4 +1,4 @@
-use Rattle.std.proofs.Common.{◌≡◌, ap, ◌∙◌, ◌++◌, ◌∷◌, [], option_map, refl}
+use Rattle.std.proofs.Common.{ap, ◌∙◌, ◌++◌, ◌∷◌, [], option_map, refl}
 use Rattle.comm_targets.specs.Meaning.{Meaning}
 use Rattle.comm_core.proofs.Committing.{register_made}
 use Rattle.comm_core.proofs.finish.make.Goals as goal

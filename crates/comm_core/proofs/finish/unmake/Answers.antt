@@ -1,4 +1,4 @@
-use Rattle.std.proofs.Common.{◌≡◌, refl}
+use Rattle.std.proofs.Common.{refl}
 use Rattle.comm_core.proofs.Unmaking.{not_staged, commit_unmade}
 use Rattle.comm_core.proofs.finish.unmake.Goals as goal
 

@@ -1,4 +1,4 @@
-use Rattle.std.proofs.Common.{◌≡◌, refl, sym}
+use Rattle.std.proofs.Common.{sym}
 use Rattle.comm_targets.specs.Meaning.{abandons}
 use Rattle.comm_core.proofs.Staging.{bare-at}
 use Rattle.comm_core.proofs.Carried.{unregistered_carried}

@@ -1,7 +1,4 @@
-use Rattle.std.proofs.Common.{◌≡◌, refl}
-use Rattle.comm_core.specs.declared.call.Call.TheVariants as call
 use Rattle.comm_core.proofs.judge.judge.Goals as goal
-use Rattle.std.proofs.Common.{ap, sym, ◌∙◌}
 use Rattle.comm_core.proofs.Asking.{verdict_at, stands_at}
 
 pub returns-in-Msg-clause-verdict : goal.returns-in-Msg-clause-verdict

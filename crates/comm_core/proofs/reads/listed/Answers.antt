@@ -1,4 +1,4 @@
-use Rattle.std.proofs.Common.{◌≡◌, ◌++◌, ◌∷◌, [], map, ap, sym, ◌∙◌, append_assoc}
+use Rattle.std.proofs.Common.{◌++◌, ◌∷◌, [], ap, sym, ◌∙◌, append_assoc}
 use Rattle.comm_core.specs.Reads.{Pair, info_of}
 use Rattle.comm_core.proofs.Entries.{map-append}
 use Rattle.comm_core.proofs.reads.listed.Goals as goal

@@ -1,4 +1,4 @@
-use Rattle.std.proofs.Common.{◌≡◌, ap, sym, ◌∙◌, refl}
+use Rattle.std.proofs.Common.{ap, ◌∙◌, refl}
 use Rattle.comm_targets.specs.Meaning.{Meaning, abandons}
 use Rattle.comm_core.specs.Tables.{Table}
 use Rattle.comm_core.specs.Machine.{with_at}

@@ -1,4 +1,4 @@
-use Rattle.std.proofs.Common.{◌≡◌, ap, sym, ◌∙◌, is_some}
+use Rattle.std.proofs.Common.{ap, sym, ◌∙◌, is_some}
 use Rattle.std.specs.Str.{bytes_eq}
 use Rattle.comm_core.proofs.Entries.{is_some-position}
 use Rattle.comm_core.proofs.Names.{has_target}

@@ -1,4 +1,4 @@
-use Rattle.std.proofs.Common.{◌≡◌, ap, sym, ◌∙◌, position}
+use Rattle.std.proofs.Common.{ap, sym, ◌∙◌, position}
 use Rattle.std.specs.Str.{bytes_eq}
 use Rattle.comm_targets.specs.Meaning.{Meaning}
 use Rattle.comm_core.specs.Tables.{Table}

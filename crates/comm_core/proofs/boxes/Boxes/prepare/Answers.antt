@@ -1,5 +1,5 @@
-use Rattle.std.proofs.Common.{◌≡◌, ap, sym, ◌∙◌, refl, subst, option_map, IfOk, IfErr, ◌⊎◌}
-use Rattle.std.proofs.lemmas.Result.{IfOk-weaker, IfErr-weaker}
+use Rattle.std.proofs.Common.{◌≡◌, ap, ◌∙◌, refl, subst, option_map, IfOk, IfErr, ◌⊎◌}
+use Rattle.std.proofs.lemmas.Result.{IfOk-weaker}
 use Rattle.comm_targets.specs.Meaning.{Meaning, stages}
 use Rattle.comm_targets.specs.Answers.{Answers, Refuses}
 use Rattle.comm_targets.specs.declared.fault.TargetFault.TheVariants as fault

@@ -1,4 +1,4 @@
-use Rattle.std.proofs.Common.{◌≡◌, ap, sym, ◌∙◌, refl, Some, map}
+use Rattle.std.proofs.Common.{ap, sym, ◌∙◌, map}
 use Rattle.comm_targets.specs.Meaning.{Meaning}
 use Rattle.comm_core.specs.Tables.{Table}
 use Rattle.comm_core.proofs.Boxed.{held, removed, absent}

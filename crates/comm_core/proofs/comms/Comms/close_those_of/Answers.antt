@@ -1,7 +1,7 @@
-use Rattle.std.proofs.Common.{◌≡◌, ap, sym, ◌∙◌, true, false, arith, Some}
+use Rattle.std.proofs.Common.{◌≡◌, ap, sym, ◌∙◌, true, false, arith}
 use Rattle.std.specs.Str.{bytes_eq}
 use Rattle.std.specs.List.{slice_get}
-use Rattle.comm_targets.specs.Meaning.{Meaning, is_open, closes}
+use Rattle.comm_targets.specs.Meaning.{Meaning}
 use Rattle.comm_core.specs.Tables.{Table}
 use Rattle.comm_core.specs.declared.comm.Comm.{Comm}
 use Rattle.comm_core.proofs.Closing.{first_is, one_less, none_less}

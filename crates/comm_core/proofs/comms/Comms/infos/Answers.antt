@@ -1,4 +1,4 @@
-use Rattle.std.proofs.Common.{◌≡◌, ap, sym, ◌∙◌, true, false, arith, option_map, [], Some}
+use Rattle.std.proofs.Common.{◌≡◌, ap, sym, ◌∙◌, true, false, arith, option_map, []}
 use Rattle.std.specs.List.{slice_get}
 use Rattle.comm_core.specs.Reads.{passes}
 use Rattle.comm_core.specs.Tables.{Table}

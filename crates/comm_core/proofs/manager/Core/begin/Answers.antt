@@ -1,6 +1,6 @@
-use Rattle.std.proofs.Common.{◌≡◌, ap, sym, ◌∙◌, refl}
+use Rattle.std.proofs.Common.{ap, ◌∙◌, refl}
 use Rattle.comm_core.specs.Ready.{State}
-use Rattle.comm_core.proofs.Readying.{sound-settled, sound_begun, call_ready, came_step, came_allowed, came_machine, undone_is}
+use Rattle.comm_core.proofs.Readying.{sound-settled, call_ready, came_step, came_allowed, came_machine, undone_is}
 use Rattle.comm_core.proofs.manager.Core.begin.Goals as goal
 
 pub invariant_of-self : goal.invariant_of-self

@@ -1,4 +1,4 @@
-use Rattle.std.proofs.Common.{◌≡◌, ap, sym, ◌∙◌, refl, cond}
+use Rattle.std.proofs.Common.{ap, sym, ◌∙◌, refl, cond}
 use Rattle.comm_core.specs.Ready.{State}
 use Rattle.comm_core.specs.declared.plan.Plan.TheVariants.{Nothing, Register}
 use Rattle.comm_core.proofs.Readying.{sound-settled, register_ready, undone_is}

@@ -1,5 +1,3 @@
-use Rattle.std.proofs.Common.{◌≡◌, ap, sym}
-use Rattle.comm_core.specs.Ready.{Readied}
 use Rattle.comm_core.proofs.Readying.{finished_step, finished_ended, finished_back, staged_now, suits_now}
 use Rattle.comm_core.proofs.manager.Core.finish.Goals as goal
 

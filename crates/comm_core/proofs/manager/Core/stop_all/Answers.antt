@@ -1,6 +1,5 @@
-use Rattle.std.proofs.Common.{◌≡◌, ap, sym, ◌∙◌, subst}
+use Rattle.std.proofs.Common.{ap, ◌∙◌, subst}
 use Rattle.comm_targets.specs.Meaning.{Meaning}
-use Rattle.comm_core.specs.Machine.{ids_of}
 use Rattle.comm_core.specs.Ready.{State, AllAgree}
 use Rattle.comm_core.proofs.Stopping.{all_agree, all_but}
 use Rattle.comm_core.proofs.manager.Core.stop_all.Goals as goal

@@ -1,4 +1,4 @@
-use Rattle.std.proofs.Common.{◌≡◌, option_map}
+use Rattle.std.proofs.Common.{option_map}
 use Rattle.comm_core.proofs.Readying.{staged_now, suits_now, sound_bare}
 use Rattle.comm_core.proofs.manager.Core.withdraw.Goals as goal
 

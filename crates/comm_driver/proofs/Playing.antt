@@ -1,0 +1,109 @@
+-- A script that is being played.
+use Rattle.std.proofs.Common.{◌≡◌, ℕ, ◌+◌, ◌<◌, ◌≤◌, List, [], ◌∷◌, ◌++◌, length, true, false, sym, ap, ◌∙◌, append_assoc, append-nil, refl, arith, subst, Option, Some, None, IfSome, take, length-append}
+use Rattle.std.specs.Io.KnownBytes.{Appends, Consumes, IsAtEnd, Keeps}
+use Rattle.std.specs.Prelude.{◌==◌}
+use Rattle.std.proofs.lemmas.Bool.{eqb-true}
+use Rattle.comm_core.specs.declared.limits.Limits.{Limits}
+use Rattle.comm_core.specs.Limits.{AreAllowed}
+use Rattle.comm_driver.specs.Lines.{lines_of, has_line_feed}
+use Rattle.comm_core.specs.Machine.{Registered}
+use Rattle.comm_driver.specs.Played.{Standing, played, played_from, turn}
+use Rattle.comm_driver.specs.Session.{Stands, IsWithin, Says}
+use Rattle.comm_driver.specs.declared.session.Session.{Session}
+use Rattle.comm_driver.proofs.Cut.{cut, last_line, none_joined}
+
+-- one more line is played
+says_next : {A : Type 0} (limits : Limits) (stock : List Registered) (input : List ℕ) (s new : Session A) (number : ℕ) (rest line more text said : List ℕ) → Says limits stock input s number rest text → lines_of rest ≡ line ∷ lines_of more
+    → ((now : Standing) → Stands limits now s → said ≡ text ++ (turn limits now (number + 1) line).text)
+    → ((now : Standing) → Stands limits now s → Stands limits (turn limits now (number + 1) line).after new)
+    → Says limits stock input new (number + 1) more said
+says_next limits stock input s new number rest line more text said before cut writes keeps =
+    let now = before.now in
+    let next = played_from limits (turn limits now (number + 1) line).after (number + 1) (lines_of more) in
+    let split : played_from limits now number (lines_of rest) ≡ (turn limits now (number + 1) line).text ++ next = ap (played_from limits now number) cut in
+    record {
+      now = (turn limits now (number + 1) line).after;
+      stands = keeps now before.stands;
+      whole = ap (λ l. l ++ next) (writes now before.stands) ∙ append_assoc text (turn limits now (number + 1) line).text next ∙ ap (λ l. text ++ l) (sym split) ∙ before.whole;
+    }
+
+-- the same, after what was written before
+says_more : {A : Type 0} (limits : Limits) (stock : List Registered) (input : List ℕ) (s new : Session A) (number : ℕ) (rest line more written text said : List ℕ) → Says limits stock input s number rest (written ++ text) → lines_of rest ≡ line ∷ lines_of more
+    → ((now : Standing) → Stands limits now s → said ≡ text ++ (turn limits now (number + 1) line).text)
+    → ((now : Standing) → Stands limits now s → Stands limits (turn limits now (number + 1) line).after new)
+    → Says limits stock input new (number + 1) more (written ++ said)
+says_more limits stock input s new number rest line more written text said before cut writes keeps =
+    says_next limits stock input s new number rest line more (written ++ text) (written ++ said) before cut
+    (λ now stands. ap (λ l. written ++ l) (writes now stands) ∙ sym (append_assoc written text (turn limits now (number + 1) line).text)) keeps
+
+-- the lines that end in a piece are being played: what is pending, and what is left of the piece
+pub record Plays {A : Type 0} (first : Session A) (from : ℕ) (begun piece before : List ℕ) (s : Session A) (number : ℕ) (pending rest text : List ℕ) : Type 0 where
+  pub room : number + length rest ≤ from + length piece
+  pub within : IsWithin number s
+  pub fit : AreAllowed s.limits
+  pub settled : s.core.settled ≡ true
+  pub one_line : has_line_feed pending ≡ false
+  pub says : (limits : Limits) (stock : List Registered) (input more written : List ℕ) → Says limits stock input first from (begun ++ (piece ++ more)) (written ++ before) → Says limits stock input s number (pending ++ (rest ++ more)) (written ++ text)
+
+-- what is pending and the rest of its line, before what follows
+joined : (pending line rest more : List ℕ) → pending ++ ((line ++ 10 ∷ rest) ++ more) ≡ (pending ++ line) ++ 10 ∷ (rest ++ more)
+joined pending line rest more = ap (λ l. pending ++ l) (append_assoc line (10 ∷ rest) more) ∙ sym (append_assoc pending line (10 ∷ (rest ++ more)))
+
+first_of : (pending line rest more whole : List ℕ) → has_line_feed pending ≡ false → has_line_feed line ≡ false → whole ≡ line ++ 10 ∷ rest
+    → lines_of (pending ++ (whole ++ more)) ≡ (pending ++ line) ∷ lines_of (rest ++ more)
+first_of pending line rest more whole p q is =
+    ap (λ w. lines_of (pending ++ (w ++ more))) is ∙ ap lines_of (joined pending line rest more) ∙ cut (pending ++ line) (rest ++ more) (none_joined pending line p q)
+
+shorter : (line rest whole : List ℕ) → whole ≡ line ++ 10 ∷ rest → length rest + 1 ≤ length whole
+shorter line rest whole is =
+    let size : length whole ≡ length line + length (10 ∷ rest) = ap length is ∙ length-append line (10 ∷ rest) in
+    omega (arith, size)
+
+pub falls : (line rest whole : List ℕ) → whole ≡ line ++ 10 ∷ rest → length rest < length whole
+falls line rest whole is = omega (arith, shorter line rest whole is)
+
+pub plays_next : {A : Type 0} (first : Session A) (from : ℕ) (begun piece before : List ℕ) (s new : Session A) (number : ℕ) (pending rest line more text said whole : List ℕ)
+    → Plays first from begun piece before s number pending rest text → rest ≡ line ++ 10 ∷ more → has_line_feed line ≡ false → whole ≡ pending ++ line → new.limits ≡ s.limits → new.core.settled ≡ true → IsWithin (number + 1) new
+    → ((limits : Limits) (now : Standing) → Stands limits now s → said ≡ text ++ (turn limits now (number + 1) whole).text)
+    → ((limits : Limits) (now : Standing) → Stands limits now s → Stands limits (turn limits now (number + 1) whole).after new)
+    → Plays first from begun piece before new (number + 1) [] more said
+plays_next first from begun piece before s new number pending rest line more text said whole h is none line_is same settled within writes keeps = record {
+  room = omega (arith, h.room, shorter line more rest is);
+  within = within;
+  fit = subst AreAllowed (sym same) h.fit;
+  settled = settled;
+  one_line = refl;
+  says = λ limits stock input others written start.
+      says_more limits stock input s new number (pending ++ (rest ++ others)) whole (more ++ others) written text said (h.says limits stock input others written start)
+      (first_of pending line more others rest h.one_line none is ∙ ap (λ w. w ∷ lines_of (more ++ others)) (sym line_is)) (writes limits) (keeps limits);
+}
+
+-- nothing of the piece is left, and what was left of it is pending
+pub plays_all : {A : Type 0} (first : Session A) (from : ℕ) (begun piece before : List ℕ) (s : Session A) (number : ℕ) (pending rest text kept : List ℕ) → Plays first from begun piece before s number pending rest text → kept ≡ pending ++ rest
+    → (limits : Limits) (stock : List Registered) (input more written : List ℕ) → Says limits stock input first from (begun ++ (piece ++ more)) (written ++ before) → Says limits stock input s number (kept ++ more) (written ++ text)
+plays_all first from begun piece before s number pending rest text kept h is limits stock input more written start =
+    subst (λ (l : List ℕ). Says limits stock input s number l (written ++ text)) (sym (append_assoc pending rest more) ∙ ap (λ k. k ++ more) (sym is)) (h.says limits stock input more written start)
+
+pub says_all : {A : Type 0} (limits : Limits) (stock : List Registered) (input : List ℕ) (s : Session A) (number : ℕ) (text : List ℕ) → Says limits stock input s number [] text → text ≡ played limits stock input
+says_all limits stock input s number text before = sym (append-nil text) ∙ before.whole
+
+empty_is : (xs : List ℕ) → (length xs == 0) ≡ true → xs ≡ []
+empty_is [] h = refl
+empty_is (x ∷ xs) h = absurd (omega (arith, eqb-true (length (x ∷ xs)) 0 h))
+
+-- nothing is pending at the end
+pub says_none : {A : Type 0} (limits : Limits) (stock : List Registered) (input : List ℕ) (s : Session A) (number : ℕ) (pending text : List ℕ) → (length pending == 0) ≡ true → Says limits stock input s number pending text → text ≡ played limits stock input
+says_none limits stock input s number pending text end before = says_all limits stock input s number text (subst (λ (p : List ℕ). Says limits stock input s number p text) (empty_is pending end) before)
+
+last_is : (pending : List ℕ) → has_line_feed pending ≡ false → (length pending == 0) ≡ false → lines_of pending ≡ pending ∷ lines_of []
+last_is [] none some = cc
+last_is (b ∷ pending) none some = last_line b pending none
+
+-- the last line is played
+pub says_last : {A : Type 0} (limits : Limits) (stock : List Registered) (input : List ℕ) (s new : Session A) (number : ℕ) (pending written text said : List ℕ) → has_line_feed pending ≡ false → (length pending == 0) ≡ false → Says limits stock input s number pending (written ++ text)
+    → ((now : Standing) → Stands limits now s → said ≡ text ++ (turn limits now (number + 1) pending).text)
+    → ((now : Standing) → Stands limits now s → Stands limits (turn limits now (number + 1) pending).after new)
+    → written ++ said ≡ played limits stock input
+says_last limits stock input s new number pending written text said none some before writes keeps =
+    says_all limits stock input new (number + 1) (written ++ said)
+    (says_more limits stock input s new number pending pending [] written text said before (last_is pending none some) writes keeps)

@@ -1,0 +1,39 @@
+use Rattle.std.proofs.Common.{◌<◌, length, arith}
+use Rattle.comm_driver.proofs.Streaming.{if_some, streams_first, streams_next, streams_kept, streams_ended}
+use Rattle.comm_driver.proofs.run.play.Goals as goal
+use Rattle.comm_driver.proofs.run.play.Goals.{in-Ok+in_ok-play_piece-in-Ok+in_ok-send-in-Ok, in-Err+else-ne}
+
+pub loop-preserved : goal.loop-preserved
+loop-preserved g c =
+    elim c.match-read.branch [
+      | in-Ok+in_ok-play_piece-in-Ok+in_ok-send-in-Ok w ↦ rw (w.session-is, w.number-is, w.pending-is, w.writer-is, w.text-is) (record {
+        room = omega (arith, w.in_ok-play_piece-in-Ok.ensures.room, c.loop.invariant.room);
+        within = w.in_ok-play_piece-in-Ok.ensures.within;
+        fit = w.in_ok-play_piece-in-Ok.ensures.fits;
+        settled = w.in_ok-play_piece-in-Ok.ensures.settled;
+        one_line = w.in_ok-play_piece-in-Ok.ensures.one_line;
+        empty = w.in_ok-send-in-Ok.ensures.empty;
+        streams = λ limits stock stands. if_some _ _ _
+            (λ input h. streams_next limits stock input _ _ _ _ _ _ _ _ _ _ _ _ c.loop.text.items w.play_piece.new.text.items h w.in-Ok.ensures.bytes.0 c.loop.invariant.empty (w.in_ok-play_piece-in-Ok.ensures.says limits stock)
+            w.in_ok-send-in-Ok.ensures.sent) (c.loop.invariant.streams limits stock stands);
+      })
+      | in-Err+else-ne w ↦ rw (w.session-is, w.number-is, w.pending-is, w.writer-is, w.text-is) (record {
+        room = omega (arith, c.loop.invariant.room);
+        within = c.loop.invariant.within;
+        fit = c.loop.invariant.fit;
+        settled = c.loop.invariant.settled;
+        one_line = c.loop.invariant.one_line;
+        empty = c.loop.invariant.empty;
+        streams = λ limits stock stands. if_some (g.R.Read.remaining c.args.reader.now) _ _
+            (λ input h. streams_kept {A = g.row.T.Denot} limits stock input (g.W.Write.contents c.args.writer.now) (g.W.Write.contents c.loop.writer) (g.R.Read.remaining c.loop.reader) (g.R.Read.remaining c.read.new.self)
+            c.loop.session c.loop.number c.loop.pending.items h w.in-Err.ensures.bytes) (c.loop.invariant.streams limits stock stands);
+      })
+    ]
+
+pub returns-in-Ok-eq0-clause-played : goal.returns-in-Ok-eq0-clause-played
+returns-in-Ok-eq0-clause-played g c =
+    let some : 0 < length c.read.new.buf = omega arith in
+    λ limits stock stands.
+    if_some _ _ _
+    (λ input h. streams_ended limits stock input _ _ _ _ _ _ _ _ c.deref.result.now c.loop.text.items c.play_last.new.text.items c.in-Ok-eq0.field-0 c.read.new.buf h c.deref.ensures.value c.in-Ok-eq0.field-0-test c.in-Ok-eq0.ensures.bytes.0
+    c.in-Ok-eq0.ensures.bytes.1 some c.loop.invariant.empty (c.in_ok-play_last-in-Ok-eq0.ensures.says limits stock) c.in_ok-send-in-Ok-eq0.ensures.sent) (c.loop.invariant.streams limits stock stands)
