@@ -47,7 +47,11 @@ pub fn message_of(alloc: Global, value: &Value, clients: u8) -> Result<(u8, Inco
 
 /// The same of the members of a JSON object.
 #[tactic(auto, unfolding(crate::specs::Message::message_in))]
-pub fn message_in(alloc: Global, line: Fields<'_>, clients: u8) -> Result<(u8, Incoming), MessageFault>
+pub fn message_in(
+    alloc: Global,
+    line: Fields<'_>,
+    clients: u8,
+) -> Result<(u8, Incoming), MessageFault>
     ensures message { Gives (λ r. (r.0, r.1)) result (message_in clients (fields line.entry)) }
     ensures below { 0 < clients → IfOk result (λ r. r.0 < clients) }
 {
