@@ -1,0 +1,15 @@
+//! JSON values behind references: `serde_json`'s, and those whose texts stand in the line that they were read from.
+//!
+//! A line is read once, by the kit's `json`, into a tree that borrows its texts ([`read_line`]). What is read is what `serde_json`
+//! reads, and the contracts see it as `serde_json`'s data; so both kinds go through one door, [`JsonRef`].
+
+#![tactic(auto)]
+
+mod json_number;
+mod json_ref;
+mod ranges;
+mod reading;
+
+pub use json_ref::{ItemsRef, JsonRef, ObjectRef, Shape};
+pub use ranges::numbers_are_in_range;
+pub use reading::{LineFault, read_line};
