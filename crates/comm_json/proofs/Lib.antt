@@ -1,2 +1,3 @@
 pub mod ReadLists
 pub mod LookUp
+pub mod MemberOrder

@@ -1,10 +1,15 @@
 -- A JSON value behind a reference: one that serde_json made, or one that the kit's json read and whose texts stand in the line.
-use Rattle.std.specs.Prelude.{ℕ, List, Option, Some, None, if◌then◌else◌}
+use Rattle.std.specs.Prelude.{ℕ, List, [], ◌∷◌, Option, Some, None, if◌then◌else◌}
+use Rattle.std.specs.Ordering.{nat_cmp}
+use Rattle.std.specs.Cmp.Lexicographic.{slice_cmp}
+use Rattle.std.specs.List.Sorted.{IsStrictlySortedBy}
+use Rattle.std.specs.Map.{keys_of}
+use Rattle.std.specs.declared.cmp.Ordering.{Ordering}
 use Rattle.std.specs.Borrow.{Bor}
 use Rattle.json.specs.Json as json
-use Rattle.json.specs.Value.{value_view, items_view as borrowed_items}
+use Rattle.json.specs.Value.{value_view, items_view as borrowed_items, members_view as borrowed_members}
 use Rattle.json.specs.declared.value.Value.{Value}
-use Rattle.serde_json.specs.Data.{Num, Data, null, boolean, number, string, array, object, Items, no_items, item, Members, no_members, put}
+use Rattle.serde_json.specs.Data.{Num, Data, null, boolean, number, string, array, object, Items, no_items, item, Members, no_members, member, put}
 use Rattle.serde_json.specs.Read.{number_of, read}
 use Rattle.std.specs.Str.{is_utf8}
 use Rattle.serde_json.specs.View.{view, number_view, items_view, members_view}
@@ -39,11 +44,6 @@ abbrev mutual
   members_data json.no_members found = found
   members_data (json.member k j ms) found = members_data ms (put k (data_of j) found)
 
--- of a value that isn't an object, none
-abbrev pub members_in : Data → Members
-members_in (object ms) = ms
-members_in d = no_members
-
 abbrev pub seen : JsonRef → Data
 seen (r.Owned v) = view v.now
 seen (r.Borrowed v) = data_of (value_view v.now)
@@ -54,7 +54,7 @@ items (items_ref.Borrowed vs) = items_data (borrowed_items vs.now.items)
 
 abbrev pub members : ObjectRef → Members
 members (object_ref.Owned m) = members_view m.now.entries
-members (object_ref.Borrowed v) = members_in (data_of (value_view v.now))
+members (object_ref.Borrowed ms) = members_data (borrowed_members ms.now.items) no_members
 
 -- the value of which this is the outermost level
 abbrev pub shown : Shape → Data
@@ -68,3 +68,15 @@ shown (shape.Object o) = object (members o)
 -- the JSON value that a line is: UTF-8, and one value with nothing after it (RFC 8259, 2 and 8.1)
 abbrev pub line_value : List ℕ → Option Data
 line_value bytes = if is_utf8 bytes then read bytes else None
+
+-- by their bytes
+abbrev pub text_cmp : Bor (List ℕ) → Bor (List ℕ) → Ordering
+text_cmp a b = slice_cmp nat_cmp a.now b.now
+
+-- members behind references, as data
+abbrev pub members_of : List (Bor (List ℕ) × JsonRef) → Members
+members_of [] = no_members
+members_of (m ∷ ms) = member m.0.now (seen m.1) (members_of ms)
+
+abbrev pub AreInOrder : List (Bor (List ℕ) × JsonRef) → Type 0
+AreInOrder ms = IsStrictlySortedBy text_cmp (keys_of ms)

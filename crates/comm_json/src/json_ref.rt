@@ -1,8 +1,9 @@
 ghost use Rattle.std.specs.Prelude.{◌≡◌, Some, None, true, false, option_map, MatchBool};
-ghost use Rattle.json.specs.Value.{value_view};
+ghost use Rattle.json.specs.Value.{value_view, members_view};
+ghost use Rattle.serde_json.specs.Data.{no_members};
 ghost use Rattle.serde_json.specs.Find.{get_member, get_item};
 ghost use Rattle.serde_json.specs.Read.{of_json};
-ghost use Rattle.comm_json.specs.Seen.{seen, data_of, items, members, shown};
+ghost use Rattle.comm_json.specs.Seen.{seen, data_of, members_data, items, members, shown};
 
 use crate::json_number::number_in;
 use serde_json::{Map, Number, Value};
@@ -25,7 +26,7 @@ pub enum ItemsRef<'v, 'a> {
 #[derive(Clone, Copy)]
 pub enum ObjectRef<'v, 'a> {
     Owned(&'v Map<String, Value>),
-    Borrowed(&'v json::Value<'a>),
+    Borrowed(&'v Vec<(&'a str, json::Value<'a>)>),
 }
 
 /// What a JSON value is, one level deep.
@@ -76,7 +77,7 @@ fn shape_of_borrowed<'v, 'a>(value: &'v json::Value<'a>) -> Shape<'v, 'a>
         },
         json::Value::String(text) => Shape::Text(text),
         json::Value::Array(items) => Shape::Items(ItemsRef::Borrowed(items)),
-        json::Value::Object(_) => Shape::Object(ObjectRef::Borrowed(value)),
+        json::Value::Object(list) => Shape::Object(ObjectRef::Borrowed(list)),
     }
 }
 
@@ -118,10 +119,28 @@ impl<'v, 'a> ObjectRef<'v, 'a> {
                 Some(member) => Some(JsonRef::Owned(member)),
                 None => None,
             },
-            ObjectRef::Borrowed(value) => match value.get(key) {
+            ObjectRef::Borrowed(list) => match last_of(list, key) {
                 Some(member) => Some(JsonRef::Borrowed(member)),
                 None => None,
             },
         }
     }
+}
+
+// The value of the last member with this key.
+fn last_of<'v, 'a>(
+    list: &'v Vec<(&'a str, json::Value<'a>)>,
+    key: &str,
+) -> Option<&'v json::Value<'a>>
+    ensures { option_map (λ v. data_of (value_view v.now)) result ≡ get_member key.now (members_data (members_view list.now.items) no_members) }
+{
+    let mut left = list.len();
+    while left > 0 {
+        left -= 1;
+        let member = &list[left];
+        if member.0 == key {
+            return Some(&member.1);
+        }
+    }
+    None
 }

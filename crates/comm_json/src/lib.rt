@@ -5,11 +5,13 @@
 
 #![tactic(auto)]
 
+mod in_order;
 mod json_number;
 mod json_ref;
 mod ranges;
 mod reading;
 
+pub use in_order::MemberRef;
 pub use json_ref::{ItemsRef, JsonRef, ObjectRef, Shape};
 pub use ranges::numbers_are_in_range;
 pub use reading::{LineFault, read_line};

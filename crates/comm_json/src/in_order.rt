@@ -1,0 +1,110 @@
+ghost use Rattle.std.specs.Prelude.{◌≡◌, Ok, IfOk, true};
+ghost use Rattle.std.specs.BTreeMap.{insert_entry};
+ghost use Rattle.json.specs.Value.{members_view};
+ghost use Rattle.serde_json.specs.Data.{no_members};
+ghost use Rattle.serde_json.specs.View.{members_view as owned_view};
+ghost use Rattle.comm_json.specs.Seen.{seen, members, members_data, members_of, text_cmp, AreInOrder};
+
+use crate::json_ref::{JsonRef, ObjectRef};
+use serde_json::{Map, Value};
+use std::alloc::{AllocError, Global};
+use std::cmp::Ordering;
+use std::collections::BTreeMap;
+
+/// A member behind a reference: its key and its value.
+pub type MemberRef<'v, 'a> = (&'v str, JsonRef<'v, 'a>);
+
+// How many members are moved at most to let one in among them.
+const NEAR: usize = 64;
+
+impl<'v, 'a> ObjectRef<'v, 'a> {
+    /// Its members in the order of their keys' bytes, each key once. It takes time as a sorting does, and less where they stand in order.
+    pub fn in_order(self, alloc: Global) -> Result<Vec<MemberRef<'v, 'a>>, AllocError>
+        ensures all { IfOk result (λ all. members_of all.items ≡ members self.entry) }
+        ensures ordered { IfOk result (λ all. AreInOrder all.items) }
+    {
+        match self {
+            ObjectRef::Owned(map) => all_of(alloc, map),
+            ObjectRef::Borrowed(list) => in_order(alloc, list),
+        }
+    }
+}
+
+fn all_of<'v, 'a>(
+    alloc: Global,
+    map: &'v Map<String, Value>,
+) -> Result<Vec<MemberRef<'v, 'a>>, AllocError>
+    ensures all { IfOk result (λ all. members_of all.items ≡ owned_view map.now.entries) }
+    ensures ordered { IfOk result (λ all. AreInOrder all.items) }
+{
+    let mut all = Vec::with_capacity(alloc, map.len())?;
+    for (key, value) in map.iter() {
+        all.push((key.as_str(), JsonRef::Owned(value)))?;
+    }
+    Ok(all)
+}
+
+fn in_order<'v, 'a>(
+    alloc: Global,
+    list: &'v Vec<(&'a str, json::Value<'a>)>,
+) -> Result<Vec<MemberRef<'v, 'a>>, AllocError>
+    ensures all { IfOk result (λ all. members_of all.items ≡ members_data (members_view list.now.items) no_members) }
+    ensures ordered { IfOk result (λ all. AreInOrder all.items) }
+{
+    let mut all = Vec::with_capacity(alloc, list.len())?;
+    for member in list {
+        if !let_in(&mut all, member.0, JsonRef::Borrowed(&member.1))? {
+            return by_map(alloc, list);
+        }
+    }
+    Ok(all)
+}
+
+// Puts a member at its place, or says that its place is too far from the end.
+fn let_in<'v, 'a>(
+    all: &mut Vec<MemberRef<'v, 'a>>,
+    key: &'v str,
+    value: JsonRef<'v, 'a>,
+) -> Result<bool, AllocError>
+    requires { AreInOrder all.old.items }
+    ensures { result ≡ Ok true → all.new.items ≡ insert_entry text_cmp all.old.items key.entry value.entry }
+{
+    let mut place = all.len();
+    let least = place.saturating_sub(NEAR);
+    while place > least {
+        match key.cmp(all[place - 1].0) {
+            Ordering::Greater => {
+                all.insert(place, (key, value))?;
+                return Ok(true);
+            }
+            Ordering::Equal => {
+                all[place - 1].1 = value;
+                return Ok(true);
+            }
+            Ordering::Less => place -= 1,
+        }
+    }
+    if place > 0 {
+        return Ok(false);
+    }
+    all.insert(0, (key, value))?;
+    Ok(true)
+}
+
+fn by_map<'v, 'a>(
+    alloc: Global,
+    list: &'v Vec<(&'a str, json::Value<'a>)>,
+) -> Result<Vec<MemberRef<'v, 'a>>, AllocError>
+    ensures all { IfOk result (λ all. members_of all.items ≡ members_data (members_view list.now.items) no_members) }
+    ensures ordered { IfOk result (λ all. AreInOrder all.items) }
+{
+    let mut map: BTreeMap<&'v str, JsonRef<'v, 'a>> = BTreeMap::new(alloc);
+    for member in list {
+        map.insert(member.0, JsonRef::Borrowed(&member.1))?;
+    }
+    let mut all = Vec::with_capacity(alloc, map.len())?;
+    for (key, value) in map.iter() {
+        all.push((*key, *value))?;
+    }
+    Ok(all)
+}
