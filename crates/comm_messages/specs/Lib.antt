@@ -5,3 +5,4 @@ pub mod Buffers
 pub mod Message
 pub mod Text
 pub mod Parts
+pub mod ReadAgain
