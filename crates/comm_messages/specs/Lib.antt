@@ -6,3 +6,4 @@ pub mod Message
 pub mod Text
 pub mod Parts
 pub mod ReadAgain
+pub mod Words

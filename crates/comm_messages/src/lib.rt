@@ -28,3 +28,5 @@ pub use write::{append_buffers, append_message, write_message};
 
 #[cfg(test)]
 mod tests;
+#[cfg(test)]
+mod write_tests;
