@@ -1,12 +1,11 @@
 -- Buffers that are decoded one after the other.
-use Rattle.std.proofs.Common.{◌≡◌, ◌+◌, ◌<◌, ℕ, suc, List, [], ◌∷◌, ◌++◌, length, get_or, drop, take, Option, Some, None, Ok, Err, refl, sym, ap, ◌∙◌, arith, append-nil, append_assoc, length-append}
+use Rattle.std.proofs.Common.{◌≡◌, ◌+◌, ◌<◌, ℕ, suc, List, [], ◌∷◌, ◌++◌, length, get_or, drop, Ok, Err, refl, sym, ap, ◌∙◌, arith, append_assoc}
 use Rattle.std.proofs.Math.Seq.{drop-cons}
 use Rattle.serde_json.specs.View.{view, items_view}
-use Rattle.serde_json.specs.Data.{Data, Items, item, no_items}
+use Rattle.serde_json.specs.Data.{item}
 use Rattle.serde_json.specs.declared.value.Value.{Value}
 use Rattle.comm_messages.specs.Gives.{Reading, ◌>>=◌, or_fault}
 use Rattle.comm_messages.specs.Buffers.{decoded, decoded_from}
-use Rattle.comm_messages.specs.declared.fault.MessageFault.{MessageFault}
 use Rattle.comm_messages.specs.declared.fault.MessageFault.TheVariants.{BadBuffer}
 
 -- those that were decoded before the rest

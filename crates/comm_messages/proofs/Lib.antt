@@ -2,3 +2,5 @@ pub mod ObjectLemmas
 pub mod BufferLemmas
 pub mod NoBytes
 pub mod WriteLemmas
+pub mod JsonTexts
+pub mod ReadAgain

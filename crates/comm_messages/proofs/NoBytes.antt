@@ -1,7 +1,7 @@
 -- What is read from JSON has no bytes in it.
 use Rattle.std.proofs.Common.{◌≡◌, ℕ, ℤ, List, Bool, true, false, ◌||◌, Option, Some, None, option_map, option_and_then, refl, sym, ap, ◌∙◌}
 use Rattle.serde_json.specs.Data as json
-use Rattle.comm_value.specs.Tree.{Tree, null, boolean, text, list, dict, Items, no_items, item, Members, no_members, member, whole}
+use Rattle.comm_value.specs.Tree.{Tree, list, dict, Items, item, Members, member, whole}
 use Rattle.comm_value.specs.Places.{has_bytes, items_have_bytes, members_have_bytes}
 use Rattle.comm_value.specs.FromJson.{tree_of, items_of, members_of, whole_of}
 

@@ -5,3 +5,5 @@ pub mod Buffers
 pub mod Message
 pub mod Text
 pub mod Parts
+pub mod ReadAgain
+pub mod Words

@@ -1,13 +1,13 @@
 -- The message of a line, or the first of the tests that it fails ('Messaging in Jupyter' 5.3, "Custom Messages" and "Comm info").
-use Rattle.std.specs.Prelude.{ℕ, List, Option, Some, None, option_and_then, Ok, Err, codes, if◌then◌else◌}
+use Rattle.std.specs.Prelude.{ℕ, List, Option, option_and_then, Ok, Err, codes, if◌then◌else◌}
 use Rattle.std.specs.Str.{bytes_eq}
-use Rattle.serde_json.specs.Data.{Data, object, Members}
+use Rattle.serde_json.specs.Data.{Data, Members}
 use Rattle.serde_json.specs.Find.{get_member}
 use Rattle.comm_value.specs.FromJson.{members_of}
 use Rattle.comm_value.specs.Tree as tree
 use Rattle.comm_messages.specs.Content.{Content}
 use Rattle.comm_messages.specs.Gives.{Reading, or_fault, ◌>>=◌}
-use Rattle.comm_messages.specs.Fields.{object_in, object_or_empty, text, text_or_none, client_of, fields_of, members_in}
+use Rattle.comm_messages.specs.Fields.{object_in, object_or_empty, text, text_or_none, client_of, members_in}
 use Rattle.comm_messages.specs.Buffers.{buffers_of}
 use Rattle.comm_messages.specs.declared.fault.Field.{Field}
 use Rattle.comm_messages.specs.declared.fault.Field.TheVariants as field

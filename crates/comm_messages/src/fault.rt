@@ -23,6 +23,11 @@ pub enum Field {
 }
 
 impl fmt::Display for Field {
+    ghost use Rattle.std.specs.Prelude.{Some};
+    ghost use Rattle.comm_messages.specs.Words.{field_text};
+
+    ghost output = { λ field. Some (field_text field) };
+
     fn fmt<W: fmt::Write>(&self, f: &mut fmt::Formatter<W>) -> fmt::Result {
         match self {
             Field::Content => write!(f, "`content` is not an object"),

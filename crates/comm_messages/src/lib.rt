@@ -7,6 +7,7 @@ mod fault;
 mod fields;
 mod incoming;
 mod infos;
+mod laws;
 mod outgoing;
 mod read;
 mod write;
@@ -20,9 +21,12 @@ pub use fields::{
 };
 pub use incoming::Incoming;
 pub use infos::{Info, Infos};
+pub use laws::written_is_read_again;
 pub use outgoing::{Outgoing, Parent};
 pub use read::{body_of, message_in, message_of, read_message};
 pub use write::{append_buffers, append_message, write_message};
 
 #[cfg(test)]
 mod tests;
+#[cfg(test)]
+mod write_tests;

@@ -1,4 +1,3 @@
-use Rattle.comm_messages.specs.Parts.{Appends}
 use Rattle.comm_messages.proofs.WriteLemmas.{written, same_part, text_in_parts}
 use Rattle.comm_messages.proofs.write.append_message.Goals as goal
 
