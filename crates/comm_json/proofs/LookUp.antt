@@ -5,10 +5,12 @@ use Rattle.std.proofs.lemmas.Str.{IsUtf8-from_is_utf8, is_utf8-from_IsUtf8}
 use Rattle.json.specs.Value.{value_view, items_view, members_view}
 use Rattle.json.specs.declared.value.Value.{Value}
 use Rattle.serde_json.specs.Data.{no_members}
+use Rattle.serde_json.specs.declared.value.Value.{Value as Owned}
+use Rattle.serde_json.specs.View.{items_view as owned_items}
 use Rattle.serde_json.specs.Find.{get_member, get_item}
 use Rattle.serde_json.specs.Read.{read}
 use Rattle.serde_json.proofs.Views.{get_member-put, get_member-put_other}
-use Rattle.comm_json.specs.Seen.{data_of, items_data, members_data, line_value}
+use Rattle.comm_json.specs.Seen.{count, data_of, items_data, members_data, line_value}
 use Rattle.comm_json.proofs.ReadLists.{One, Member}
 use Rattle.comm_json.proofs.MemberOrder.{put_last}
 use Rattle.std.proofs.lemmas.List.{take_more}
@@ -31,6 +33,14 @@ pub item_at : (vs : List One) (i : ℕ) (d : One) → i < length vs → Some (da
 item_at [] i d h = absurd (omega arith)
 item_at (v ∷ vs) zero d h = refl
 item_at (v ∷ vs) (suc i) d h = item_at vs i d (omega arith)
+
+pub count_of : (vs : List One) → length vs ≡ count (items_data (items_view vs))
+count_of [] = refl
+count_of (v ∷ vs) = ap suc (count_of vs)
+
+pub count_of_owned : (vs : List Owned) → length vs ≡ count (owned_items vs)
+count_of_owned [] = refl
+count_of_owned (v ∷ vs) = ap suc (count_of_owned vs)
 
 pub item_past : (vs : List One) (i : ℕ) → length vs ≤ i → None ≡ get_item i (items_data (items_view vs))
 item_past [] i h = refl

@@ -1,5 +1,5 @@
 -- A JSON value behind a reference: one that serde_json made, or one that the kit's json read and whose texts stand in the line.
-use Rattle.std.specs.Prelude.{ℕ, List, [], ◌∷◌, Option, Some, None, if◌then◌else◌}
+use Rattle.std.specs.Prelude.{ℕ, suc, List, [], ◌∷◌, Option, Some, None, if◌then◌else◌}
 use Rattle.std.specs.Ordering.{nat_cmp}
 use Rattle.std.specs.Cmp.Lexicographic.{slice_cmp}
 use Rattle.std.specs.List.Sorted.{IsStrictlySortedBy}
@@ -80,3 +80,8 @@ members_of (m ∷ ms) = member m.0.now (seen m.1) (members_of ms)
 
 abbrev pub AreInOrder : List (Bor (List ℕ) × JsonRef) → Type 0
 AreInOrder ms = IsStrictlySortedBy text_cmp (keys_of ms)
+
+-- how many items there are
+abbrev pub count : Items → ℕ
+count no_items = 0
+count (item d ds) = suc (count ds)

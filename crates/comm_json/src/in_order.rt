@@ -5,7 +5,7 @@ ghost use Rattle.serde_json.specs.Data.{no_members};
 ghost use Rattle.serde_json.specs.View.{members_view as owned_view};
 ghost use Rattle.comm_json.specs.Seen.{seen, members, members_data, members_of, text_cmp, AreInOrder};
 
-use crate::json_ref::{JsonRef, ObjectRef};
+use crate::json_ref::{JsonRef, Members, ObjectRef};
 use serde_json::{Map, Value};
 use std::alloc::{AllocError, Global};
 use std::cmp::Ordering;
@@ -46,7 +46,7 @@ fn all_of<'v, 'a>(
 
 fn in_order<'v, 'a>(
     alloc: Global,
-    list: &'v Vec<(&'a str, json::Value<'a>)>,
+    list: &'v Members<'a>,
 ) -> Result<Vec<MemberRef<'v, 'a>>, AllocError>
     ensures all { IfOk result (λ all. members_of all.items ≡ members_data (members_view list.now.items) no_members) }
     ensures ordered { IfOk result (λ all. AreInOrder all.items) }
@@ -93,7 +93,7 @@ fn let_in<'v, 'a>(
 
 fn by_map<'v, 'a>(
     alloc: Global,
-    list: &'v Vec<(&'a str, json::Value<'a>)>,
+    list: &'v Members<'a>,
 ) -> Result<Vec<MemberRef<'v, 'a>>, AllocError>
     ensures all { IfOk result (λ all. members_of all.items ≡ members_data (members_view list.now.items) no_members) }
     ensures ordered { IfOk result (λ all. AreInOrder all.items) }

@@ -1,9 +1,9 @@
-ghost use Rattle.std.specs.Prelude.{◌≡◌, Some, None, true, false, option_map, MatchBool};
+ghost use Rattle.std.specs.Prelude.{◌≡◌, ◌<◌, IfSome, Some, None, true, false, option_map, MatchBool};
 ghost use Rattle.json.specs.Value.{value_view, members_view};
 ghost use Rattle.serde_json.specs.Data.{no_members};
 ghost use Rattle.serde_json.specs.Find.{get_member, get_item};
 ghost use Rattle.serde_json.specs.Read.{of_json};
-ghost use Rattle.comm_json.specs.Seen.{seen, data_of, members_data, items, members, shown};
+ghost use Rattle.comm_json.specs.Seen.{seen, data_of, members_data, items, members, shown, count};
 
 use crate::json_number::number_in;
 use serde_json::{Map, Number, Value};
@@ -22,11 +22,14 @@ pub enum ItemsRef<'v, 'a> {
     Borrowed(&'v Vec<json::Value<'a>>),
 }
 
+/// The members of an object as they stand in a line; of two with one key the last stands.
+pub type Members<'a> = Vec<(&'a str, json::Value<'a>)>;
+
 /// A JSON object behind a reference.
 #[derive(Clone, Copy)]
 pub enum ObjectRef<'v, 'a> {
     Owned(&'v Map<String, Value>),
-    Borrowed(&'v Vec<(&'a str, json::Value<'a>)>),
+    Borrowed(&'v Members<'a>),
 }
 
 /// What a JSON value is, one level deep.
@@ -83,7 +86,9 @@ fn shape_of_borrowed<'v, 'a>(value: &'v json::Value<'a>) -> Shape<'v, 'a>
 
 impl<'v, 'a> ItemsRef<'v, 'a> {
     /// How many items there are.
-    pub fn len(self) -> usize {
+    pub fn len(self) -> usize
+        ensures { result ≡ count (items self.entry) }
+    {
         match self {
             ItemsRef::Owned(items) => items.len(),
             ItemsRef::Borrowed(items) => items.len(),
@@ -92,7 +97,8 @@ impl<'v, 'a> ItemsRef<'v, 'a> {
 
     /// The item at this index, from 0.
     pub fn get(self, index: usize) -> Option<JsonRef<'v, 'a>>
-        ensures { option_map seen result ≡ get_item index (items self.entry) }
+        ensures item { option_map seen result ≡ get_item index (items self.entry) }
+        ensures within { IfSome result (λ _. index < count (items self.entry)) }
     {
         match self {
             ItemsRef::Owned(items) => if index < items.len() {
@@ -129,7 +135,7 @@ impl<'v, 'a> ObjectRef<'v, 'a> {
 
 // The value of the last member with this key.
 fn last_of<'v, 'a>(
-    list: &'v Vec<(&'a str, json::Value<'a>)>,
+    list: &'v Members<'a>,
     key: &str,
 ) -> Option<&'v json::Value<'a>>
     ensures { option_map (λ v. data_of (value_view v.now)) result ≡ get_member key.now (members_data (members_view list.now.items) no_members) }

@@ -12,6 +12,6 @@ mod ranges;
 mod reading;
 
 pub use in_order::MemberRef;
-pub use json_ref::{ItemsRef, JsonRef, ObjectRef, Shape};
+pub use json_ref::{ItemsRef, JsonRef, Members, ObjectRef, Shape};
 pub use ranges::numbers_are_in_range;
 pub use reading::{LineFault, read_line};

@@ -1,5 +1,6 @@
 -- Buffers that are decoded one after the other.
-use Rattle.std.proofs.Common.{◌≡◌, ◌+◌, ◌<◌, ℕ, suc, List, [], ◌∷◌, ◌++◌, length, get_or, drop, Ok, Err, refl, sym, ap, ◌∙◌, arith, append_assoc}
+use Rattle.serde_json.specs.Find.{get_item}
+use Rattle.std.proofs.Common.{zero, ◌≡◌, ◌+◌, ◌<◌, ℕ, suc, List, [], ◌∷◌, ◌++◌, length, get_or, drop, Ok, Err, refl, sym, ap, ◌∙◌, arith, append_assoc}
 use Rattle.std.proofs.Math.Seq.{drop-cons}
 use Rattle.serde_json.specs.View.{view, items_view}
 use Rattle.serde_json.specs.Data.{item}
@@ -7,6 +8,9 @@ use Rattle.serde_json.specs.declared.value.Value.{Value}
 use Rattle.comm_messages.specs.Gives.{Reading, ◌>>=◌, or_fault}
 use Rattle.comm_messages.specs.Buffers.{decoded, decoded_from}
 use Rattle.comm_messages.specs.declared.fault.MessageFault.TheVariants.{BadBuffer}
+
+some_same : {A : Type 0} {x y : A} → Some x ≡ Some y → x ≡ y
+some_same h = cc
 
 -- those that were decoded before the rest
 abbrev pub after : List (List ℕ) → Reading (List (List ℕ)) → Reading (List (List ℕ))
@@ -20,21 +24,47 @@ after-cons : (all : List (List ℕ)) (b : List ℕ) (r : Reading (List (List ℕ
 after-cons all b (Ok bs) = ap Ok (sym (append_assoc all (b ∷ []) bs))
 after-cons all b (Err e) = refl
 
--- decoded_from of the values from i on
-abbrev pub rest : List Value → ℕ → ℕ → Reading (List (List ℕ))
-rest vs n i = decoded_from n (items_view (drop i vs))
+-- the items from number n on
+abbrev pub left : ℕ → Items → Items
+left zero ds = ds
+left (suc n) no_items = no_items
+left (suc n) (item d ds) = left n ds
 
-rest-item : (vs : List Value) (n i : ℕ) (v : Value) → i < length vs → v ≡ get_or vs i v → rest vs n i ≡ decoded_from n (item (view v) (items_view (drop (suc i) vs)))
-rest-item vs n i v h is = ap (λ l. decoded_from n (items_view l)) (drop-cons vs i v h ∙ ap (λ w. w ∷ drop (suc i) vs) (sym is))
+left_item : (ds : Items) (n : ℕ) (d : Data) → get_item n ds ≡ Some d → left n ds ≡ item d (left (suc n) ds)
+left_item no_items zero d at = absurd (cc)
+left_item no_items (suc n) d at = absurd (cc)
+left_item (item e ds) zero d at = ap (λ x. item x ds) (some_same at)
+left_item (item e ds) (suc n) d at = left_item ds n d at
 
-step_of : (vs : List Value) (n i : ℕ) (v : Value) (b : List ℕ) → i < length vs → v ≡ get_or vs i v → or_fault (BadBuffer n) (decoded (view v)) ≡ Ok b
-    → rest vs n i ≡ (rest vs (suc n) (suc i) >>= (λ bs. Ok (b ∷ bs)))
-step_of vs n i v b h is d = rest-item vs n i v h is ∙ ap (λ r. r >>= (λ c. rest vs (suc n) (suc i) >>= (λ bs. Ok (c ∷ bs)))) d
+left_none : (ds : Items) (n : ℕ) → get_item n ds ≡ None → left n ds ≡ no_items
+left_none no_items zero at = refl
+left_none no_items (suc n) at = refl
+left_none (item e ds) zero at = absurd (cc)
+left_none (item e ds) (suc n) at = left_none ds n at
 
-pub one_more : (vs : List Value) (i : ℕ) (v : Value) (all new : List (List ℕ)) (b : List ℕ) (whole : Reading (List (List ℕ)))
-    → i < length vs → v ≡ get_or vs i v → or_fault (BadBuffer i) (decoded (view v)) ≡ Ok b → new ≡ all ++ b ∷ []
-    → whole ≡ after all (rest vs i i) → whole ≡ after new (rest vs (i + 1) (i + 1))
-one_more vs i v all new b whole h is d more before =
-    let next : suc i ≡ i + 1 = omega arith in
-    before ∙ ap (after all) (step_of vs i i v b h is d) ∙ after-cons all b (rest vs (suc i) (suc i))
-    ∙ ap (λ l. after l (rest vs (suc i) (suc i))) (sym more) ∙ ap (λ n. after new (rest vs n n)) next
+-- what is left from number n on
+abbrev pub rest : Items → ℕ → Reading (List (List ℕ))
+rest ds n = decoded_from n (left n ds)
+
+pub one_more : (ds : Items) (d : Data) (all new : List (List ℕ)) (b : List ℕ) (whole : Reading (List (List ℕ)))
+    → get_item (length all) ds ≡ Some d → or_fault (BadBuffer (length all)) (decoded d) ≡ Ok b → new ≡ all ++ b ∷ []
+    → whole ≡ after all (rest ds (length all)) → whole ≡ after new (rest ds (length new))
+one_more ds d all new b whole at is more before =
+    let n = length all in
+    let next : suc n ≡ length new = omega (arith, ap length more, length-append all (b ∷ [])) in
+    before
+    ∙ ap (λ is. after all (decoded_from n is)) (left_item ds n d at)
+    ∙ ap (λ r. after all (r >>= (λ c. rest ds (suc n) >>= (λ bs. Ok (c ∷ bs))))) is
+    ∙ after-cons all b (rest ds (suc n))
+    ∙ ap (λ l. after l (rest ds (suc n))) (sym more) ∙ ap (λ m. after new (rest ds m)) next
+
+pub one_fails : (ds : Items) (d : Data) (all : List (List ℕ)) (e : MessageFault) (whole : Reading (List (List ℕ)))
+    → get_item (length all) ds ≡ Some d → or_fault (BadBuffer (length all)) (decoded d) ≡ Err e → whole ≡ after all (rest ds (length all)) → whole ≡ Err e
+one_fails ds d all e whole at is before =
+    let n = length all in
+    before
+    ∙ ap (λ is. after all (decoded_from n is)) (left_item ds n d at)
+    ∙ ap (λ r. after all (r >>= (λ c. rest ds (suc n) >>= (λ bs. Ok (c ∷ bs))))) is
+
+pub none_left : (ds : Items) (all : List (List ℕ)) (whole : Reading (List (List ℕ))) → get_item (length all) ds ≡ None → whole ≡ after all (rest ds (length all)) → whole ≡ Ok all
+none_left ds all whole at before = before ∙ ap (λ is. after all (decoded_from (length all) is)) (left_none ds (length all) at) ∙ ap Ok (append-nil all)

@@ -1,25 +1,30 @@
 -- The fields of a line's object, and what may stand in them (RFC 8259, sections 2 to 8).
-use Rattle.std.specs.Prelude.{ℕ, List, Option, Some, None, option_map, option_and_then, String, Ok, Err, nat_lt, if◌then◌else◌}
-use Rattle.std.specs.Str.{is_utf8}
+use Rattle.std.specs.Prelude.{ℕ, List, Option, Some, None, option_map, option_and_then, Ok, Err, nat_lt, if◌then◌else◌}
 use Rattle.std.specs.Borrow.{Bor}
 use Rattle.std.specs.declared.alloc.Global.{Global}
-use Rattle.std.specs.BTreeMap.{BTreeMap}
 use Rattle.serde_json.specs.Data.{Data, null, string, object, Members, no_members}
 use Rattle.serde_json.specs.Find.{as_number, as_u64}
-use Rattle.serde_json.specs.Read.{read}
-use Rattle.serde_json.specs.View.{view, members_view}
-use Rattle.serde_json.specs.declared.value.Value.{Value}
+use Rattle.json.specs.Value.{members_view}
+use Rattle.json.specs.declared.value.Value.{Value}
+use Rattle.comm_json.specs.Seen.{members, members_data, line_value}
+use Rattle.comm_json.specs.Seen.{seen as of_ref}
+use Rattle.comm_json.specs.declared.json_ref.JsonRef.{JsonRef}
+use Rattle.comm_json.specs.declared.json_ref.ObjectRef.{ObjectRef}
 use Rattle.comm_messages.specs.Gives.{Reading, or_fault}
 use Rattle.comm_messages.specs.declared.fault.MessageFault.TheVariants.{NotJson, BadClient}
 
 -- JSON behind a reference, as data
-abbrev pub seen : Option (Bor Value) → Option Data
-seen o = option_map (λ v. view v.now) o
+abbrev pub seen : Option JsonRef → Option Data
+seen o = option_map of_ref o
 
 -- the members of an object, or none
-abbrev pub fields : Option (Bor (BTreeMap (String Global) Value)) → Members
+abbrev pub fields : Option ObjectRef → Members
 fields None = no_members
-fields (Some m) = members_view m.now.entries
+fields (Some o) = members o
+
+-- the members of a line's object that was read
+abbrev pub read_fields : List (Bor (List ℕ) × Value Global) → Members
+read_fields ms = members_data (members_view ms) no_members
 
 abbrev pub members_in : Data → Option Members
 members_in (object ms) = Some ms
@@ -32,7 +37,7 @@ fields_of _ = no_members
 
 -- the JSON object that a line is: UTF-8, and one value with nothing after it
 abbrev pub object_in : List ℕ → Reading Members
-object_in bytes = or_fault NotJson (option_and_then members_in (if is_utf8 bytes then read bytes else None))
+object_in bytes = or_fault NotJson (option_and_then members_in (line_value bytes))
 
 -- absent or null is an empty object
 abbrev pub object_or_empty : Option Data → Option Members

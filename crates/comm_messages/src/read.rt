@@ -12,7 +12,9 @@ use crate::fields::{
     whole_dict,
 };
 use crate::incoming::Incoming;
+use comm_json::{JsonRef, ObjectRef, Shape};
 use comm_value::{Buffers, Text};
+use json::Scratch;
 use serde_json::Value;
 use std::alloc::{AllocError, Global};
 
@@ -30,8 +32,9 @@ pub fn read_message(alloc: Global, line: &[u8], clients: u8) -> Result<(u8, Inco
     ensures message { Gives (λ r. (r.0, r.1)) result (message clients line.now) }
     ensures below { 0 < clients → IfOk result (λ r. r.0 < clients) }
 {
-    let value = object_in(alloc, line)?;
-    message_in(alloc, fields_of(&value), clients)
+    let mut scratch = Scratch::new(alloc);
+    let object = object_in(alloc, line, &mut scratch)?;
+    message_in(alloc, fields_of(&object), clients)
 }
 
 /// The same of a JSON value that was read.
@@ -40,7 +43,7 @@ pub fn message_of(alloc: Global, value: &Value, clients: u8) -> Result<(u8, Inco
     ensures below { 0 < clients → IfOk result (λ r. r.0 < clients) }
 {
     match value {
-        Value::Object(map) => message_in(alloc, Some(map), clients),
+        Value::Object(map) => message_in(alloc, Some(ObjectRef::Owned(map)), clients),
         _ => Err(MessageFault::NotJson),
     }
 }
@@ -49,7 +52,7 @@ pub fn message_of(alloc: Global, value: &Value, clients: u8) -> Result<(u8, Inco
 #[tactic(auto, unfolding(crate::specs::Message::message_in))]
 pub fn message_in(
     alloc: Global,
-    line: Fields<'_>,
+    line: Fields<'_, '_>,
     clients: u8,
 ) -> Result<(u8, Incoming), MessageFault>
     ensures message { Gives (λ r. (r.0, r.1)) result (message_in clients (fields line.entry)) }
@@ -62,7 +65,7 @@ pub fn message_in(
 }
 
 #[tactic(auto, unfolding(crate::specs::Message::heading))]
-fn heading(line: Fields<'_>, clients: u8) -> Result<(u8, MessageType), MessageFault>
+fn heading(line: Fields<'_, '_>, clients: u8) -> Result<(u8, MessageType), MessageFault>
     ensures value { Gives (λ r. (r.0, r.1)) result (heading clients (fields line.entry)) }
     ensures below { 0 < clients → IfOk result (λ r. r.0 < clients) }
 {
@@ -71,15 +74,20 @@ fn heading(line: Fields<'_>, clients: u8) -> Result<(u8, MessageType), MessageFa
     Ok((client, type_))
 }
 
-fn type_of(header: Option<&Value>) -> Result<MessageType, MessageFault>
+fn type_of(header: Option<JsonRef<'_, '_>>) -> Result<MessageType, MessageFault>
     ensures { Gives (λ t. t) result (type_of (seen header.entry)) }
 {
-    let Some(Value::Object(map)) = header else {
+    let Some(header) = header else {
         return Err(MessageFault::NoType);
     };
-    match text(member(Some(map), "msg_type")) {
-        Some(name) => type_named(name),
-        None => Err(MessageFault::NoType),
+    match header.shape() {
+        Shape::Object(object) => match text(member(Some(object), "msg_type")) {
+            Some(name) => type_named(name),
+            None => Err(MessageFault::NoType),
+        },
+        Shape::Null | Shape::Bool(_) | Shape::Number(_) | Shape::Text(_) | Shape::Items(_) => Err(
+            MessageFault::NoType,
+        ),
     }
 }
 
@@ -99,7 +107,7 @@ fn type_named(name: &str) -> Result<MessageType, MessageFault>
     }
 }
 
-fn text_at<'a>(field: Field, key: &str, of: Fields<'a>) -> Result<&'a str, MessageFault>
+fn text_at<'v>(field: Field, key: &str, of: Fields<'v, '_>) -> Result<&'v str, MessageFault>
     ensures { Gives (λ t. t.now) result (text_at field key.now (fields of.entry)) }
 {
     match text(member(of, key)) {
@@ -108,7 +116,11 @@ fn text_at<'a>(field: Field, key: &str, of: Fields<'a>) -> Result<&'a str, Messa
     }
 }
 
-fn object_at<'a>(field: Field, key: &str, of: Fields<'a>) -> Result<Fields<'a>, MessageFault>
+fn object_at<'v, 'a>(
+    field: Field,
+    key: &str,
+    of: Fields<'v, 'a>,
+) -> Result<Fields<'v, 'a>, MessageFault>
     ensures { Gives fields result (object_at field key.now (fields of.entry)) }
 {
     match object_or_empty(member(of, key)) {
@@ -117,14 +129,14 @@ fn object_at<'a>(field: Field, key: &str, of: Fields<'a>) -> Result<Fields<'a>, 
     }
 }
 
-fn version_of<'a>(metadata: Fields<'a>) -> Option<&'a str>
+fn version_of<'v>(metadata: Fields<'v, '_>) -> Option<&'v str>
     ensures { option_map (λ t. t.now) result ≡ version_of (fields metadata.entry) }
 {
     text(member(metadata, "version"))
 }
 
 /// The body of an object's members, with the buffers of the line's.
-pub fn body_of(alloc: Global, object: Fields<'_>, line: Fields<'_>) -> Result<Body, MessageFault>
+pub fn body_of(alloc: Global, object: Fields<'_, '_>, line: Fields<'_, '_>) -> Result<Body, MessageFault>
     ensures { Gives (λ b. b) result (body_of (fields object.entry) (fields line.entry)) }
 {
     let content = whole_dict(alloc, object)?;
@@ -135,8 +147,8 @@ pub fn body_of(alloc: Global, object: Fields<'_>, line: Fields<'_>) -> Result<Bo
 fn incoming_in(
     alloc: Global,
     type_: MessageType,
-    line: Fields<'_>,
-    content: Fields<'_>,
+    line: Fields<'_, '_>,
+    content: Fields<'_, '_>,
 ) -> Result<Incoming, MessageFault>
     ensures { Gives (λ i. i) result (incoming_in type_ (fields line.entry) (fields content.entry)) }
 {
@@ -149,7 +161,7 @@ fn incoming_in(
 }
 
 #[tactic(auto, unfolding(crate::specs::Message::open_in))]
-fn open_in(alloc: Global, line: Fields<'_>, content: Fields<'_>) -> Result<Incoming, MessageFault>
+fn open_in(alloc: Global, line: Fields<'_, '_>, content: Fields<'_, '_>) -> Result<Incoming, MessageFault>
     ensures { Gives (λ i. i) result (open_in (fields line.entry) (fields content.entry)) }
 {
     let id = text_at(Field::CommId, "comm_id", content)?;
@@ -190,7 +202,7 @@ fn copied(alloc: Global, text: Option<&str>) -> Result<Option<Text>, AllocError>
 }
 
 #[tactic(auto, unfolding(crate::specs::Message::msg_in))]
-fn msg_in(alloc: Global, line: Fields<'_>, content: Fields<'_>) -> Result<Incoming, MessageFault>
+fn msg_in(alloc: Global, line: Fields<'_, '_>, content: Fields<'_, '_>) -> Result<Incoming, MessageFault>
     ensures { Gives (λ i. i) result (msg_in (fields line.entry) (fields content.entry)) }
 {
     let id = text_at(Field::CommId, "comm_id", content)?;
@@ -204,7 +216,7 @@ fn msg_in(alloc: Global, line: Fields<'_>, content: Fields<'_>) -> Result<Incomi
 }
 
 #[tactic(auto, unfolding(crate::specs::Message::close_in))]
-fn close_in(alloc: Global, line: Fields<'_>, content: Fields<'_>) -> Result<Incoming, MessageFault>
+fn close_in(alloc: Global, line: Fields<'_, '_>, content: Fields<'_, '_>) -> Result<Incoming, MessageFault>
     ensures { Gives (λ i. i) result (close_in (fields line.entry) (fields content.entry)) }
 {
     let id = text_at(Field::CommId, "comm_id", content)?;
@@ -216,7 +228,7 @@ fn close_in(alloc: Global, line: Fields<'_>, content: Fields<'_>) -> Result<Inco
 }
 
 // The metadata and the buffers of a message that uses neither.
-fn unused_in(alloc: Global, line: Fields<'_>) -> Result<Buffers, MessageFault>
+fn unused_in(alloc: Global, line: Fields<'_, '_>) -> Result<Buffers, MessageFault>
     ensures { Gives (λ b. b) result (unused_in (fields line.entry)) }
 {
     object_at(Field::Metadata, "metadata", line)?;
@@ -226,8 +238,8 @@ fn unused_in(alloc: Global, line: Fields<'_>) -> Result<Buffers, MessageFault>
 #[tactic(auto, unfolding(crate::specs::Message::info_request_in))]
 fn info_request_in(
     alloc: Global,
-    line: Fields<'_>,
-    content: Fields<'_>,
+    line: Fields<'_, '_>,
+    content: Fields<'_, '_>,
 ) -> Result<Incoming, MessageFault>
     ensures { Gives (λ i. i) result (info_request_in (fields line.entry) (fields content.entry)) }
 {
@@ -238,7 +250,7 @@ fn info_request_in(
     })
 }
 
-fn filter_at<'a>(key: &str, of: Fields<'a>) -> Result<Option<&'a str>, MessageFault>
+fn filter_at<'v>(key: &str, of: Fields<'v, '_>) -> Result<Option<&'v str>, MessageFault>
     ensures { Gives (λ o. option_map (λ t. t.now) o) result (filter_at key.now (fields of.entry)) }
 {
     match text_or_none(member(of, key)) {

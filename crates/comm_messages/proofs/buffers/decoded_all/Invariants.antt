@@ -1,8 +1,11 @@
-use Rattle.std.proofs.Common.{◌≡◌}
-use Rattle.serde_json.specs.View.{items_view}
+use Rattle.std.proofs.Common.{◌≡◌, ◌-◌, length}
+use Rattle.comm_json.specs.Seen.{items, count}
 use Rattle.comm_messages.specs.Buffers.{decoded_from}
 use Rattle.comm_messages.proofs.BufferLemmas.{after, rest}
 use Rattle.comm_messages.proofs.buffers.decoded_all.Given as goal
 
-abbrev pub invariant-loop-number : goal.invariant-loop-number
-invariant-loop-number l = decoded_from 0 (items_view l.texts.items) ≡ after l.all.items (rest l.text-items l.number l.number)
+abbrev pub invariant-loop-text : goal.invariant-loop-text
+invariant-loop-text l = decoded_from 0 (items l.texts) ≡ after l.all.items (rest (items l.texts) (length l.all.items))
+
+abbrev pub decreases-loop-text : goal.decreases-loop-text
+decreases-loop-text l = count (items l.texts) - length l.all.items
