@@ -1,5 +1,5 @@
 ghost use Rattle.std.specs.Prelude.{◌≡◌, Ok, IfOk, IfErr, option_map};
-ghost use Rattle.serde_json.specs.View.{view};
+ghost use Rattle.comm_json.specs.Seen.{seen as of_ref};
 ghost use Rattle.comm_value.specs.View.{tree};
 ghost use Rattle.comm_messages.specs.Fields.{seen, fields};
 ghost use Rattle.comm_value.specs.Paths.{read_paths, Refuses};
@@ -12,13 +12,13 @@ ghost use Rattle.comm_driver.specs.declared.asked.LineFault.TheVariants.{BadUuid
 use crate::asked::{Asked, Key, LineFault};
 use crate::stock::Word;
 use comm_core::Call;
+use comm_json::{JsonRef, Shape};
 use comm_messages::{Fields, body_of, buffers_of, member, object_or_empty, text, whole_dict};
 use comm_value::{Buffers, Dict, Path, Text, Val, ValueFault, paths_of, put_all};
-use serde_json::Value;
 use std::alloc::Global;
 use uuid::Uuid;
 
-fn text_field<'a>(key: Key, name: &str, line: Fields<'a>) -> Result<&'a str, LineFault>
+fn text_field<'v>(key: Key, name: &str, line: Fields<'v, '_>) -> Result<&'v str, LineFault>
     ensures { Gives (λ t. t.now) result (text_field key name.now (fields line.entry)) }
 {
     match text(member(line, name)) {
@@ -27,7 +27,11 @@ fn text_field<'a>(key: Key, name: &str, line: Fields<'a>) -> Result<&'a str, Lin
     }
 }
 
-fn object_field<'a>(key: Key, name: &str, line: Fields<'a>) -> Result<Fields<'a>, LineFault>
+fn object_field<'v, 'a>(
+    key: Key,
+    name: &str,
+    line: Fields<'v, 'a>,
+) -> Result<Fields<'v, 'a>, LineFault>
     ensures { Gives fields result (object_field key name.now (fields line.entry)) }
 {
     match object_or_empty(member(line, name)) {
@@ -37,12 +41,17 @@ fn object_field<'a>(key: Key, name: &str, line: Fields<'a>) -> Result<Fields<'a>
 }
 
 // Whether the buffers are a list; absent or null is an empty one.
-fn list_field(line: Fields<'_>) -> Result<(), LineFault>
+fn list_field(line: Fields<'_, '_>) -> Result<(), LineFault>
     ensures { Gives (λ u. u) result (list_field (fields line.entry)) }
 {
-    match member(line, "buffers") {
-        None | Some(Value::Null) | Some(Value::Array(_)) => Ok(()),
-        Some(_) => Err(LineFault::BadField(Key::Buffers)),
+    let Some(buffers) = member(line, "buffers") else {
+        return Ok(());
+    };
+    match buffers.shape() {
+        Shape::Null | Shape::Items(_) => Ok(()),
+        Shape::Bool(_) | Shape::Number(_) | Shape::Text(_) | Shape::Object(_) => Err(
+            LineFault::BadField(Key::Buffers),
+        ),
     }
 }
 
@@ -60,7 +69,7 @@ fn kind_named(name: &str) -> Option<Word>
     }
 }
 
-fn kind_field(line: Fields<'_>) -> Result<Word, LineFault>
+fn kind_field(line: Fields<'_, '_>) -> Result<Word, LineFault>
     ensures { Gives (λ k. k) result (kind_field (fields line.entry)) }
 {
     match text(member(line, "kind")) {
@@ -72,12 +81,12 @@ fn kind_field(line: Fields<'_>) -> Result<Word, LineFault>
     }
 }
 
-fn whole_value(alloc: Global, json: Option<&Value>) -> Result<Option<Val>, LineFault>
+fn whole_value(alloc: Global, json: Option<JsonRef<'_, '_>>) -> Result<Option<Val>, LineFault>
     ensures { Gives (λ v. option_map tree v) result (whole_value (seen json.entry)) }
 {
     match json {
         None => Ok(None),
-        Some(json) => Ok(Some(Val::from_json(alloc, json)?)),
+        Some(json) => Ok(Some(Val::from_ref(alloc, json)?)),
     }
 }
 
@@ -110,7 +119,7 @@ fn placed_at(
 
 // A state with the buffers at their paths.
 #[tactic(auto, unfolding(crate::specs::Command::state_in))]
-fn state_in(alloc: Global, object: Fields<'_>, line: Fields<'_>) -> Result<Dict, LineFault>
+fn state_in(alloc: Global, object: Fields<'_, '_>, line: Fields<'_, '_>) -> Result<Dict, LineFault>
     ensures { Gives (λ d. d) result (state_in (fields object.entry) (fields line.entry)) }
 {
     let state = whole_dict(alloc, object)?;
@@ -120,7 +129,7 @@ fn state_in(alloc: Global, object: Fields<'_>, line: Fields<'_>) -> Result<Dict,
 }
 
 #[tactic(auto, unfolding(crate::specs::Command::register_in))]
-fn register_in(alloc: Global, line: Fields<'_>) -> Result<Asked, LineFault>
+fn register_in(alloc: Global, line: Fields<'_, '_>) -> Result<Asked, LineFault>
     ensures asked { Gives (λ a. a) result (register_in (fields line.entry)) }
     ensures handless { IfOk result HandsNothing }
 {
@@ -130,7 +139,7 @@ fn register_in(alloc: Global, line: Fields<'_>) -> Result<Asked, LineFault>
     Ok(Asked::Register { kind, name })
 }
 
-fn unregister_in(alloc: Global, line: Fields<'_>) -> Result<Asked, LineFault>
+fn unregister_in(alloc: Global, line: Fields<'_, '_>) -> Result<Asked, LineFault>
     ensures asked { Gives (λ a. a) result (unregister_in (fields line.entry)) }
     ensures handless { IfOk result HandsNothing }
 {
@@ -158,7 +167,7 @@ fn launched(alloc: Global, name: &str, uuid: &str, state: Dict) -> Result<Asked,
 }
 
 #[tactic(auto, unfolding(crate::specs::Command::launch_in))]
-fn launch_in(alloc: Global, line: Fields<'_>) -> Result<Asked, LineFault>
+fn launch_in(alloc: Global, line: Fields<'_, '_>) -> Result<Asked, LineFault>
     ensures asked { Gives (λ a. a) result (launch_in (fields line.entry)) }
     ensures handless { IfOk result HandsNothing }
 {
@@ -171,7 +180,7 @@ fn launch_in(alloc: Global, line: Fields<'_>) -> Result<Asked, LineFault>
 }
 
 #[tactic(auto, unfolding(crate::specs::Command::push_in))]
-fn push_in(alloc: Global, line: Fields<'_>) -> Result<Asked, LineFault>
+fn push_in(alloc: Global, line: Fields<'_, '_>) -> Result<Asked, LineFault>
     ensures asked { Gives (λ a. a) result (push_in (fields line.entry)) }
     ensures handless { IfOk result HandsNothing }
 {
@@ -184,7 +193,7 @@ fn push_in(alloc: Global, line: Fields<'_>) -> Result<Asked, LineFault>
 }
 
 #[tactic(auto, unfolding(crate::specs::Command::send_in))]
-fn send_in(alloc: Global, line: Fields<'_>) -> Result<Asked, LineFault>
+fn send_in(alloc: Global, line: Fields<'_, '_>) -> Result<Asked, LineFault>
     ensures asked { Gives (λ a. a) result (send_in (fields line.entry)) }
     ensures handless { IfOk result HandsNothing }
 {
@@ -196,7 +205,7 @@ fn send_in(alloc: Global, line: Fields<'_>) -> Result<Asked, LineFault>
     Ok(Asked::Change(Call::Send { id, body }))
 }
 
-fn hang_up_in(alloc: Global, line: Fields<'_>) -> Result<Asked, LineFault>
+fn hang_up_in(alloc: Global, line: Fields<'_, '_>) -> Result<Asked, LineFault>
     ensures asked { Gives (λ a. a) result (hang_up_in (fields line.entry)) }
     ensures handless { IfOk result HandsNothing }
 {
@@ -205,7 +214,7 @@ fn hang_up_in(alloc: Global, line: Fields<'_>) -> Result<Asked, LineFault>
     Ok(Asked::Change(Call::HangUp { id }))
 }
 
-fn state_read_in(alloc: Global, line: Fields<'_>) -> Result<Asked, LineFault>
+fn state_read_in(alloc: Global, line: Fields<'_, '_>) -> Result<Asked, LineFault>
     ensures asked { Gives (λ a. a) result (state_read_in (fields line.entry)) }
     ensures handless { IfOk result HandsNothing }
 {
@@ -214,7 +223,7 @@ fn state_read_in(alloc: Global, line: Fields<'_>) -> Result<Asked, LineFault>
     Ok(Asked::State { id })
 }
 
-fn command_named(alloc: Global, name: &str, line: Fields<'_>) -> Result<Asked, LineFault>
+fn command_named(alloc: Global, name: &str, line: Fields<'_, '_>) -> Result<Asked, LineFault>
     ensures asked { Gives (λ a. a) result (command_named name.now (fields line.entry)) }
     ensures handless { IfOk result HandsNothing }
 {
@@ -238,12 +247,18 @@ fn command_named(alloc: Global, name: &str, line: Fields<'_>) -> Result<Asked, L
 }
 
 /// What a command asks for: a line with the key `call`, whose value is handed in.
-pub fn command(alloc: Global, call: &Value, line: Fields<'_>) -> Result<Asked, LineFault>
-    ensures asked { Gives (λ a. a) result (command (view call.now) (fields line.entry)) }
+pub fn command(
+    alloc: Global,
+    call: JsonRef<'_, '_>,
+    line: Fields<'_, '_>,
+) -> Result<Asked, LineFault>
+    ensures asked { Gives (λ a. a) result (command (of_ref call.entry) (fields line.entry)) }
     ensures handless { IfOk result HandsNothing }
 {
-    match call {
-        Value::String(name) => command_named(alloc, name.as_str(), line),
-        _ => Err(LineFault::UnknownCall),
+    match call.shape() {
+        Shape::Text(name) => command_named(alloc, name, line),
+        Shape::Null | Shape::Bool(_) | Shape::Number(_) | Shape::Items(_) | Shape::Object(_) => Err(
+            LineFault::UnknownCall,
+        ),
     }
 }

@@ -7,6 +7,7 @@ use crate::asked::{Asked, LineFault};
 use crate::command::command;
 use comm_core::Call;
 use comm_messages::{Fields, Incoming, client_of, fields_of, member, message_in, object_in};
+use json::Scratch;
 use std::alloc::Global;
 
 fn asked_by_message(incoming: Incoming) -> Asked
@@ -31,7 +32,11 @@ fn asked_by_message(incoming: Incoming) -> Asked
     }
 }
 
-fn asked_in(alloc: Global, line: Fields<'_>, clients: u8) -> Result<(u8, Asked), LineFault>
+fn asked_in(
+    alloc: Global,
+    line: Fields<'_, '_>,
+    clients: u8,
+) -> Result<(u8, Asked), LineFault>
     requires { 0 < clients }
     ensures asked { Gives (λ r. (r.0, r.1)) result (asked_in clients (fields line.entry)) }
     ensures below { IfOk result (λ r. r.0 < clients) }
@@ -50,13 +55,18 @@ fn asked_in(alloc: Global, line: Fields<'_>, clients: u8) -> Result<(u8, Asked),
     }
 }
 
-/// The client, and what it asks for by a line.
-pub fn asked(alloc: Global, line: &[u8], clients: u8) -> Result<(u8, Asked), LineFault>
+/// The client, and what it asks for by a line. The scratch serves the reading, and can be kept from line to line.
+pub fn asked(
+    alloc: Global,
+    line: &[u8],
+    clients: u8,
+    scratch: &mut Scratch,
+) -> Result<(u8, Asked), LineFault>
     requires { 0 < clients }
     ensures asked { Gives (λ r. (r.0, r.1)) result (asked clients line.now) }
     ensures below { IfOk result (λ r. r.0 < clients) }
     ensures handless { IfOk result (λ r. HandsNothing r.1) }
 {
-    let value = object_in(alloc, line)?;
-    asked_in(alloc, fields_of(&value), clients)
+    let object = object_in(alloc, line, scratch)?;
+    asked_in(alloc, fields_of(&object), clients)
 }

@@ -24,15 +24,17 @@ use comm_core::{
 use comm_messages::{MessageFault, Outgoing, Parent};
 use comm_targets::Target;
 use comm_value::{Text, ValueFault};
+use json::Scratch;
 use std::alloc::{AllocError, Global};
 
-/// A manager, the stock of targets, and how many changes were made, by each client too.
+/// A manager, the stock of targets, how many changes were made, by each client too, and what the reading of a line needs.
 pub struct Session<T: Target> {
     pub limits: Limits,
     pub core: Core<T>,
     pub stock: Stock<T>,
     pub changes: u64,
     pub made: [u64; 4],
+    pub scratch: Scratch,
 }
 
 ghost use Rattle.comm_driver.specs.Session.{Stands, IsWithin};
@@ -54,6 +56,7 @@ impl<T: Target> Session<T> {
                 stock: Stock::new(targets),
                 changes: 0,
                 made: [0; 4],
+                scratch: Scratch::new(alloc),
             }),
             Err(NewFault::BadLimits) => Err(RunFault::BadLimits),
             Err(NewFault::Memory) => Err(RunFault::Memory),
@@ -237,7 +240,7 @@ impl<T: Target> Session<T> {
         if is_blank(line) {
             return Ok(());
         }
-        match asked(alloc, line, self.limits.clients) {
+        match asked(alloc, line, self.limits.clients, &mut self.scratch) {
             Ok((client, asked)) => {
                 self.obey(alloc, number, client, asked, text)?;
                 Ok(())
@@ -261,6 +264,7 @@ impl<T: Target> Session<T> {
             stock: _,
             changes: _,
             made: _,
+            scratch: _,
         } = self;
         core.stop_all();
     }
