@@ -35,7 +35,7 @@ pub fn run_with<R: Read, W: Write, T: Target>(
     match Session::new(alloc, limits, stock) {
         Ok(mut session) => {
             let played = play(&mut session, alloc, reader, writer);
-            session.end();
+            end(session);
             played
         }
         Err(fault) => Err(fault),
@@ -101,4 +101,18 @@ fn play<R: Read, W: Write, T: Target>(
         }
     }
     Err(RunFault::Read)
+}
+
+// Ends every target that is registered, and forgets the stock.
+fn end<T: Target>(session: Session<T>)
+    requires { session.core.settled ≡ true }
+{
+    let Session {
+        limits: _,
+        core,
+        stock: _,
+        changes: _,
+        made: _,
+    } = session;
+    core.stop_all();
 }
