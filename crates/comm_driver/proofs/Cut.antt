@@ -54,7 +54,7 @@ cut_at [] n within is = absurd (omega arith)
 cut_at (b ∷ bytes) zero within is = ap (λ x. x ∷ bytes) is
 cut_at (b ∷ bytes) (suc n) within is = ap (λ rest. b ∷ rest) (cut_at bytes n (omega arith) is)
 
-rest_all : (bytes : List ℕ) (n : ℕ) → take (length bytes - n) (drop n bytes) ≡ drop n bytes
+pub rest_all : (bytes : List ℕ) (n : ℕ) → take (length bytes - n) (drop n bytes) ≡ drop n bytes
 rest_all bytes n = take_all _ _ (omega (arith, length-drop n bytes))
 
 -- the parts on both sides of a line feed
