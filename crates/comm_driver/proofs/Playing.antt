@@ -1,16 +1,16 @@
 -- A script that is being played.
-use Rattle.std.proofs.Common.{◌≡◌, ℕ, ◌+◌, ◌<◌, ◌≤◌, List, [], ◌∷◌, ◌++◌, length, true, false, sym, ap, ◌∙◌, append_assoc, append-nil, refl, arith, subst, Option, Some, None, IfSome, take, length-append}
+use Rattle.std.proofs.Common.{◌≡◌, ℕ, ◌+◌, ◌<◌, ◌≤◌, List, [], ◌∷◌, ◌++◌, length, true, false, sym, ap, ◌∙◌, append_assoc, append-nil, refl, arith, subst, Option, Some, None, IfSome, take, length-append, inl, inr}
 use Rattle.std.specs.Io.KnownBytes.{Appends, Consumes, IsAtEnd, Keeps}
 use Rattle.std.specs.Prelude.{◌==◌}
 use Rattle.std.proofs.lemmas.Bool.{eqb-true}
 use Rattle.comm_core.specs.declared.limits.Limits.{Limits}
 use Rattle.comm_core.specs.Limits.{AreAllowed}
-use Rattle.comm_driver.specs.Lines.{lines_of, has_line_feed}
+use Rattle.comm_driver.specs.Lines.{lines_of, has_line_feed, IsWhole}
 use Rattle.comm_core.specs.Machine.{Registered}
 use Rattle.comm_driver.specs.Played.{Standing, played, played_from, turn}
 use Rattle.comm_driver.specs.Session.{Stands, IsWithin, Says, Cuts}
 use Rattle.comm_driver.specs.declared.session.Session.{Session}
-use Rattle.comm_driver.proofs.Cut.{cut, last_line, none_joined}
+use Rattle.comm_driver.proofs.Cut.{cut, last_line, none_joined, whole_more}
 
 -- one more line is played
 says_next : {A : Type 0} (limits : Limits) (stock : List Registered) (input : List ℕ) (s new : Session A) (number : ℕ) (rest line more text said : List ℕ) → Says limits stock input s number rest text → lines_of rest ≡ line ∷ lines_of more
@@ -44,6 +44,7 @@ pub record Plays {A : Type 0} (first : Session A) (from : ℕ) (begun piece befo
   pub settled : s.core.settled ≡ true
   pub one_line : has_line_feed pending ≡ false
   pub whole : List ℕ
+  pub ended : IsWhole whole
   pub is : begun ++ piece ≡ whole ++ (pending ++ rest)
   pub says : (limits : Limits) (stock : List Registered) (input more written : List ℕ) → Says limits stock input first from (whole ++ more) (written ++ before) → Says limits stock input s number more (written ++ text)
 
@@ -56,6 +57,7 @@ plays_first first from begun piece before within fit settled one_line = record {
   settled = settled;
   one_line = one_line;
   whole = [];
+  ended = inl refl;
   is = refl;
   says = λ limits stock input more written start. start;
 }
@@ -88,6 +90,7 @@ plays_next first from begun piece before s new number pending rest line more tex
       settled = settled;
       one_line = refl;
       whole = h.whole ++ (whole ++ 10 ∷ []);
+      ended = whole_more h.whole (whole ++ 10 ∷ []) h.ended (inr (whole, refl));
       is = h.is ∙ moved h.whole pending line whole rest more line_is is;
       says = λ limits stock input others written start.
           says_more limits stock input s new number ((whole ++ 10 ∷ []) ++ others) whole others written text said
@@ -99,7 +102,7 @@ plays_next first from begun piece before s new number pending rest line more tex
 -- nothing of the piece is left, and what was left of it is pending
 pub plays_all : {A : Type 0} (first : Session A) (from : ℕ) (begun piece before : List ℕ) (s : Session A) (number : ℕ) (pending rest text kept : List ℕ) → Plays first from begun piece before s number pending rest text → kept ≡ pending ++ rest
     → Cuts first from begun piece before s number kept text
-plays_all first from begun piece before s number pending rest text kept h is = record { whole = h.whole; is = h.is ∙ ap (λ k. h.whole ++ k) (sym is); says = h.says }
+plays_all first from begun piece before s number pending rest text kept h is = record { whole = h.whole; ended = h.ended; is = h.is ∙ ap (λ k. h.whole ++ k) (sym is); says = h.says }
 
 pub says_all : {A : Type 0} (limits : Limits) (stock : List Registered) (input : List ℕ) (s : Session A) (number : ℕ) (text : List ℕ) → Says limits stock input s number [] text → text ≡ played limits stock input
 says_all limits stock input s number text before = sym (append-nil text) ∙ before.whole

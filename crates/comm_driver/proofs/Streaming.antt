@@ -1,13 +1,13 @@
 -- A script that is played as it comes.
-use Rattle.std.proofs.Common.{◌≡◌, ℕ, ◌+◌, ◌<◌, List, [], ◌∷◌, ◌++◌, length, sym, ap, ◌∙◌, append_assoc, append-nil, refl, arith, subst, Option, Some, None, IfSome, take, drop, take-append-drop, false, ◌-◌}
+use Rattle.std.proofs.Common.{◌≡◌, ℕ, ◌+◌, ◌<◌, List, [], ◌∷◌, ◌++◌, length, sym, ap, ◌∙◌, append_assoc, append-nil, refl, arith, subst, Option, Some, None, IfSome, take, drop, take-append-drop, false, ◌-◌, inl}
 use Rattle.std.specs.Io.KnownBytes.{Appends, Consumes, IsAtEnd, Keeps, append_known}
 use Rattle.comm_core.specs.declared.limits.Limits.{Limits}
-use Rattle.comm_driver.specs.Lines.{lines_of, has_line_feed}
+use Rattle.comm_driver.specs.Lines.{lines_of, has_line_feed, IsWhole}
 use Rattle.comm_core.specs.Machine.{Registered}
-use Rattle.comm_driver.specs.Played.{Standing, played, played_from, Begins, Stops}
+use Rattle.comm_driver.specs.Played.{Standing, played, played_from, Begins, Stops, Pauses}
 use Rattle.comm_driver.specs.Session.{Stands, Says, Cuts}
 use Rattle.comm_driver.specs.declared.session.Session.{Session}
-use Rattle.comm_driver.proofs.Cut.{rest_all}
+use Rattle.comm_driver.proofs.Cut.{rest_all, whole_more}
 use Rattle.comm_driver.proofs.Playing.{says_all}
 
 -- what is written of the script so far, for the lines that were read whole, and what is still to be read of it
@@ -15,6 +15,7 @@ pub record Streams {A : Type 0} (limits : Limits) (stock : List Registered) (inp
   pub written : List ℕ
   pub appends : Appends before now written
   pub whole : List ℕ
+  pub ended : IsWhole whole
   pub rest : List ℕ
   pub known : left ≡ Some rest
   pub is : input ≡ whole ++ (pending ++ rest)
@@ -51,6 +52,7 @@ streams_first limits stock (Some input) contents s stands = record {
   written = [];
   appends = appends_none contents;
   whole = [];
+  ended = inl refl;
   rest = input;
   known = refl;
   is = refl;
@@ -73,6 +75,7 @@ streams_next limits stock input before now then left new s t number next pending
       written = h.written ++ said;
       appends = appends_more before now then h.written said h.appends sent;
       whole = h.whole ++ cuts.whole;
+      ended = whole_more h.whole cuts.whole h.ended cuts.ended;
       rest = after.0;
       known = after.1;
       is = h.is ∙ moved h.whole pending h.rest piece after.0 cuts.whole kept after.2 cuts.is;
@@ -112,7 +115,7 @@ streams_ended limits stock input before now then left new s number pending bytes
 pub streams_kept : {A : Type 0} (limits : Limits) (stock : List Registered) (input : List ℕ) (before now left new : Option (List ℕ)) (s : Session A) (number : ℕ) (pending : List ℕ)
     → Streams limits stock input before now left s number pending → Keeps left new → Streams limits stock input before now new s number pending
 streams_kept limits stock input before now left new s number pending h kept =
-    record { written = h.written; appends = h.appends; whole = h.whole; rest = h.rest; known = unread left new h.rest h.known kept; is = h.is; says = h.says }
+    record { written = h.written; appends = h.appends; whole = h.whole; ended = h.ended; rest = h.rest; known = unread left new h.rest h.known kept; is = h.is; says = h.says }
   where
     unread : (left new : Option (List ℕ)) (rest : List ℕ) → left ≡ Some rest → Keeps left new → new ≡ Some rest
     unread None new rest known kept = cc
@@ -120,12 +123,6 @@ streams_kept limits stock input before now left new s number pending h kept =
     unread (Some xs) (Some ys) rest known kept = let same : xs ≡ rest = cc in ap Some (kept ∙ same)
 
 -- ---- what was written before a fault
-
-pub begins_nothing : (contents : Option (List ℕ)) (text : List ℕ) → Begins contents contents text
-begins_nothing contents text = record { part = []; rest = text; appends = appends_none contents; is = refl }
-
-pub begins_all : (before now : Option (List ℕ)) (text : List ℕ) → Appends before now text → Begins before now text
-begins_all before now text all = record { part = text; rest = []; appends = all; is = sym (append-nil text) }
 
 -- a part of what is said was written
 begins_part : (before now then : Option (List ℕ)) (written said tail text : List ℕ) → Appends before now written → Begins now then said → (written ++ said) ++ tail ≡ text → Begins before then text
@@ -165,19 +162,30 @@ begins_last limits stock input before now then left new s number pending bytes n
     begins_part before now then h.written said [] (played limits stock input) h.appends sent
     (append-nil (h.written ++ said) ∙ ended limits stock input before now left new s number pending bytes none said n buf h same zero read end some empty plays)
 
+-- what was written is what the whole lines give
+answered : {A : Type 0} (limits : Limits) (stock : List Registered) (input : List ℕ) (before now left : Option (List ℕ)) (s : Session A) (number : ℕ) (pending : List ℕ)
+    → (h : Streams limits stock input before now left s number pending) → Appends before now (played limits stock h.whole)
+answered limits stock input before now left s number pending h =
+    subst (λ (t : List ℕ). Appends before now t) (says_all limits stock (h.whole ++ []) s number h.written (h.says []) ∙ ap (played limits stock) (append-nil h.whole)) h.appends
+
 -- between two pieces the lines that were read whole are answered
 pub stops_streams : {A : Type 0} (limits : Limits) (stock : List Registered) (input : List ℕ) (before now left : Option (List ℕ)) (s : Session A) (number : ℕ) (pending : List ℕ)
     → Streams limits stock input before now left s number pending → has_line_feed pending ≡ false → Stops limits stock input left before now
 stops_streams limits stock input before now left s number pending h one_line = record {
   whole = h.whole;
+  ended = h.ended;
   cut = pending;
-  rest = h.rest;
-  is = h.is;
   one_line = one_line;
+  rest = h.rest;
   known = h.known;
-  answered =
-      subst (λ (t : List ℕ). Appends before now t) (says_all limits stock (h.whole ++ []) s number h.written (h.says []) ∙ ap (played limits stock) (append-nil h.whole)) h.appends;
+  is = h.is;
+  answered = answered limits stock input before now left s number pending h;
 }
+
+pub pauses_streams : {A : Type 0} (limits : Limits) (stock : List Registered) (input : List ℕ) (before now left : Option (List ℕ)) (s : Session A) (number : ℕ) (pending : List ℕ)
+    → Streams limits stock input before now left s number pending → Pauses limits stock input before now
+pauses_streams limits stock input before now left s number pending h =
+    record { whole = h.whole; ended = h.ended; rest = pending ++ h.rest; is = h.is; answered = answered limits stock input before now left s number pending h }
 
 -- ---- a text that is being written
 
@@ -185,9 +193,6 @@ pub record Writes (before now : Option (List ℕ)) (text rest : List ℕ) : Type
   pub part : List ℕ
   pub appends : Appends before now part
   pub is : text ≡ part ++ rest
-
-pub writes_first : (contents : Option (List ℕ)) (text : List ℕ) → Writes contents contents text text
-writes_first contents text = record { part = []; appends = appends_none contents; is = refl }
 
 pub writes_next : (before now new : Option (List ℕ)) (text rest taken more : List ℕ) → Writes before now text rest → Appends now new taken → rest ≡ taken ++ more → Writes before new text more
 writes_next before now new text rest taken more h sent is = record {
@@ -209,12 +214,3 @@ appends_kept (Some a) (Some b) (Some c) xs p q = q ∙ p
 
 pub writes_kept : (before now new : Option (List ℕ)) (text rest : List ℕ) → Writes before now text rest → Keeps now new → Writes before new text rest
 writes_kept before now new text rest h kept = record { part = h.part; appends = appends_kept before now new h.part h.appends kept; is = h.is }
-
-pub begins_writes : (before now : Option (List ℕ)) (text rest : List ℕ) → Writes before now text rest → Begins before now text
-begins_writes before now text rest h = record { part = h.part; rest = rest; appends = h.appends; is = h.is }
-
-pub writes_all : (before now : Option (List ℕ)) (text rest : List ℕ) → Writes before now text rest → rest ≡ [] → Appends before now text
-writes_all before now text rest h over = subst (λ (t : List ℕ). Appends before now t) (sym (append-nil h.part) ∙ ap (λ r. h.part ++ r) (sym over) ∙ sym h.is) h.appends
-
-pub begins_kept : (before now new : Option (List ℕ)) (text : List ℕ) → Begins before now text → Keeps now new → Begins before new text
-begins_kept before now new text h kept = record { part = h.part; rest = h.rest; appends = appends_kept before now new h.part h.appends kept; is = h.is }

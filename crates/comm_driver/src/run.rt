@@ -4,7 +4,7 @@ ghost use Rattle.comm_core.specs.Limits.{AreAllowed};
 ghost use Rattle.comm_core.specs.Machine.{Registered};
 ghost use Rattle.comm_driver.specs.Stock.{AreIdle, shelved};
 ghost use Rattle.comm_core.specs.declared.limits.Limits.{Limits};
-ghost use Rattle.comm_driver.specs.Played.{played, Begins, Stops};
+ghost use Rattle.comm_driver.specs.Played.{played, Begins, Stops, Pauses};
 ghost use Rattle.comm_driver.specs.Session.{IsWithin, Stands};
 
 use crate::fault::RunFault;
@@ -19,8 +19,8 @@ use std::io::{ErrorKind, Read, Write};
 ///
 /// What the lines of a piece say is written before the next piece is read. A reader that was called 4,294,967,295 times without
 /// ending gives Read, and so does one that fails; a call that was interrupted is made again. Whatever comes, what was written is
-/// the beginning of what the script gives; after Read it is what the lines give that were read whole. Each target that was
-/// registered is ended, after its comms, and the rest of the stock is let go.
+/// the beginning of what the script gives: after Read what the lines give that were read whole, and after Memory what some lines
+/// give, so that no answer is cut. Each target that was registered is ended, after its comms, and the rest of the stock is let go.
 pub fn run_with<R: Read, W: Write, T: Target>(
     alloc: Global,
     reader: &mut R,
@@ -35,6 +35,8 @@ pub fn run_with<R: Read, W: Write, T: Target>(
         Begins (W.contents writer.old) (W.contents writer.new) (played limits (shelved (map T.means stock.items)) input)) }
     ensures read { IsErrOf result RunFault.Read → IfSome (R.remaining reader.old) (λ input.
         Stops limits (shelved (map T.means stock.items)) input (R.remaining reader.new) (W.contents writer.old) (W.contents writer.new)) }
+    ensures memory { IsErrOf result RunFault.Memory → IfSome (R.remaining reader.old) (λ input.
+        Pauses limits (shelved (map T.means stock.items)) input (W.contents writer.old) (W.contents writer.new)) }
     ensures bad_limits { IsErrOf result RunFault.BadLimits ↔ ¬ (AreAllowed limits) }
 {
     match Session::new(alloc, limits, stock) {
@@ -62,6 +64,8 @@ pub fn run<R: Read, W: Write>(
         Begins (W.contents writer.old) (W.contents writer.new) (played limits (shelved (map (λ b. means b) stock.items)) input)) }
     ensures read { IsErrOf result RunFault.Read → IfSome (R.remaining reader.old) (λ input.
         Stops limits (shelved (map (λ b. means b) stock.items)) input (R.remaining reader.new) (W.contents writer.old) (W.contents writer.new)) }
+    ensures memory { IsErrOf result RunFault.Memory → IfSome (R.remaining reader.old) (λ input.
+        Pauses limits (shelved (map (λ b. means b) stock.items)) input (W.contents writer.old) (W.contents writer.new)) }
     ensures bad_limits { IsErrOf result RunFault.BadLimits ↔ ¬ (AreAllowed limits) }
 {
     run_with(alloc, reader, writer, limits, stock)
@@ -83,6 +87,8 @@ fn play<R: Read, W: Write, T: Target>(
         → IfSome (R.remaining reader.old) (λ input. Begins (W.contents writer.old) (W.contents writer.new) (played limits stock input)) }
     ensures read { IsErrOf result RunFault.Read → (limits : Limits) (stock : List Registered) → Stands limits (record { history = []; stock = stock }) session.old
         → IfSome (R.remaining reader.old) (λ input. Stops limits stock input (R.remaining reader.new) (W.contents writer.old) (W.contents writer.new)) }
+    ensures memory { IsErrOf result RunFault.Memory → (limits : Limits) (stock : List Registered) → Stands limits (record { history = []; stock = stock }) session.old
+        → IfSome (R.remaining reader.old) (λ input. Pauses limits stock input (W.contents writer.old) (W.contents writer.new)) }
     ensures settled { session.new.core.settled ≡ true }
     ensures fault { IfErr result (λ e. e ≢ RunFault.BadLimits) }
 {

@@ -1,5 +1,5 @@
 use Rattle.std.proofs.Common.{◌<◌, length, arith}
-use Rattle.comm_driver.proofs.Streaming.{if_some, streams_next, streams_kept, streams_ended, begins_streams, begins_piece, begins_last, stops_streams}
+use Rattle.comm_driver.proofs.Streaming.{if_some, streams_next, streams_kept, streams_ended, begins_streams, begins_piece, begins_last, stops_streams, pauses_streams}
 use Rattle.comm_driver.proofs.run.play.Goals as goal
 use Rattle.comm_driver.proofs.run.play.Goals.{in-Ok+in_ok-play_piece-in-Ok+in_ok-send-in-Ok, in-Err+else-ne}
 
@@ -84,3 +84,9 @@ returns-then-ne-clause-read g c = λ is limits stock stands.
 pub returns-clause-read : goal.returns-clause-read
 returns-clause-read g c = λ is limits stock stands.
     if_some _ _ _ (λ input h. stops_streams limits stock input _ _ _ c.loop.session c.loop.number c.loop.pending.items h c.loop.invariant.one_line) (c.loop.invariant.streams limits stock stands)
+
+pub returns-in_err-play_last-in-Ok-eq0-clause-memory : goal.returns-in_err-play_last-in-Ok-eq0-clause-memory
+returns-in_err-play_last-in-Ok-eq0-clause-memory g c = λ is limits stock stands. if_some _ _ _ (λ input h. pauses_streams limits stock input _ _ _ c.loop.session c.loop.number c.loop.pending.items h) (c.loop.invariant.streams limits stock stands)
+
+pub returns-in_err-play_piece-in-Ok-clause-memory : goal.returns-in_err-play_piece-in-Ok-clause-memory
+returns-in_err-play_piece-in-Ok-clause-memory g c = λ is limits stock stands. if_some _ _ _ (λ input h. pauses_streams limits stock input _ _ _ c.loop.session c.loop.number c.loop.pending.items h) (c.loop.invariant.streams limits stock stands)
