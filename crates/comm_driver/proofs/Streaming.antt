@@ -1,10 +1,10 @@
 -- A script that is played as it comes.
-use Rattle.std.proofs.Common.{◌≡◌, ℕ, ◌+◌, ◌<◌, List, [], ◌∷◌, ◌++◌, length, sym, ap, ◌∙◌, append_assoc, append-nil, refl, arith, subst, Option, Some, None, IfSome, take, drop, take-append-drop, false, ◌-◌, inl}
+use Rattle.std.proofs.Common.{◌≡◌, ℕ, ◌<◌, List, [], ◌++◌, length, sym, ap, ◌∙◌, append_assoc, append-nil, refl, subst, Option, Some, None, IfSome, take, drop, take-append-drop, false, ◌-◌, inl}
 use Rattle.std.specs.Io.KnownBytes.{Appends, Consumes, IsAtEnd, Keeps, append_known}
 use Rattle.comm_core.specs.declared.limits.Limits.{Limits}
 use Rattle.comm_driver.specs.Lines.{lines_of, has_line_feed, IsWhole}
 use Rattle.comm_core.specs.Machine.{Registered}
-use Rattle.comm_driver.specs.Played.{Standing, played, played_from, Begins, Stops, Pauses}
+use Rattle.comm_driver.specs.Played.{played, played_from, Begins, Stops, Pauses}
 use Rattle.comm_driver.specs.Session.{Stands, Says, Cuts}
 use Rattle.comm_driver.specs.declared.session.Session.{Session}
 use Rattle.comm_driver.proofs.Cut.{rest_all, whole_more}

@@ -1,5 +1,5 @@
 use Rattle.std.proofs.Common.{◌∙◌}
-use Rattle.comm_driver.proofs.Playing.{plays_first, plays_next, plays_all}
+use Rattle.comm_driver.proofs.Playing.{plays_first, plays_next}
 use Rattle.comm_driver.proofs.stream.play_piece.Goals as goal
 
 pub loop-line-init : goal.loop-line-init
