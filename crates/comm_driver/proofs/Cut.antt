@@ -1,10 +1,10 @@
 -- Lines that are cut.
-use Rattle.std.proofs.Common.{◌≡◌, ℕ, zero, suc, ◌+◌, ◌-◌, ◌<◌, ◌≤◌, List, [], ◌∷◌, ◌++◌, length, get_or, take, drop, Bool, true, false, refl, sym, ap, ◌∙◌, arith, add-one, length-drop}
+use Rattle.std.proofs.Common.{◌≡◌, ℕ, zero, suc, ◌+◌, ◌-◌, ◌<◌, ◌≤◌, List, [], ◌∷◌, ◌++◌, length, get_or, take, drop, Bool, true, false, refl, sym, ap, ◌∙◌, arith, add-one, length-drop, inl, inr, subst, append_assoc, append-nil}
 use Rattle.std.specs.Prelude.{◌==◌, ◌||◌}
 use Rattle.std.proofs.lemmas.Bool.{eqb-true}
 use Rattle.std.proofs.lemmas.List.{take_all}
 use Rattle.std.proofs.lemmas.List.Folds.{list_any-append}
-use Rattle.comm_driver.specs.Lines.{lines_of, has_line_feed}
+use Rattle.comm_driver.specs.Lines.{lines_of, has_line_feed, IsWhole}
 
 neither : (x y : Bool) → (x || y) ≡ false → (x ≡ false) × (y ≡ false)
 neither true y h = cc
@@ -54,9 +54,15 @@ cut_at [] n within is = absurd (omega arith)
 cut_at (b ∷ bytes) zero within is = ap (λ x. x ∷ bytes) is
 cut_at (b ∷ bytes) (suc n) within is = ap (λ rest. b ∷ rest) (cut_at bytes n (omega arith) is)
 
-rest_all : (bytes : List ℕ) (n : ℕ) → take (length bytes - n) (drop n bytes) ≡ drop n bytes
+pub rest_all : (bytes : List ℕ) (n : ℕ) → take (length bytes - n) (drop n bytes) ≡ drop n bytes
 rest_all bytes n = take_all _ _ (omega (arith, length-drop n bytes))
 
 -- the parts on both sides of a line feed
 pub parts_at : (bytes : List ℕ) (n : ℕ) → n < length bytes → (get_or bytes n 0 == 10) ≡ true → bytes ≡ take n bytes ++ 10 ∷ take (length bytes - (n + 1)) (drop (n + 1) bytes)
 parts_at bytes n within is = rw (rest_all bytes (n + 1), add-one n) (cut_at bytes n within (eqb-true (get_or bytes n 0) 10 is))
+
+-- whole lines and more of them
+pub whole_more : (xs ys : List ℕ) → IsWhole xs → IsWhole ys → IsWhole (xs ++ ys)
+whole_more xs ys (inl none) more = subst IsWhole (ap (λ l. l ++ ys) (sym none)) more
+whole_more xs ys (inr one) (inl none) = inr (one.0, ap (λ l. xs ++ l) none ∙ append-nil xs ∙ one.1)
+whole_more xs ys (inr one) (inr last) = inr (xs ++ last.0, ap (λ l. xs ++ l) last.1 ∙ sym (append_assoc xs last.0 (10 ∷ [])))

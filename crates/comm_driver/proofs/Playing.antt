@@ -1,16 +1,15 @@
 -- A script that is being played.
-use Rattle.std.proofs.Common.{◌≡◌, ℕ, ◌+◌, ◌<◌, ◌≤◌, List, [], ◌∷◌, ◌++◌, length, true, false, sym, ap, ◌∙◌, append_assoc, append-nil, refl, arith, subst, Option, Some, None, IfSome, take, length-append}
-use Rattle.std.specs.Io.KnownBytes.{Appends, Consumes, IsAtEnd, Keeps}
+use Rattle.std.proofs.Common.{◌≡◌, ℕ, ◌+◌, ◌<◌, ◌≤◌, List, [], ◌∷◌, ◌++◌, length, true, false, sym, ap, ◌∙◌, append_assoc, append-nil, refl, arith, subst, length-append, inl, inr}
 use Rattle.std.specs.Prelude.{◌==◌}
 use Rattle.std.proofs.lemmas.Bool.{eqb-true}
 use Rattle.comm_core.specs.declared.limits.Limits.{Limits}
 use Rattle.comm_core.specs.Limits.{AreAllowed}
-use Rattle.comm_driver.specs.Lines.{lines_of, has_line_feed}
+use Rattle.comm_driver.specs.Lines.{lines_of, has_line_feed, IsWhole}
 use Rattle.comm_core.specs.Machine.{Registered}
 use Rattle.comm_driver.specs.Played.{Standing, played, played_from, turn}
-use Rattle.comm_driver.specs.Session.{Stands, IsWithin, Says}
+use Rattle.comm_driver.specs.Session.{Stands, IsWithin, Says, Cuts}
 use Rattle.comm_driver.specs.declared.session.Session.{Session}
-use Rattle.comm_driver.proofs.Cut.{cut, last_line, none_joined}
+use Rattle.comm_driver.proofs.Cut.{cut, last_line, none_joined, whole_more}
 
 -- one more line is played
 says_next : {A : Type 0} (limits : Limits) (stock : List Registered) (input : List ℕ) (s new : Session A) (number : ℕ) (rest line more text said : List ℕ) → Says limits stock input s number rest text → lines_of rest ≡ line ∷ lines_of more
@@ -43,16 +42,24 @@ pub record Plays {A : Type 0} (first : Session A) (from : ℕ) (begun piece befo
   pub fit : AreAllowed s.limits
   pub settled : s.core.settled ≡ true
   pub one_line : has_line_feed pending ≡ false
-  pub says : (limits : Limits) (stock : List Registered) (input more written : List ℕ) → Says limits stock input first from (begun ++ (piece ++ more)) (written ++ before) → Says limits stock input s number (pending ++ (rest ++ more)) (written ++ text)
+  pub whole : List ℕ
+  pub ended : IsWhole whole
+  pub is : begun ++ piece ≡ whole ++ (pending ++ rest)
+  pub says : (limits : Limits) (stock : List Registered) (input more written : List ℕ) → Says limits stock input first from (whole ++ more) (written ++ before) → Says limits stock input s number more (written ++ text)
 
--- what is pending and the rest of its line, before what follows
-joined : (pending line rest more : List ℕ) → pending ++ ((line ++ 10 ∷ rest) ++ more) ≡ (pending ++ line) ++ 10 ∷ (rest ++ more)
-joined pending line rest more = ap (λ l. pending ++ l) (append_assoc line (10 ∷ rest) more) ∙ sym (append_assoc pending line (10 ∷ (rest ++ more)))
-
-first_of : (pending line rest more whole : List ℕ) → has_line_feed pending ≡ false → has_line_feed line ≡ false → whole ≡ line ++ 10 ∷ rest
-    → lines_of (pending ++ (whole ++ more)) ≡ (pending ++ line) ∷ lines_of (rest ++ more)
-first_of pending line rest more whole p q is =
-    ap (λ w. lines_of (pending ++ (w ++ more))) is ∙ ap lines_of (joined pending line rest more) ∙ cut (pending ++ line) (rest ++ more) (none_joined pending line p q)
+pub plays_first : {A : Type 0} (first : Session A) (from : ℕ) (begun piece before : List ℕ) → IsWithin from first → AreAllowed first.limits → first.core.settled ≡ true → has_line_feed begun ≡ false
+    → Plays first from begun piece before first from begun piece before
+plays_first first from begun piece before within fit settled one_line = record {
+  room = omega arith;
+  within = within;
+  fit = fit;
+  settled = settled;
+  one_line = one_line;
+  whole = [];
+  ended = inl refl;
+  is = refl;
+  says = λ limits stock input more written start. start;
+}
 
 shorter : (line rest whole : List ℕ) → whole ≡ line ++ 10 ∷ rest → length rest + 1 ≤ length whole
 shorter line rest whole is =
@@ -62,27 +69,39 @@ shorter line rest whole is =
 pub falls : (line rest whole : List ℕ) → whole ≡ line ++ 10 ∷ rest → length rest < length whole
 falls line rest whole is = omega (arith, shorter line rest whole is)
 
+-- a line that ends moves from what is pending and the rest to what is played
+moved : (done pending line ended rest more : List ℕ) → ended ≡ pending ++ line → rest ≡ line ++ 10 ∷ more → done ++ (pending ++ rest) ≡ (done ++ (ended ++ 10 ∷ [])) ++ more
+moved done pending line ended rest more p q =
+    let here : pending ++ rest ≡ (ended ++ 10 ∷ []) ++ more = ap (λ r. pending ++ r) q ∙ sym (append_assoc pending line (10 ∷ more)) ∙ ap (λ e. e ++ 10 ∷ more) (sym p) ∙ sym (append_assoc ended (10 ∷ []) more) in
+    ap (λ l. done ++ l) here ∙ sym (append_assoc done (ended ++ 10 ∷ []) more)
+
 pub plays_next : {A : Type 0} (first : Session A) (from : ℕ) (begun piece before : List ℕ) (s new : Session A) (number : ℕ) (pending rest line more text said whole : List ℕ)
     → Plays first from begun piece before s number pending rest text → rest ≡ line ++ 10 ∷ more → has_line_feed line ≡ false → whole ≡ pending ++ line → new.limits ≡ s.limits → new.core.settled ≡ true → IsWithin (number + 1) new
     → ((limits : Limits) (now : Standing) → Stands limits now s → said ≡ text ++ (turn limits now (number + 1) whole).text)
     → ((limits : Limits) (now : Standing) → Stands limits now s → Stands limits (turn limits now (number + 1) whole).after new)
     → Plays first from begun piece before new (number + 1) [] more said
-plays_next first from begun piece before s new number pending rest line more text said whole h is none line_is same settled within writes keeps = record {
-  room = omega (arith, h.room, shorter line more rest is);
-  within = within;
-  fit = subst AreAllowed (sym same) h.fit;
-  settled = settled;
-  one_line = refl;
-  says = λ limits stock input others written start.
-      says_more limits stock input s new number (pending ++ (rest ++ others)) whole (more ++ others) written text said (h.says limits stock input others written start)
-      (first_of pending line more others rest h.one_line none is ∙ ap (λ w. w ∷ lines_of (more ++ others)) (sym line_is)) (writes limits) (keeps limits);
-}
+plays_next first from begun piece before s new number pending rest line more text said whole h is none line_is same settled within writes keeps =
+    let ends : has_line_feed whole ≡ false = ap has_line_feed line_is ∙ none_joined pending line h.one_line none in
+    record {
+      room = omega (arith, h.room, shorter line more rest is);
+      within = within;
+      fit = subst AreAllowed (sym same) h.fit;
+      settled = settled;
+      one_line = refl;
+      whole = h.whole ++ (whole ++ 10 ∷ []);
+      ended = whole_more h.whole (whole ++ 10 ∷ []) h.ended (inr (whole, refl));
+      is = h.is ∙ moved h.whole pending line whole rest more line_is is;
+      says = λ limits stock input others written start.
+          says_more limits stock input s new number ((whole ++ 10 ∷ []) ++ others) whole others written text said
+          (h.says limits stock input ((whole ++ 10 ∷ []) ++ others) written
+          (subst (λ (l : List ℕ). Says limits stock input first from l (written ++ before)) (append_assoc h.whole (whole ++ 10 ∷ []) others) start))
+          (ap lines_of (append_assoc whole (10 ∷ []) others) ∙ cut whole others ends) (writes limits) (keeps limits);
+    }
 
 -- nothing of the piece is left, and what was left of it is pending
 pub plays_all : {A : Type 0} (first : Session A) (from : ℕ) (begun piece before : List ℕ) (s : Session A) (number : ℕ) (pending rest text kept : List ℕ) → Plays first from begun piece before s number pending rest text → kept ≡ pending ++ rest
-    → (limits : Limits) (stock : List Registered) (input more written : List ℕ) → Says limits stock input first from (begun ++ (piece ++ more)) (written ++ before) → Says limits stock input s number (kept ++ more) (written ++ text)
-plays_all first from begun piece before s number pending rest text kept h is limits stock input more written start =
-    subst (λ (l : List ℕ). Says limits stock input s number l (written ++ text)) (sym (append_assoc pending rest more) ∙ ap (λ k. k ++ more) (sym is)) (h.says limits stock input more written start)
+    → Cuts first from begun piece before s number kept text
+plays_all first from begun piece before s number pending rest text kept h is = record { whole = h.whole; ended = h.ended; is = h.is ∙ ap (λ k. h.whole ++ k) (sym is); says = h.says }
 
 pub says_all : {A : Type 0} (limits : Limits) (stock : List Registered) (input : List ℕ) (s : Session A) (number : ℕ) (text : List ℕ) → Says limits stock input s number [] text → text ≡ played limits stock input
 says_all limits stock input s number text before = sym (append-nil text) ∙ before.whole

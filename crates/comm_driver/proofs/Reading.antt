@@ -1,12 +1,12 @@
 -- What the parts of a command give.
-use Rattle.std.proofs.Common.{◌≡◌, ℕ, List, Option, Some, None, Result, Ok, Err, ap, sym, ◌∙◌, refl}
+use Rattle.std.proofs.Common.{◌≡◌, ℕ, List, Option, Some, None, Result, Ok, Err, ap, ◌∙◌, refl}
 use Rattle.comm_value.specs.Tree.{dict, Members}
 use Rattle.comm_value.specs.Node.{Path}
 use Rattle.comm_value.specs.Paths.{Refuses}
 use Rattle.comm_value.specs.Put.{placed}
 use Rattle.comm_value.specs.declared.fault.ValueFault.{ValueFault}
 use Rattle.comm_value.specs.declared.fault.ValueFault.TheVariants.{NotWhole, BadPath, BufferMissing, Memory}
-use Rattle.comm_driver.specs.Line.{Reading, Fails, or_fault}
+use Rattle.comm_driver.specs.Line.{Fails, or_fault}
 use Rattle.comm_driver.specs.Command.{placed_at, members_of}
 use Rattle.comm_driver.specs.declared.asked.LineFault.{LineFault}
 use Rattle.comm_driver.specs.declared.asked.LineFault.TheVariants.{Value}

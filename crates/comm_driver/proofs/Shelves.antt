@@ -1,8 +1,7 @@
 -- Targets that are taken out of a stock.
-use Rattle.std.proofs.Common.{◌≡◌, ℕ, zero, suc, ◌+◌, ◌<◌, List, [], ◌∷◌, ◌++◌, length, get_or, take, remove, map, Bool, true, false, Option, Some, None, refl, sym, ap, subst, ◌∙◌, arith}
+use Rattle.std.proofs.Common.{◌≡◌, ℕ, zero, suc, ◌<◌, List, [], ◌∷◌, ◌++◌, length, get_or, take, remove, map, Bool, true, false, Some, None, refl, sym, ap, subst, ◌∙◌, arith}
 use Rattle.std.specs.Prelude.{◌||◌}
 use Rattle.std.specs.List.{list_any}
-use Rattle.comm_core.specs.Machine.{Registered}
 use Rattle.comm_targets.specs.Meaning.{Meaning, IsIdle}
 use Rattle.comm_driver.specs.Stock.{has_kind, first_of, rest_of, registered_of, shelved, AreIdle}
 use Rattle.comm_driver.specs.declared.stock.Word.{Word}

@@ -6,7 +6,7 @@ use Rattle.comm_targets.specs.Meaning.{Meaning, IsIdle}
 use Rattle.comm_driver.specs.declared.stock.Word.{Word}
 use Rattle.comm_driver.specs.declared.stock.Word.TheVariants as word
 use Rattle.comm_targets.specs.declared.kind.Kind.{Kind}
-use Rattle.comm_targets.specs.declared.kind.Kind.TheVariants.{Echo, Counter, Widget, Free}
+use Rattle.comm_targets.specs.declared.kind.Kind.TheVariants.{Echo, Counter, Widget}
 
 abbrev pub has_kind : Word → Kind → Bool
 has_kind word.Echo Echo = true

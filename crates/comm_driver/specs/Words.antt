@@ -12,7 +12,6 @@ use Rattle.comm_value.specs.declared.fault.ValueFault.TheVariants as value
 use Rattle.comm_messages.specs.Text.{text, texts, buffer_texts}
 use Rattle.comm_messages.specs.declared.outgoing.Outgoing.{Outgoing}
 use Rattle.comm_messages.specs.declared.outgoing.Parent.{Parent}
-use Rattle.comm_messages.specs.declared.outgoing.Parent.TheVariants.{Call}
 use Rattle.comm_messages.specs.declared.fault.Field.{Field}
 use Rattle.comm_messages.specs.declared.fault.Field.TheVariants as field
 use Rattle.comm_messages.specs.declared.fault.MessageFault.{MessageFault}

@@ -14,6 +14,8 @@ mod run;
 mod session;
 mod stock;
 mod stream;
+#[cfg(test)]
+mod tests;
 mod words;
 
 use crate::fault::RunFault;

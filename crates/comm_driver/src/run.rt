@@ -4,7 +4,7 @@ ghost use Rattle.comm_core.specs.Limits.{AreAllowed};
 ghost use Rattle.comm_core.specs.Machine.{Registered};
 ghost use Rattle.comm_driver.specs.Stock.{AreIdle, shelved};
 ghost use Rattle.comm_core.specs.declared.limits.Limits.{Limits};
-ghost use Rattle.comm_driver.specs.Played.{played};
+ghost use Rattle.comm_driver.specs.Played.{played, Begins, Stops, Pauses};
 ghost use Rattle.comm_driver.specs.Session.{IsWithin, Stands};
 
 use crate::fault::RunFault;
@@ -18,8 +18,9 @@ use std::io::{ErrorKind, Read, Write};
 /// Plays the script that the reader has, each line as it ends, and writes what is said to it and nothing else.
 ///
 /// What the lines of a piece say is written before the next piece is read. A reader that was called 4,294,967,295 times without
-/// ending gives Read, and so does one that fails; a call that was interrupted is made again. Whatever comes, each target that was
-/// registered is ended, after its comms, and the rest of the stock is let go.
+/// ending gives Read, and so does one that fails; a call that was interrupted is made again. Whatever comes, what was written is
+/// the beginning of what the script gives: after Read what the lines give that were read whole, and after Memory what some lines
+/// give, so that no answer is cut. Each target that was registered is ended, after its comms, and the rest of the stock is let go.
 pub fn run_with<R: Read, W: Write, T: Target>(
     alloc: Global,
     reader: &mut R,
@@ -30,12 +31,18 @@ pub fn run_with<R: Read, W: Write, T: Target>(
     requires idle { AreIdle (map T.means stock.items) }
     ensures played { OnOk result (IfSome (R.remaining reader.old) (λ input.
         Appends (W.contents writer.old) (W.contents writer.new) (played limits (shelved (map T.means stock.items)) input))) }
+    ensures begun { IfSome (R.remaining reader.old) (λ input.
+        Begins (W.contents writer.old) (W.contents writer.new) (played limits (shelved (map T.means stock.items)) input)) }
+    ensures read { IsErrOf result RunFault.Read → IfSome (R.remaining reader.old) (λ input.
+        Stops limits (shelved (map T.means stock.items)) input (R.remaining reader.new) (W.contents writer.old) (W.contents writer.new)) }
+    ensures memory { IsErrOf result RunFault.Memory → IfSome (R.remaining reader.old) (λ input.
+        Pauses limits (shelved (map T.means stock.items)) input (W.contents writer.old) (W.contents writer.new)) }
     ensures bad_limits { IsErrOf result RunFault.BadLimits ↔ ¬ (AreAllowed limits) }
 {
     match Session::new(alloc, limits, stock) {
         Ok(mut session) => {
             let played = play(&mut session, alloc, reader, writer);
-            session.end();
+            end(session);
             played
         }
         Err(fault) => Err(fault),
@@ -53,6 +60,12 @@ pub fn run<R: Read, W: Write>(
     requires idle { AreIdle (map (λ b. means b) stock.items) }
     ensures played { OnOk result (IfSome (R.remaining reader.old) (λ input.
         Appends (W.contents writer.old) (W.contents writer.new) (played limits (shelved (map (λ b. means b) stock.items)) input))) }
+    ensures begun { IfSome (R.remaining reader.old) (λ input.
+        Begins (W.contents writer.old) (W.contents writer.new) (played limits (shelved (map (λ b. means b) stock.items)) input)) }
+    ensures read { IsErrOf result RunFault.Read → IfSome (R.remaining reader.old) (λ input.
+        Stops limits (shelved (map (λ b. means b) stock.items)) input (R.remaining reader.new) (W.contents writer.old) (W.contents writer.new)) }
+    ensures memory { IsErrOf result RunFault.Memory → IfSome (R.remaining reader.old) (λ input.
+        Pauses limits (shelved (map (λ b. means b) stock.items)) input (W.contents writer.old) (W.contents writer.new)) }
     ensures bad_limits { IsErrOf result RunFault.BadLimits ↔ ¬ (AreAllowed limits) }
 {
     run_with(alloc, reader, writer, limits, stock)
@@ -70,6 +83,12 @@ fn play<R: Read, W: Write, T: Target>(
     requires fresh { IsWithin 0 session.old }
     ensures played { OnOk result ((limits : Limits) (stock : List Registered) → Stands limits (record { history = []; stock = stock }) session.old
         → IfSome (R.remaining reader.old) (λ input. Appends (W.contents writer.old) (W.contents writer.new) (played limits stock input))) }
+    ensures begun { (limits : Limits) (stock : List Registered) → Stands limits (record { history = []; stock = stock }) session.old
+        → IfSome (R.remaining reader.old) (λ input. Begins (W.contents writer.old) (W.contents writer.new) (played limits stock input)) }
+    ensures read { IsErrOf result RunFault.Read → (limits : Limits) (stock : List Registered) → Stands limits (record { history = []; stock = stock }) session.old
+        → IfSome (R.remaining reader.old) (λ input. Stops limits stock input (R.remaining reader.new) (W.contents writer.old) (W.contents writer.new)) }
+    ensures memory { IsErrOf result RunFault.Memory → (limits : Limits) (stock : List Registered) → Stands limits (record { history = []; stock = stock }) session.old
+        → IfSome (R.remaining reader.old) (λ input. Pauses limits stock input (W.contents writer.old) (W.contents writer.new)) }
     ensures settled { session.new.core.settled ≡ true }
     ensures fault { IfErr result (λ e. e ≢ RunFault.BadLimits) }
 {
@@ -101,4 +120,18 @@ fn play<R: Read, W: Write, T: Target>(
         }
     }
     Err(RunFault::Read)
+}
+
+// Ends every target that is registered, and forgets the stock.
+fn end<T: Target>(session: Session<T>)
+    requires { session.core.settled ≡ true }
+{
+    let Session {
+        limits: _,
+        core,
+        stock: _,
+        changes: _,
+        made: _,
+    } = session;
+    core.stop_all();
 }

@@ -253,19 +253,4 @@ impl<T: Target> Session<T> {
             }
         }
     }
-
-    /// Ends every target that is registered, and forgets the stock.
-    pub fn end(self)
-        requires { self.core.settled ≡ true }
-    {
-        let Session {
-            limits: _,
-            core,
-            stock: _,
-            changes: _,
-            made: _,
-            scratch: _,
-        } = self;
-        core.stop_all();
-    }
 }

@@ -4,15 +4,15 @@ ghost use Rattle.comm_core.specs.declared.limits.Limits.{Limits};
 ghost use Rattle.comm_core.specs.Limits.{AreAllowed};
 ghost use Rattle.comm_core.specs.Machine.{Registered};
 ghost use Rattle.comm_driver.specs.Lines.{has_line_feed};
-ghost use Rattle.comm_driver.specs.Played.{played};
-ghost use Rattle.comm_driver.specs.Session.{IsWithin, Says};
+ghost use Rattle.comm_driver.specs.Played.{played, Begins};
+ghost use Rattle.comm_driver.specs.Session.{IsWithin, Says, Cuts};
 
 use crate::fault::RunFault;
 use crate::lines::split_line;
 use crate::session::Session;
 use comm_targets::Target;
 use std::alloc::Global;
-use std::io::Write;
+use std::io::{ErrorKind, Write};
 
 /// How many bytes are read at a time, at most.
 pub const PIECE: usize = 65_536;
@@ -32,9 +32,7 @@ pub fn play_piece<T: Target>(
     requires room { number.old + length piece.now < 2 ^ 62 }
     requires small { length piece.now ≤ PIECE }
     requires one_line { has_line_feed pending.old.items ≡ false }
-    ensures says { OnOk result ((limits : Limits) (stock : List Registered) (input more written : List ℕ)
-        → Says limits stock input session.old number.old (pending.old.items ++ (piece.now ++ more)) (written ++ text.old.items)
-        → Says limits stock input session.new number.new (pending.new.items ++ more) (written ++ text.new.items)) }
+    ensures says { OnOk result (Cuts session.old number.old pending.old.items piece.now text.old.items session.new number.new pending.new.items text.new.items) }
     ensures room { OnOk result (number.new ≤ number.old + PIECE) }
     ensures within { OnOk result (IsWithin number.new session.new) }
     ensures fits { OnOk result (AreAllowed session.new.limits) }
@@ -84,15 +82,39 @@ pub fn play_last<T: Target>(
 /// Writes what is said, and forgets it.
 pub fn send<W: Write>(writer: &mut W, text: &mut Vec<u8>) -> Result<(), RunFault>
     ensures sent { OnOk result (Appends (W.contents writer.old) (W.contents writer.new) text.old.items) }
+    ensures begun { Begins (W.contents writer.old) (W.contents writer.new) text.old.items }
     ensures empty { OnOk result (text.new.items ≡ []) }
     ensures fault { IfErr result (λ e. e ≡ RunFault.Write) }
 {
     if text.is_empty() {
         return Ok(());
     }
-    if writer.write_all(text).is_err() || writer.flush().is_err() {
+    write_whole(writer, text)?;
+    if writer.flush().is_err() {
         return Err(RunFault::Write);
     }
     text.clear();
     Ok(())
+}
+
+// Writes a text. A call that was interrupted is made again; one that takes no byte, where there are some, is a fault.
+fn write_whole<W: Write>(writer: &mut W, text: &[u8]) -> Result<(), RunFault>
+    ensures sent { OnOk result (Appends (W.contents writer.old) (W.contents writer.new) text.now) }
+    ensures begun { Begins (W.contents writer.old) (W.contents writer.new) text.now }
+    ensures fault { IfErr result (λ e. e ≡ RunFault.Write) }
+{
+    let mut rest = text;
+    for _ in 0..u64::MAX {
+        if rest.is_empty() {
+            return Ok(());
+        }
+        match writer.write(rest) {
+            Ok(0) => return Err(RunFault::Write),
+            Ok(n) => rest = &rest[n..],
+            Err(e) => if e.kind() != ErrorKind::Interrupted {
+                return Err(RunFault::Write);
+            },
+        }
+    }
+    Err(RunFault::Write)
 }

@@ -1,4 +1,4 @@
-use Rattle.std.proofs.Common.{◌≡◌, Ok, Some, ap, sym, subst, ◌∙◌, List}
+use Rattle.std.proofs.Common.{ap, sym, subst, ◌∙◌, List}
 use Rattle.std.specs.Prelude.{option_map}
 use Rattle.comm_value.specs.Node.{Path}
 use Rattle.comm_value.specs.Paths.{read_paths, Refuses}

@@ -1,5 +1,5 @@
 use Rattle.std.proofs.Common.{sym, ◌∙◌}
-use Rattle.comm_driver.proofs.Playing.{says_last, says_none}
+use Rattle.comm_driver.proofs.Playing.{says_last}
 use Rattle.comm_driver.proofs.stream.play_last.Goals as goal
 
 pub returns-clause-says : goal.returns-clause-says

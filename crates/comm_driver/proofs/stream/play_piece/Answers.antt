@@ -1,6 +1,9 @@
 use Rattle.std.proofs.Common.{◌∙◌}
-use Rattle.comm_driver.proofs.Playing.{plays_next}
+use Rattle.comm_driver.proofs.Playing.{plays_first, plays_next}
 use Rattle.comm_driver.proofs.stream.play_piece.Goals as goal
+
+pub loop-line-init : goal.loop-line-init
+loop-line-init g c = plays_first _ _ _ _ _ c.requires.within c.requires.fits c.requires.settled c.requires.one_line
 
 pub loop-line-preserved : goal.loop-line-preserved
 loop-line-preserved g c = rw c.clear.ensures.items (

@@ -1,4 +1,4 @@
-use Rattle.std.proofs.Common.{[], ◌∷◌, true, ◌∙◌}
+use Rattle.std.proofs.Common.{true}
 use Rattle.std.specs.Prelude.{codes}
 use Rattle.json.specs.Print.{quoted}
 use Rattle.serde_json.specs.Data.{array, object, member, no_members}

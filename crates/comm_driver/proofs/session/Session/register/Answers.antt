@@ -1,4 +1,4 @@
-use Rattle.std.proofs.Common.{◌≡◌, ◌<◌, ◌++◌, [], length, None, Some, Option, arith, ap, sym, subst, ◌∙◌, List}
+use Rattle.std.proofs.Common.{◌≡◌, ◌<◌, ◌++◌, [], length, None, Some, arith, ap, sym, subst, ◌∙◌, List}
 use Rattle.std.specs.Prelude.{option_map, option_to_list}
 use Rattle.comm_targets.specs.Meaning.{Meaning}
 use Rattle.comm_core.specs.declared.call.Call.{Call}
@@ -7,7 +7,7 @@ use Rattle.comm_core.specs.Machine.{Registered}
 use Rattle.comm_core.specs.Step.{Stepped}
 use Rattle.comm_core.specs.Ready as core
 use Rattle.comm_driver.specs.Stock.{first_of, rest_of, registered_of}
-use Rattle.comm_driver.specs.Played.{Turn, Standing, registered, stocked}
+use Rattle.comm_driver.specs.Played.{Turn, registered, stocked}
 use Rattle.comm_driver.specs.Session.{Stands}
 use Rattle.comm_driver.specs.declared.session.Session.{Session}
 use Rattle.comm_driver.proofs.Turns.{step_of, stands_grown, first_fits, rest_without, registered_is, called_is, mapped, unasked}

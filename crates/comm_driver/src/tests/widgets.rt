@@ -1,0 +1,145 @@
+// Widgets.
+use super::{MOST, Row};
+
+pub const ROWS: [Row; 8] = [
+    Row {
+        name: "an update is merged, and shown where it is asked for",
+        comms: MOST,
+        script: br#"{"call":"register","kind":"widget","name":"jupyter.widget"}
+{"header":{"msg_type":"comm_open"},"content":{"comm_id":"a","target_name":"jupyter.widget","data":{"state":{"value":1},"buffer_paths":[]}},"metadata":{"version":"2.0.0"}}
+{"header":{"msg_type":"comm_msg"},"content":{"comm_id":"a","data":{"method":"update","state":{"value":2,"max":9}}}}
+{"header":{"msg_type":"comm_msg"},"content":{"comm_id":"a","data":{"method":"request_state"}}}
+"#,
+        answers: br#"reply 1 registered
+reply 2 opened
+reply 3 delivered
+reply 4 delivered
+out {"buffers":[],"call":4,"client":0,"content":{"comm_id":"a","data":{"buffer_paths":[],"method":"update","state":{"max":9,"value":2}}},"header":{"msg_type":"comm_msg"},"metadata":{}}
+"#,
+    },
+    Row {
+        name: "buffers at their paths",
+        comms: MOST,
+        script: br#"{"call":"register","kind":"widget","name":"jupyter.widget"}
+{"header":{"msg_type":"comm_open"},"content":{"comm_id":"a","target_name":"jupyter.widget","data":{"state":{"y":{"z":[null]}},"buffer_paths":[["x"],["y","z",0]]}},"metadata":{"version":"2.0.0"},"buffers":["AQI=","/w=="]}
+{"header":{"msg_type":"comm_msg"},"content":{"comm_id":"a","data":{"method":"request_state"}}}
+"#,
+        answers: br#"reply 1 registered
+reply 2 opened
+reply 3 delivered
+out {"buffers":["AQI=","/w=="],"call":3,"client":0,"content":{"comm_id":"a","data":{"buffer_paths":[["x"],["y","z",0]],"method":"update","state":{"y":{"z":[null]}}}},"header":{"msg_type":"comm_msg"},"metadata":{}}
+"#,
+    },
+    Row {
+        name: "an open that a widget refuses",
+        comms: MOST,
+        script: br#"{"call":"register","kind":"widget","name":"jupyter.widget"}
+{"header":{"msg_type":"comm_open"},"content":{"comm_id":"a","target_name":"jupyter.widget","data":{"state":{}}},"metadata":{"version":"1.0.0"}}
+{"header":{"msg_type":"comm_open"},"content":{"comm_id":"b","target_name":"jupyter.widget","data":{"state":{}}}}
+{"header":{"msg_type":"comm_open"},"content":{"comm_id":"c","target_name":"jupyter.widget","data":{"state":{}}},"metadata":{"version":"2"}}
+{"header":{"msg_type":"comm_open"},"content":{"comm_id":"d","target_name":"jupyter.widget","data":{}},"metadata":{"version":"2.0.0"}}
+{"header":{"msg_type":"comm_open"},"content":{"comm_id":"e","target_name":"jupyter.widget","data":{"state":[]}},"metadata":{"version":"2.0.0"}}
+"#,
+        answers: br#"reply 1 registered
+reply 2 refused wrong_version
+out {"buffers":[],"call":2,"client":0,"content":{"comm_id":"a","data":{}},"header":{"msg_type":"comm_close"},"metadata":{}}
+reply 3 refused wrong_version
+out {"buffers":[],"call":3,"client":0,"content":{"comm_id":"b","data":{}},"header":{"msg_type":"comm_close"},"metadata":{}}
+reply 4 opened
+reply 5 refused no_state
+out {"buffers":[],"call":5,"client":0,"content":{"comm_id":"d","data":{}},"header":{"msg_type":"comm_close"},"metadata":{}}
+reply 6 refused bad_state
+out {"buffers":[],"call":6,"client":0,"content":{"comm_id":"e","data":{}},"header":{"msg_type":"comm_close"},"metadata":{}}
+"#,
+    },
+    Row {
+        name: "a buffer that is missing",
+        comms: MOST,
+        script: br#"{"call":"register","kind":"widget","name":"jupyter.widget"}
+{"header":{"msg_type":"comm_open"},"content":{"comm_id":"a","target_name":"jupyter.widget","data":{"state":{"k":1}}},"metadata":{"version":"2.0.0"}}
+{"header":{"msg_type":"comm_msg"},"content":{"comm_id":"a","data":{"method":"update","state":{},"buffer_paths":[["x"],["y"]]}},"buffers":["AQI="]}
+{"header":{"msg_type":"comm_msg"},"content":{"comm_id":"a","data":{"method":"update","state":{},"buffer_paths":[["x"]]}},"buffers":["AQI=","/w=="]}
+{"call":"state","id":"a"}
+"#,
+        answers: br#"reply 1 registered
+reply 2 opened
+reply 3 fault buffer_missing 1
+reply 4 delivered
+state 4 {"buffer_paths":[["x"]],"buffers":["AQI="],"state":{"k":1}}
+"#,
+    },
+    Row {
+        name: "paths that lead nowhere",
+        comms: MOST,
+        script: br#"{"call":"register","kind":"widget","name":"jupyter.widget"}
+{"header":{"msg_type":"comm_open"},"content":{"comm_id":"a","target_name":"jupyter.widget","data":{"state":{"k":1}}},"metadata":{"version":"2.0.0"}}
+{"header":{"msg_type":"comm_msg"},"content":{"comm_id":"a","data":{"method":"update","state":{},"buffer_paths":[["x"],["x"]]}},"buffers":["AQI=","/w=="]}
+{"header":{"msg_type":"comm_msg"},"content":{"comm_id":"a","data":{"method":"update","state":{},"buffer_paths":[[]]}},"buffers":["AQI="]}
+{"header":{"msg_type":"comm_msg"},"content":{"comm_id":"a","data":{"method":"update","state":{"l":[null]},"buffer_paths":[["l",1]]}},"buffers":["AQI="]}
+{"header":{"msg_type":"comm_msg"},"content":{"comm_id":"a","data":{"method":"update","state":{},"buffer_paths":[["p"],["p","q"]]}},"buffers":["AQI=","/w=="]}
+{"call":"state","id":"a"}
+"#,
+        answers: br#"reply 1 registered
+reply 2 opened
+reply 3 delivered
+reply 4 fault bad_path 0
+reply 5 fault bad_path 0
+reply 6 fault bad_path 1
+state 6 {"buffer_paths":[["x"]],"buffers":["/w=="],"state":{"k":1}}
+"#,
+    },
+    Row {
+        name: "numbers are whole",
+        comms: MOST,
+        script: br#"{"call":"register","kind":"widget","name":"jupyter.widget"}
+{"header":{"msg_type":"comm_open"},"content":{"comm_id":"a","target_name":"jupyter.widget","data":{"state":{"v":1.5}}},"metadata":{"version":"2.0.0"}}
+{"header":{"msg_type":"comm_open"},"content":{"comm_id":"a","target_name":"jupyter.widget","data":{"state":{"v":18446744073709551615}}},"metadata":{"version":"2.0.0"}}
+{"call":"state","id":"a"}
+"#,
+        answers: br#"reply 1 registered
+bad 2 not_whole
+reply 2 opened
+state 2 {"buffer_paths":[],"buffers":[],"state":{"v":18446744073709551615}}
+"#,
+    },
+    Row {
+        name: "methods",
+        comms: MOST,
+        script: br#"{"call":"register","kind":"widget","name":"jupyter.widget"}
+{"header":{"msg_type":"comm_open"},"content":{"comm_id":"a","target_name":"jupyter.widget","data":{"state":{"k":1}}},"metadata":{"version":"2.0.0"}}
+{"header":{"msg_type":"comm_msg"},"content":{"comm_id":"a","data":{"method":"update"}}}
+{"header":{"msg_type":"comm_msg"},"content":{"comm_id":"a","data":{"method":"custom"}}}
+{"header":{"msg_type":"comm_msg"},"content":{"comm_id":"a","data":{"method":"zap"}}}
+{"header":{"msg_type":"comm_msg"},"content":{"comm_id":"a","data":{}}}
+{"header":{"msg_type":"comm_msg"},"content":{"comm_id":"a","data":{"method":"custom","content":{"go":true}}},"buffers":["AQI="]}
+{"header":{"msg_type":"comm_info_request"}}
+"#,
+        answers: br#"reply 1 registered
+reply 2 opened
+reply 3 delivered
+reply 4 delivered
+reply 5 fault unknown_method
+reply 6 fault no_method
+reply 7 custom {"buffers":["AQI="],"content":{"go":true}}
+out {"buffers":[],"client":0,"content":{"comms":{"a":{"target_name":"jupyter.widget"}},"status":"ok"},"front":7,"header":{"msg_type":"comm_info_reply"},"metadata":{}}
+"#,
+    },
+    Row {
+        name: "hostile paths change nothing",
+        comms: MOST,
+        script: b"{\"call\":\"register\",\"kind\":\"widget\",\"name\":\"jupyter.widget\"}\n{\"header\":{\"msg_type\":\"comm_open\"},\"content\":{\"comm_id\":\"a\",\"target_name\":\"jupyter.widget\",\"data\":{\"state\":{\"k\":1}}},\"metadata\":{\"version\":\"2.0.0\"}}\n{\"header\":{\"msg_type\":\"comm_msg\"},\"content\":{\"comm_id\":\"a\",\"data\":{\"method\":\"update\",\"state\":{\"l\":[null]},\"buffer_paths\":[[\"l\",18446744073709551615]]}},\"buffers\":[\"AQI=\"]}\n{\"header\":{\"msg_type\":\"comm_msg\"},\"content\":{\"comm_id\":\"a\",\"data\":{\"method\":\"update\",\"state\":{\"l\":[null]},\"buffer_paths\":[[\"l\",-1]]}},\"buffers\":[\"AQI=\"]}\n{\"header\":{\"msg_type\":\"comm_msg\"},\"content\":{\"comm_id\":\"a\",\"data\":{\"method\":\"update\",\"state\":{\"l\":[null]},\"buffer_paths\":7}},\"buffers\":[\"AQI=\"]}\n{\"header\":{\"msg_type\":\"comm_msg\"},\"content\":{\"comm_id\":\"a\",\"data\":{\"method\":\"update\",\"state\":{\"l\":[null]},\"buffer_paths\":[[\"x\"],7]}},\"buffers\":[]}\n{\"header\":{\"msg_type\":\"comm_msg\"},\"content\":{\"comm_id\":\"a\",\"data\":{\"method\":\"update\",\"state\":{\"l\":[null]},\"buffer_paths\":[[\"x\"],[\"y\"]]}},\"buffers\":[]}\n{\"client\":-1,\"header\":{\"msg_type\":\"comm_msg\"}}\n\x00\x01\n[]\n   \r\n{\"header\":{\"msg_type\":\"comm_msg\"},\"content\":{\"comm_id\":\"a\",\"data\":{\"method\":\"custom\",\"content\":[[[[[[[[[[[[[[[[[[[[[[[[[[[[[[[[[[[[[[[[[[[[[[[[[[[[[[[[[[[[[[[[[[[[[[[[[[[[[[[[[[[[[[[[[[[[[[[[[[[[]]]]]]]]]]]]]]]]]]]]]]]]]]]]]]]]]]]]]]]]]]]]]]]]]]]]]]]]]]]]]]]]]]]]]]]]]]]]]]]]]]]]]]]]]]]]]]]]]]]]}}}\n{\"call\":\"state\",\"id\":\"a\"}\n",
+        answers: br#"reply 1 registered
+reply 2 opened
+reply 3 fault bad_path 0
+reply 4 fault bad_path 0
+reply 5 fault bad_path 0
+reply 6 fault bad_path 1
+reply 7 fault buffer_missing 0
+bad 8 bad_client
+bad 9 not_json
+bad 10 not_json
+reply 8 custom {"buffers":[],"content":[[[[[[[[[[[[[[[[[[[[[[[[[[[[[[[[[[[[[[[[[[[[[[[[[[[[[[[[[[[[[[[[[[[[[[[[[[[[[[[[[[[[[[[[[[[[[[[[[[[[]]]]]]]]]]]]]]]]]]]]]]]]]]]]]]]]]]]]]]]]]]]]]]]]]]]]]]]]]]]]]]]]]]]]]]]]]]]]]]]]]]]]]]]]]]]]]]]]]]]]}
+state 8 {"buffer_paths":[],"buffers":[],"state":{"k":1}}
+"#,
+    },
+];
