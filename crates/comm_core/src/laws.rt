@@ -1,9 +1,16 @@
 //! Laws of the definitions. Each is the contract of a function that does nothing.
-ghost use Rattle.std.specs.Prelude.{◌≡◌, ℕ, List, [], ◌∷◌, ◌++◌, Option, Some, true, false};
-ghost use Rattle.comm_core.specs.Machine.{Machine};
+ghost use Rattle.std.specs.Prelude.{◌≡◌, ◌↔◌, ℕ, List, [], ◌∷◌, ◌++◌, Option, Some, map, true, false};
+ghost use Rattle.std.specs.List.{Contains};
+ghost use Rattle.std.specs.List.Sorted.{IsStrictlySortedBy};
+ghost use Rattle.std.specs.Ordering.{nat_cmp};
+ghost use Rattle.std.specs.Cmp.Lexicographic.{slice_cmp};
+ghost use Rattle.comm_messages.specs.declared.infos.Info.{Info};
+ghost use Rattle.comm_core.specs.Machine.{Machine, Name};
 ghost use Rattle.comm_core.specs.Step.{Outcome, Stepped, Allowed, asks, is_done, step};
 ghost use Rattle.comm_core.specs.Exact.{is_exact, exact_outcome, registers_free};
-ghost use Rattle.comm_core.specs.History.{Entry, Follows, IsLegal, has_end};
+ghost use Rattle.comm_core.specs.History.{Entry, Follows, IsLegal, has_end, replay};
+ghost use Rattle.comm_core.specs.Reads.{infos};
+ghost use Rattle.comm_core.specs.Runs.{AsksFor, IsLeftOpen};
 ghost use Rattle.comm_core.specs.declared.call.Call.{Call};
 
 /// Where no target is Free, the only outcome that is allowed is that of the definitions of the other kinds.
@@ -29,4 +36,15 @@ pub fn prefixes_of_legal_histories_are_legal()
 /// A legal history without an end stays legal with an entry that may come after it.
 pub fn legal_histories_grow()
     ensures { (clients limit : ℕ) (es : List Entry) (e : Entry) → IsLegal clients limit es → has_end es ≡ false → Follows clients limit es e → IsLegal clients limit (es ++ e ∷ []) }
+{}
+
+/// After a legal history the comms that are listed are just those that were opened and that nothing ended since, each with
+/// the target towards which it was opened.
+pub fn comms_that_are_listed_were_left_open()
+    ensures { (clients limit : ℕ) (h : List Entry) → IsLegal clients limit h → (asked : Option Name) (id target : Name) → Contains (infos (replay limit h) asked) (record { id = id; target = target }) ↔ (AsksFor asked target × IsLeftOpen h id target) }
+{}
+
+/// Comms are listed in the byte order of their ids, each id once.
+pub fn comms_are_listed_in_the_order_of_ids()
+    ensures { (m : Machine) (asked : Option Name) → IsStrictlySortedBy (slice_cmp nat_cmp) (map (λ (i : Info). i.id) (infos m asked)) }
 {}

@@ -27,6 +27,7 @@ pub use call::Call;
 pub use comm::Comm;
 pub use ids::Ids;
 pub use laws::{
+    comms_are_listed_in_the_order_of_ids, comms_that_are_listed_were_left_open,
     exact_machines_leave_no_choice, legal_histories_grow, prefixes_of_legal_histories_are_legal,
     refused_calls_change_nothing, steps_keep_machines_exact,
 };
