@@ -26,14 +26,14 @@ module _ {P : Type 0} where
 same_comm : (x y : Comm) → Some x ≡ Some y → x ≡ y
 same_comm x y e = cc
 
-abbrev some_pair : Name → Name → Option Pair
+abbrev pub some_pair : Name → Name → Option Pair
 some_pair a b = Some (a, b)
 
 pair_in : Option Pair → Pair
 pair_in None = ([], [])
 pair_in (Some p) = p
 
-same_pair : (a b c d : Name) → some_pair a b ≡ some_pair c d → (a ≡ c) × (b ≡ d)
+pub same_pair : (a b c d : Name) → some_pair a b ≡ some_pair c d → (a ≡ c) × (b ≡ d)
 unfolding pair_in
 same_pair a b c d e = (ap (λ o. (pair_in o).0) e, ap (λ o. (pair_in o).1) e)
 
@@ -124,7 +124,7 @@ begun : (c : Opens) (opened target : Name) (state : Option Members) → at c ope
     → at (c ++ (opened, record { target = target; state = state }) ∷ []) opened ≡ Some (record { target = target; state = cond (bytes_eq opened opened) state None })
 begun c opened target state f = rw (text_itself opened) (at-newest c opened _ f)
 
-none_opens : (id target : Name) {P : Type 0} → None ≡ some_pair id target → P
+pub none_opens : (id target : Name) {P : Type 0} → None ≡ some_pair id target → P
 none_opens id target h = cc
 
 pub opened : (k : Change) (c : Opens) (id target : Name) → Fits k c → opening_of k ≡ Some (id, target) → at (changed k c) id ≡ Some (record { target = target; state = given_of k id })

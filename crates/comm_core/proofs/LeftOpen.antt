@@ -16,11 +16,11 @@ use Rattle.comm_core.proofs.Changes.{newer, kept, came, opened}
 use Rattle.comm_core.proofs.Running.{Steps, Runs, replay-append, legal_runs, runs_after, distinct_runs}
 use Rattle.comm_core.proofs.Listing.{listed_there, there_listed}
 
-neither : (a b : Bool) → a || b ≡ false → (a ≡ false) × (b ≡ false)
+pub neither : (a b : Bool) → a || b ≡ false → (a ≡ false) × (b ≡ false)
 neither true b h = absurd (true≢false h)
 neither false b h = (refl, h)
 
-both_false : (a b : Bool) → a ≡ false → b ≡ false → a || b ≡ false
+pub both_false : (a b : Bool) → a ≡ false → b ≡ false → a || b ≡ false
 both_false a b h k = rw (h, k) refl
 
 -- the state that was given last, or else s
@@ -108,7 +108,7 @@ module _ (limit : ℕ) where
       first_given None l = refl
       first_given (Some v) l = refl
 
-  left_open : (clients : ℕ) (h : List Entry) (id : Name) (y : Comm) → IsLegal clients limit h → at (replay limit h).comms id ≡ Some y → IsLeftOpen h id y.target
+  pub left_open : (clients : ℕ) (h : List Entry) (id : Name) (y : Comm) → IsLegal clients limit h → at (replay limit h).comms id ≡ Some y → IsLeftOpen h id y.target
   left_open clients h id y p there =
       elim (came_from empty h id y (legal_runs limit clients h p) tt there) [
         | inl stood ↦ absurd (none≢some stood.0 stood.1)

@@ -15,8 +15,11 @@ pub mod Listing
 pub mod Names
 pub mod Readying
 pub mod Refusing
+pub mod Registering
 pub mod Running
 pub mod Staging
+pub mod Stateless
 pub mod Stepping
 pub mod Stopping
 pub mod Unmaking
+pub mod Updating

@@ -5,6 +5,7 @@ pub mod Exact
 pub mod History
 pub mod Reads
 pub mod Runs
+pub mod Updates
 pub mod Tables
 pub mod Ready
 pub mod Code
