@@ -1,9 +1,9 @@
 -- Which comms are there after a change, and with which state.
-use Rattle.std.proofs.Common.{◌≡◌, ℕ, Bool, true, false, cond, not, List, [], ◌∷◌, ◌++◌, Option, None, Some, refl, ap, sym, ◌∙◌, subst, true≢false}
+use Rattle.std.proofs.Common.{◌≡◌, Bool, true, false, cond, not, [], ◌∷◌, ◌++◌, Option, None, Some, refl, ap, sym, ◌∙◌, subst, true≢false}
 use mathlib.Core.Logic.{◌⊎◌, inl, inr}
 use Rattle.std.specs.Str.{bytes_eq}
 use Rattle.comm_value.specs.Tree.{Members}
-use Rattle.comm_core.specs.Machine.{Name, at, without, with_at, others}
+use Rattle.comm_core.specs.Machine.{Name, at, with_at, others}
 use Rattle.comm_core.specs.Reads.{Pair}
 use Rattle.comm_core.specs.Tables.{Opens}
 use Rattle.comm_core.specs.Ready.{AreDistinct}

@@ -1,5 +1,5 @@
 -- The comms that are there after a legal history are those that were opened and not ended since.
-use Rattle.std.proofs.Common.{◌≡◌, ◌↔◌, ℕ, Bool, true, false, cond, List, [], ◌∷◌, ◌++◌, Option, None, Some, refl, ap, sym, ◌∙◌, subst, true≢false}
+use Rattle.std.proofs.Common.{◌≡◌, ◌↔◌, ℕ, Bool, true, false, List, [], ◌∷◌, Option, None, Some, refl, ap, sym, ◌∙◌, subst, true≢false}
 use mathlib.Core.Logic.{◌⊎◌, inl, inr}
 use Rattle.std.specs.Prelude.{◌||◌}
 use Rattle.std.specs.List.{list_any, Contains, filter_map, last_or, cons_option}
@@ -11,7 +11,7 @@ use Rattle.comm_core.specs.Runs.{HasOpened, has_ended, IsOpenSince, IsLeftOpen, 
 use Rattle.comm_core.specs.Ready.{AreDistinct}
 use Rattle.comm_core.specs.declared.comm.Comm.{Comm}
 use Rattle.comm_core.proofs.Gone.{none≢some}
-use Rattle.comm_core.proofs.Stepping.{Does, step_does}
+use Rattle.comm_core.proofs.Stepping.{step_does}
 use Rattle.comm_core.proofs.Changes.{newer, kept, came, opened}
 use Rattle.comm_core.proofs.Running.{Steps, Runs, replay-append, legal_runs, runs_after, distinct_runs}
 use Rattle.comm_core.proofs.Listing.{listed_there, there_listed}

@@ -1,6 +1,6 @@
 -- What the list of comms has, and in which order.
-use Rattle.std.proofs.Common.{◌≡◌, ◌↔◌, ℕ, ◌<◌, Bool, true, false, cond, List, [], ◌∷◌, length, map, filter, fold, Option, None, Some, Ordering, Less, Equal, Greater, refl, ap, sym, ◌∙◌, subst}
-use Rattle.std.proofs.Math.ListN.{get_or-map, get_or}
+use Rattle.std.proofs.Common.{◌≡◌, ◌<◌, true, false, cond, List, [], ◌∷◌, map, filter, fold, Option, None, Some, Ordering, Less, Equal, Greater, refl, ap, sym, ◌∙◌, subst}
+use Rattle.std.proofs.Math.ListN.{get_or-map}
 use Rattle.std.specs.Str.{bytes_eq}
 use Rattle.std.specs.List.{Contains, AllByRecursion, IsDistinct}
 use Rattle.std.specs.List.Sorted.{IsStrictlySortedBy}

@@ -1,19 +1,17 @@
 -- Which targets a run has, and of which kinds.
-use Rattle.std.proofs.Common.{◌≡◌, ℕ, Bool, true, false, not, cond, List, [], ◌∷◌, ◌++◌, Option, None, Some, Ok, Err, refl, ap, sym, ◌∙◌, subst, true≢false}
+use Rattle.std.proofs.Common.{◌≡◌, ℕ, true, false, not, List, [], ◌∷◌, ◌++◌, Option, None, Some, refl, ap, sym, ◌∙◌, subst, true≢false}
 use Rattle.std.specs.Str.{bytes_eq}
 use Rattle.std.specs.List.{list_any}
-use Rattle.comm_value.specs.Tree.{Members}
 use Rattle.comm_targets.specs.Meaning.{notes_after}
 use Rattle.comm_targets.specs.declared.kind.Kind.{Kind}
 use Rattle.comm_targets.specs.declared.event.Event.{Event}
 use Rattle.comm_targets.specs.declared.event.Event.TheVariants as event
-use Rattle.comm_core.specs.Machine.{Name, Registered, Machine, empty, at, has, with_at, without}
-use Rattle.comm_core.specs.Step.{Outcome, Verdict, Asked, Stepped, judged, noted, stated, is_full, holds_widget, comm_id}
+use Rattle.comm_core.specs.Machine.{Name, Registered, Machine, empty, at, has, with_at}
+use Rattle.comm_core.specs.Step.{Outcome, judged, noted, stated, is_full, holds_widget, comm_id}
 use Rattle.comm_core.specs.History.{Entry, change, end, applied, replay_from, replay}
 use Rattle.comm_core.specs.Tables.{Opens}
 use Rattle.comm_core.specs.Runs.{has_ended, ending}
 use Rattle.comm_core.specs.Updates.{registering, unregistering, has_unregistered, HasRegistered, IsRegistered}
-use Rattle.comm_core.specs.declared.comm.Comm.{Comm}
 use Rattle.comm_core.specs.declared.call.Call.{Call}
 use Rattle.comm_core.specs.declared.call.Call.TheVariants.{Register, Open, Msg, Close, Unregister, Launch, Push, Send, HangUp}
 use Rattle.comm_core.specs.declared.reply.Reply.{Reply}
@@ -78,20 +76,24 @@ judged_leaves limit m (Register name kind notes) =
     (λ _. record { keeps = λ n k h u. h; adds = λ n k h. none_adds n k h })
     (λ new. record {
       keeps = λ n k h u. (h.0, at-longer m.targets name _ n h.0 h.1, h.2);
-      adds = λ n k h. (record { kind = kind; notes = notes }, ap (at (m.targets ++ (name, record { kind = kind; notes = notes }) ∷ [])) (sym (same_name name n kind k h)) ∙ at-newest m.targets name _ (none_of (at m.targets name) new), same_kind name n kind k h)
+      adds = λ n k h. (record { kind = kind; notes = notes }, ap (at (m.targets ++ (name, record { kind = kind; notes = notes }) ∷ [])) (sym (same_name name n kind k h)) ∙ at-newest m.targets name _ (none_of (at m.targets name) new), same_kind name n kind k h);
     })
 judged_leaves limit m (Open id target version body) =
     let L = Leaves (Open id target version body) m in
     comes_if L m (has m.comms id) _ _ (λ _. record { keeps = λ n k h u. h; adds = λ n k h. none_adds n k h })
     (λ _. comes_if L m (not (has m.targets target)) _ _ (λ _. record { keeps = λ n k h u. h; adds = λ n k h. none_adds n k h })
     (λ _. comes_if L m (is_full limit m) _ _ (λ _. record { keeps = λ n k h u. h; adds = λ n k h. none_adds n k h })
-    (λ _. ((λ a g. record { keeps = λ n k h u. h; adds = λ n k h. none_adds n k h }),
-    (λ f s e. comes_told L m f _ s (record { keeps = λ n k h u. h; adds = λ n k h. none_adds n k h }) e)))))
+    (λ _. (
+      (λ a g. record { keeps = λ n k h u. h; adds = λ n k h. none_adds n k h }),
+      (λ f s e. comes_told L m f _ s (record { keeps = λ n k h u. h; adds = λ n k h. none_adds n k h }) e),
+    ))))
 judged_leaves limit m (Msg id body) =
     let L = Leaves (Msg id body) m in
     comes_of L m (at m.comms id) _ (record { keeps = λ n k h u. h; adds = λ n k h. none_adds n k h })
-    (λ x there. ((λ a g. record { keeps = λ n k h u. noted_keeps m x.target (event.Msg id body) (at m.targets x.target) refl (stated m.comms id x.target a.state) n k h; adds = λ n k h. none_adds n k h }),
-    (λ f s e. comes_told L m f _ s (record { keeps = λ n k h u. h; adds = λ n k h. none_adds n k h }) e)))
+    (λ x there. (
+      (λ a g. record { keeps = λ n k h u. noted_keeps m x.target (event.Msg id body) (at m.targets x.target) refl (stated m.comms id x.target a.state) n k h; adds = λ n k h. none_adds n k h }),
+      (λ f s e. comes_told L m f _ s (record { keeps = λ n k h u. h; adds = λ n k h. none_adds n k h }) e),
+    ))
 judged_leaves limit m (Close id) =
     comes_of (Leaves (Close id) m) m (at m.comms id) _ (record { keeps = λ n k h u. h; adds = λ n k h. none_adds n k h })
     (λ x there. record { keeps = λ n k h u. h; adds = λ n k h. none_adds n k h })

@@ -1,11 +1,11 @@
 -- A legal history, entry by entry from the machine that stands before it.
-use Rattle.std.proofs.Common.{◌≡◌, ℕ, Bool, true, false, List, [], ◌∷◌, ◌++◌, Option, Some, refl, ap, sym, ◌∙◌, subst, append_assoc}
-use Rattle.comm_core.specs.Machine.{Name, Machine, empty, at}
+use Rattle.std.proofs.Common.{◌≡◌, ℕ, List, [], ◌∷◌, ◌++◌, Some, refl, sym, subst}
+use Rattle.comm_core.specs.Machine.{Machine, empty}
 use Rattle.comm_core.specs.Step.{Allowed, asks, step}
-use Rattle.comm_core.specs.History.{Entry, change, end, next_of, applied, replay_from, replay, Follows, IsLegalAfter, IsLegal}
+use Rattle.comm_core.specs.History.{Entry, change, end, next_of, applied, replay_from, replay, IsLegalAfter, IsLegal}
 use Rattle.comm_core.specs.Ready.{AreDistinct}
 use Rattle.comm_core.proofs.Changes.{distinct-changed}
-use Rattle.comm_core.proofs.Stepping.{Does, step_does}
+use Rattle.comm_core.proofs.Stepping.{step_does}
 
 -- the entry may come at this machine
 abbrev pub Steps : ℕ → Machine → Entry → Type 0

@@ -1,5 +1,5 @@
 -- The comms of targets that give no state.
-use Rattle.std.proofs.Common.{◌≡◌, ℕ, Bool, true, false, not, cond, List, [], ◌∷◌, ◌++◌, Option, None, Some, Ok, refl, ap, sym, ◌∙◌, subst, true≢false}
+use Rattle.std.proofs.Common.{◌≡◌, ℕ, Bool, true, false, not, cond, List, [], ◌∷◌, Option, None, Some, Ok, refl, ap, sym, ◌∙◌, subst, true≢false}
 use Rattle.std.specs.Str.{bytes_eq}
 use Rattle.std.specs.List.{list_any}
 use Rattle.comm_value.specs.Tree.{Members}
@@ -84,19 +84,23 @@ judged_gives limit m (Open id target version body) =
     comes_if G m (has m.comms id) _ _ (λ _. record { standing = λ i t k h u c. refl; opening_it = λ i t k h u c. refl })
     (λ new. comes_if G m (not (has m.targets target)) _ _ (λ _. record { standing = λ i t k h u c. refl; opening_it = λ i t k h u c. refl })
     (λ _. comes_if G m (is_full limit m) _ _ (λ _. record { standing = λ i t k h u c. refl; opening_it = λ i t k h u c. refl })
-    (λ _. ((λ a g. record {
-      standing = λ i t k h u c. new_merges m id a.state (none_of (at m.comms id) new) i (record { target = t; state = None }) c;
-      opening_it = λ i t k h u c. opened_none m id target (event.Open id version body) a g i t k h u c
-    }),
-    (λ f s e. comes_told G m f _ s (record { standing = λ i t k h u c. refl; opening_it = λ i t k h u c. refl }) e)))))
+    (λ _. (
+      (λ a g. record {
+        standing = λ i t k h u c. new_merges m id a.state (none_of (at m.comms id) new) i (record { target = t; state = None }) c;
+        opening_it = λ i t k h u c. opened_none m id target (event.Open id version body) a g i t k h u c;
+      }),
+      (λ f s e. comes_told G m f _ s (record { standing = λ i t k h u c. refl; opening_it = λ i t k h u c. refl }) e),
+    ))))
 judged_gives limit m (Msg id body) =
     let G = GivesNone (Msg id body) m in
     comes_of G m (at m.comms id) _ (record { standing = λ i t k h u c. refl; opening_it = λ i t k h u c. refl })
-    (λ x there. ((λ a g. record {
-      standing = λ i t k h u c. told_none m id x (event.Msg id body) a there g i t k h u c;
-      opening_it = λ i t k h u c. none_opens i t c
-    }),
-    (λ f s e. comes_told G m f _ s (record { standing = λ i t k h u c. refl; opening_it = λ i t k h u c. refl }) e)))
+    (λ x there. (
+      (λ a g. record {
+        standing = λ i t k h u c. told_none m id x (event.Msg id body) a there g i t k h u c;
+        opening_it = λ i t k h u c. none_opens i t c;
+      }),
+      (λ f s e. comes_told G m f _ s (record { standing = λ i t k h u c. refl; opening_it = λ i t k h u c. refl }) e),
+    ))
 judged_gives limit m (Close id) =
     comes_of (GivesNone (Close id) m) m (at m.comms id) _ (record { standing = λ i t k h u c. refl; opening_it = λ i t k h u c. refl })
     (λ x there. record { standing = λ i t k h u c. refl; opening_it = λ i t k h u c. refl })
@@ -110,18 +114,24 @@ judged_gives limit m (Launch uuid target state) =
     (λ new. comes_if G m (not (has m.targets target)) _ _ (λ _. record { standing = λ i t k h u c. refl; opening_it = λ i t k h u c. refl })
     (λ _. comes_if G m (not (holds_widget (at m.targets target))) _ _ (λ _. record { standing = λ i t k h u c. refl; opening_it = λ i t k h u c. refl })
     (λ _. comes_if G m (is_full limit m) _ _ (λ _. record { standing = λ i t k h u c. refl; opening_it = λ i t k h u c. refl })
-    (λ _. ((λ a g. record {
-      standing = λ i t k h u c. new_merges m id a.state (none_of (at m.comms id) new) i (record { target = t; state = None }) c;
-      opening_it = λ i t k h u c. opened_none m id target (event.Launch id state) a g i t k h u c
-    }), (λ f s e. none_stepped s e))))))
+    (λ _. (
+      (λ a g. record {
+        standing = λ i t k h u c. new_merges m id a.state (none_of (at m.comms id) new) i (record { target = t; state = None }) c;
+        opening_it = λ i t k h u c. opened_none m id target (event.Launch id state) a g i t k h u c;
+      }),
+      (λ f s e. none_stepped s e),
+    )))))
 judged_gives limit m (Push id state) =
     let G = GivesNone (Push id state) m in
     comes_of G m (at m.comms id) _ (record { standing = λ i t k h u c. refl; opening_it = λ i t k h u c. refl })
     (λ x there. comes_if G m (holds_widget (at m.targets x.target)) _ _
-    (λ _. ((λ a g. record {
-      standing = λ i t k h u c. told_none m id x (event.Push id state) a there g i t k h u c;
-      opening_it = λ i t k h u c. none_opens i t c
-    }), (λ f s e. none_stepped s e)))
+    (λ _. (
+      (λ a g. record {
+        standing = λ i t k h u c. told_none m id x (event.Push id state) a there g i t k h u c;
+        opening_it = λ i t k h u c. none_opens i t c;
+      }),
+      (λ f s e. none_stepped s e),
+    ))
     (λ _. record { standing = λ i t k h u c. refl; opening_it = λ i t k h u c. refl }))
 judged_gives limit m (Send id body) =
     comes_of (GivesNone (Send id body) m) m (at m.comms id) _ (record { standing = λ i t k h u c. refl; opening_it = λ i t k h u c. refl })
@@ -158,7 +168,7 @@ module _ (limit : ℕ) (k : Kind) (stateless : is_stateless k ≡ true) where
       let m = replay limit before in
       let kind = is_registered limit before target k runs.0 is in
       let there = entry_opens limit m opener id target runs.1.0 since.opened
-          ∙ ap (λ o. Some (record { target = target; state = o })) (entry_begins m opener id target runs.1.0 since.opened kind) in
+      ∙ ap (λ o. Some (record { target = target; state = o })) (entry_begins m opener id target runs.1.0 since.opened kind) in
       ap (λ l. at (replay limit l).comms id) since.parts ∙ ap (λ (z : Machine). at z.comms id) (replay-append limit empty before (opener ∷ after))
       ∙ run_stands (applied limit m opener) after id target runs.1.1 there (opener_leaves limit opener m id target k runs.1.0 since.opened kind) since.lasts
 

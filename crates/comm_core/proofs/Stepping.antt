@@ -1,18 +1,16 @@
 -- What one step does to the comms, for every call and outcome.
-use Rattle.std.proofs.Common.{◌≡◌, ℕ, Bool, true, false, not, cond, List, [], ◌∷◌, ◌++◌, Option, None, Some, Ok, Err, is_some, refl, ap, sym, ◌∙◌, subst, true≢false}
+use Rattle.std.proofs.Common.{◌≡◌, ℕ, Bool, true, false, not, cond, List, [], ◌∷◌, ◌++◌, Option, None, Some, Ok, Err, refl, subst}
 use Rattle.std.specs.Str.{bytes_eq}
 use Rattle.comm_value.specs.Tree.{Members}
-use Rattle.comm_targets.specs.declared.event.Event.{Event}
 use Rattle.comm_targets.specs.declared.event.Event.TheVariants as event
 use Rattle.comm_targets.specs.declared.answer.Answer.{Answer}
 use Rattle.comm_targets.specs.declared.fault.TargetFault.{TargetFault}
 use Rattle.comm_core.specs.Machine.{Name, Machine, at, has, without, others}
-use Rattle.comm_core.specs.Step.{Outcome, Stepped, Verdict, Done, Asked, Gives, Allowed, asks, judged, question_of, step, stepped, stays, answered, refused, of_comm, stated, is_full, holds_widget, comm_id}
+use Rattle.comm_core.specs.Step.{Outcome, Stepped, Verdict, Done, Asked, Gives, Allowed, asks, judged, question_of, step, stepped, answered, refused, of_comm, stated, is_full, holds_widget, comm_id}
 use Rattle.comm_core.specs.Tables.{Opens}
 use Rattle.comm_core.specs.Reads.{Pair}
 use Rattle.comm_core.specs.Runs.{opening, ending, given}
 use Rattle.comm_core.specs.declared.comm.Comm.{Comm}
-use Rattle.comm_core.specs.declared.question.Question.{Question}
 use Rattle.comm_core.specs.declared.call.Call.{Call}
 use Rattle.comm_core.specs.declared.call.Call.TheVariants.{Register, Open, Msg, Close, Unregister, Launch, Push, Send, HangUp}
 use Rattle.comm_core.specs.declared.reply.Reply.{Reply}
@@ -107,24 +105,28 @@ pub record Does (call : Call) (m : Machine) (o : Option Outcome) (r : Reply) (n 
   pub fits : Fits change m.comms
 
 does_open : (m : Machine) (id target : Name) (version : Option Name) (body : _) → has m.comms id ≡ false → Comes (Does (Open id target version body) m) m (Asked (record { name = target; state = None; event = event.Open id version body }))
-does_open m id target version body new =
-    ((λ a g. record { change = begins id target a.state; comms = refl; opens = refl; ends = λ _ _. refl; gives = λ _. refl; fits = none_of (at m.comms id) new }),
-    (λ f s e. comes_told (Does (Open id target version body) m) m f _ s (record { change = stays_so; comms = refl; opens = refl; ends = λ _ _. refl; gives = λ _. refl; fits = tt }) e))
+does_open m id target version body new = (
+  (λ a g. record { change = begins id target a.state; comms = refl; opens = refl; ends = λ _ _. refl; gives = λ _. refl; fits = none_of (at m.comms id) new }),
+  (λ f s e. comes_told (Does (Open id target version body) m) m f _ s (record { change = stays_so; comms = refl; opens = refl; ends = λ _ _. refl; gives = λ _. refl; fits = tt }) e),
+)
 
 does_launch : (m : Machine) (uuid : List ℕ) (target : Name) (state : Members) → has m.comms (comm_id uuid) ≡ false → Comes (Does (Launch uuid target state) m) m (Asked (record { name = target; state = None; event = event.Launch (comm_id uuid) state }))
-does_launch m uuid target state new =
-    ((λ a g. record { change = begins (comm_id uuid) target a.state; comms = refl; opens = refl; ends = λ _ _. refl; gives = λ _. refl; fits = none_of (at m.comms (comm_id uuid)) new }),
-    (λ f s e. none_stepped s e))
+does_launch m uuid target state new = (
+  (λ a g. record { change = begins (comm_id uuid) target a.state; comms = refl; opens = refl; ends = λ _ _. refl; gives = λ _. refl; fits = none_of (at m.comms (comm_id uuid)) new }),
+  (λ f s e. none_stepped s e),
+)
 
 does_msg : (m : Machine) (id : Name) (body : _) (x : Comm) → at m.comms id ≡ Some x → Comes (Does (Msg id body) m) m (Asked (record { name = x.target; state = x.state; event = event.Msg id body }))
-does_msg m id body x there =
-    ((λ a g. record { change = tells id x.target a.state; comms = refl; opens = refl; ends = λ _ _. refl; gives = λ _. refl; fits = (x, there, refl) }),
-    (λ f s e. comes_told (Does (Msg id body) m) m f _ s (record { change = stays_so; comms = refl; opens = refl; ends = λ _ _. refl; gives = λ _. refl; fits = tt }) e))
+does_msg m id body x there = (
+  (λ a g. record { change = tells id x.target a.state; comms = refl; opens = refl; ends = λ _ _. refl; gives = λ _. refl; fits = (x, there, refl) }),
+  (λ f s e. comes_told (Does (Msg id body) m) m f _ s (record { change = stays_so; comms = refl; opens = refl; ends = λ _ _. refl; gives = λ _. refl; fits = tt }) e),
+)
 
 does_push : (m : Machine) (id : Name) (state : Members) (x : Comm) → at m.comms id ≡ Some x → Comes (Does (Push id state) m) m (Asked (record { name = x.target; state = x.state; event = event.Push id state }))
-does_push m id state x there =
-    ((λ a g. record { change = tells id x.target a.state; comms = refl; opens = refl; ends = λ _ _. refl; gives = λ _. refl; fits = (x, there, refl) }),
-    (λ f s e. none_stepped s e))
+does_push m id state x there = (
+  (λ a g. record { change = tells id x.target a.state; comms = refl; opens = refl; ends = λ _ _. refl; gives = λ _. refl; fits = (x, there, refl) }),
+  (λ f s e. none_stepped s e),
+)
 
 judged_does : (limit : ℕ) (m : Machine) (call : Call) → Comes (Does call m) m (judged limit m call)
 judged_does limit m (Register name kind notes) =

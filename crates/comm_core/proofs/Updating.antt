@@ -1,34 +1,33 @@
 -- The states of comms through a run: those of widgets, and those of targets without states.
-use Rattle.std.proofs.Common.{◌≡◌, ℕ, Bool, true, false, not, cond, List, [], ◌∷◌, ◌++◌, fold, Option, None, Some, Ok, Err, option_map, refl, ap, sym, ◌∙◌, subst, true≢false}
+use Rattle.std.proofs.Common.{◌≡◌, ℕ, Bool, true, false, not, cond, List, [], ◌∷◌, fold, Option, None, Some, Ok, Err, option_map, refl, ap, sym, ◌∙◌, subst, true≢false}
 use Rattle.std.specs.Prelude.{codes, Result}
 use Rattle.std.specs.Str.{bytes_eq}
-use Rattle.std.specs.List.{list_any, filter_map, cons_option}
-use Rattle.comm_value.specs.Tree.{Tree, null, boolean, whole, text, bytes, list, dict, Members}
+use Rattle.std.specs.List.{list_any, cons_option}
+use Rattle.comm_value.specs.Tree.{Tree, text, Members}
 use Rattle.comm_value.specs.Node.{get}
 use Rattle.comm_value.specs.Merge.{merged}
 use Rattle.comm_messages.specs.Content.{Content}
 use Rattle.comm_targets.specs.Widget.{opened, state_of, told, told_by, updated, answer_with, new_state, handed, nothing, one_message, update_of}
 use Rattle.comm_targets.specs.Answers.{Answers}
 use Rattle.comm_targets.specs.declared.kind.Kind.{Kind}
-use Rattle.comm_targets.specs.declared.kind.Kind.TheVariants.{Echo, Counter, Widget, Free}
+use Rattle.comm_targets.specs.declared.kind.Kind.TheVariants.{Widget}
 use Rattle.comm_targets.specs.declared.event.Event.{Event}
 use Rattle.comm_targets.specs.declared.event.Event.TheVariants as event
 use Rattle.comm_targets.specs.declared.answer.Answer.{Answer}
 use Rattle.comm_targets.specs.declared.fault.TargetFault.{TargetFault}
 use Rattle.comm_targets.specs.declared.fault.TargetFault.TheVariants.{UnknownMethod, NoMethod}
-use Rattle.comm_core.specs.Machine.{Name, Registered, Machine, empty, at, has}
-use Rattle.comm_core.specs.Step.{Outcome, Stepped, Gives, judged, is_full, holds_widget, comm_id}
+use Rattle.comm_core.specs.Machine.{Name, Machine, empty, at, has}
+use Rattle.comm_core.specs.Step.{Outcome, Gives, judged, is_full, holds_widget, comm_id}
 use Rattle.comm_core.specs.History.{Entry, change, end, applied, replay_from, replay, IsLegal}
-use Rattle.comm_core.specs.Reads.{Pair, state_of as state_read, state_in, state_at}
+use Rattle.comm_core.specs.Reads.{state_of as state_read, state_in, state_at}
 use Rattle.comm_core.specs.Runs.{opening, HasOpened, has_ended, given, given_by, last_given, IsOpenSince, IsLeftOpen}
-use Rattle.comm_core.specs.Updates.{IsRegistered, unregistering, is_stateless, when_ok, opening_state, OpensWith, is_update, told_state, update_in, update, update_by, updates}
+use Rattle.comm_core.specs.Updates.{IsRegistered, unregistering, when_ok, opening_state, OpensWith, is_update, told_state, update_in, update, update_by, updates}
 use Rattle.comm_core.specs.declared.comm.Comm.{Comm}
 use Rattle.comm_core.specs.declared.question.Question.{Question}
 use Rattle.comm_core.specs.declared.call.Call.{Call}
 use Rattle.comm_core.specs.declared.call.Call.TheVariants.{Register, Open, Msg, Close, Unregister, Launch, Push, Send, HangUp}
 use Rattle.comm_core.specs.declared.reply.Reply.{Reply}
-use Rattle.comm_core.specs.declared.reply.Reply.TheVariants as reply
-use Rattle.comm_core.specs.declared.reply.StateAnswer.TheVariants.{NoComm, NoState, State}
+use Rattle.comm_core.specs.declared.reply.StateAnswer.TheVariants.{NoComm, State}
 use Rattle.comm_core.proofs.Keys.{same_text, text_itself}
 use Rattle.comm_core.proofs.Gone.{none≢some}
 use Rattle.comm_core.proofs.Staging.{none_of}
@@ -149,8 +148,10 @@ judged_merges limit m (Open id target version body) =
 judged_merges limit m (Msg id body) =
     let M = Merges (Msg id body) m in
     comes_of M m (at m.comms id) _ (λ _ _ _ _ _. refl)
-    (λ x there. ((λ a g i t s h k. told_merges m id x (event.Msg id body) a (λ _. update_in body) there g (λ z notes w. told_update z body (get (codes "method") body.content) a w) i t s h k),
-    (λ f s e. comes_told M m f _ s (λ _ _ _ _ _. refl) e)))
+    (λ x there. (
+      (λ a g i t s h k. told_merges m id x (event.Msg id body) a (λ _. update_in body) there g (λ z notes w. told_update z body (get (codes "method") body.content) a w) i t s h k),
+      (λ f s e. comes_told M m f _ s (λ _ _ _ _ _. refl) e),
+    ))
 judged_merges limit m (Close id) = comes_of (Merges (Close id) m) m (at m.comms id) _ (λ _ _ _ _ _. refl) (λ x there _ _ _ _ _. refl)
 judged_merges limit m (Unregister name) = comes_if (Merges (Unregister name) m) m (has m.targets name) _ _ (λ _ _ _ _ _ _. refl) (λ _ _ _ _ _ _. refl)
 judged_merges limit m (Launch uuid target state) =
@@ -190,8 +191,10 @@ judged_opens limit m (Open id target version body) =
     comes_if O m (has m.comms id) _ _ (λ _ i t h k. none_opens i t h)
     (λ _. comes_if O m (not (has m.targets target)) _ _ (λ _ i t h k. none_opens i t h)
     (λ _. comes_if O m (is_full limit m) _ _ (λ _ i t h k. none_opens i t h)
-    (λ _. ((λ a g i t h k. opens_told m (Open id target version body) (event.Open id version body) id target a (when_ok (opened version body)) g (λ notes w. opened_state (opened version body) a w) i t h k),
-    (λ f s e. comes_told O m f _ s (λ i t h k. none_opens i t h) e)))))
+    (λ _. (
+      (λ a g i t h k. opens_told m (Open id target version body) (event.Open id version body) id target a (when_ok (opened version body)) g (λ notes w. opened_state (opened version body) a w) i t h k),
+      (λ f s e. comes_told O m f _ s (λ i t h k. none_opens i t h) e),
+    ))))
 judged_opens limit m (Msg id body) =
     let O = OpensTold (Msg id body) m in
     comes_of O m (at m.comms id) _ (λ i t h k. none_opens i t h) (λ x there. ((λ a g i t h k. none_opens i t h), (λ f s e. comes_told O m f _ s (λ i t h k. none_opens i t h) e)))
@@ -203,8 +206,10 @@ judged_opens limit m (Launch uuid target state) =
     (λ _. comes_if O m (not (has m.targets target)) _ _ (λ _ i t h k. none_opens i t h)
     (λ _. comes_if O m (not (holds_widget (at m.targets target))) _ _ (λ _ i t h k. none_opens i t h)
     (λ _. comes_if O m (is_full limit m) _ _ (λ _ i t h k. none_opens i t h)
-    (λ _. ((λ a g i t h k. opens_told m (Launch uuid target state) (event.Launch (comm_id uuid) state) (comm_id uuid) target a (Some state) g (λ notes w. (state, refl, state_is (new_state state) a w)) i t h k),
-    (λ f s e. none_stepped s e))))))
+    (λ _. (
+      (λ a g i t h k. opens_told m (Launch uuid target state) (event.Launch (comm_id uuid) state) (comm_id uuid) target a (Some state) g (λ notes w. (state, refl, state_is (new_state state) a w)) i t h k),
+      (λ f s e. none_stepped s e),
+    )))))
 judged_opens limit m (Push id state) =
     let O = OpensTold (Push id state) m in
     comes_of O m (at m.comms id) _ (λ i t h k. none_opens i t h)
@@ -272,9 +277,12 @@ module _ (limit : ℕ) where
       let m = replay limit before in
       let kind = is_registered limit before target Widget runs.0 is in
       let start = entry_opening m opener id target runs.1.0 since.opened kind in
-      let there = entry_opens limit m opener id target runs.1.0 since.opened ∙ ap (λ o. Some (record { target = target; state = o })) start.2 in
-      (start.0, start.1, ap (λ l. at (replay limit l).comms id) since.parts ∙ ap (λ (z : Machine). at z.comms id) (replay-append limit empty before (opener ∷ after))
-      ∙ run_merges (applied limit m opener) after id target start.0 runs.1.1 there (opener_leaves opener m id target Widget runs.1.0 since.opened kind) since.lasts)
+      let there = entry_opens limit m opener id target runs.1.0 since.opened ∙ ap (λ o. Some (record { target = target; state = o })) start.2 in (
+        start.0,
+        start.1,
+        ap (λ l. at (replay limit l).comms id) since.parts ∙ ap (λ (z : Machine). at z.comms id) (replay-append limit empty before (opener ∷ after))
+            ∙ run_merges (applied limit m opener) after id target start.0 runs.1.1 there (opener_leaves opener m id target Widget runs.1.0 since.opened kind) since.lasts,
+      )
 
 pub given_last : (clients limit : ℕ) (h before : List Entry) (opener : Entry) (after : List Entry) (id target : Name) → IsLegal clients limit h → IsOpenSince h before opener after id target
     → state_read (replay limit h) id ≡ state_in (last_given id (opener ∷ after))

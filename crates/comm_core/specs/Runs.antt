@@ -1,6 +1,6 @@
 -- What a history tells of each comm by itself, from its calls, replies and answers alone: what opened it, what ended it, and which states it was
 -- given. No machine is worked out here.
-use Rattle.std.specs.Prelude.{◌≡◌, ℕ, Bool, true, false, List, [], ◌∷◌, ◌++◌, Option, Some, None, Ok, if◌then◌else◌}
+use Rattle.std.specs.Prelude.{◌≡◌, Bool, true, false, List, ◌∷◌, ◌++◌, Option, Some, None, Ok, if◌then◌else◌}
 use Rattle.std.specs.List.{list_any, filter_map, last_or}
 use Rattle.std.specs.Str.{bytes_eq}
 use Rattle.comm_value.specs.Tree.{Members}
@@ -9,7 +9,7 @@ use Rattle.comm_core.specs.Step.{Outcome, comm_id}
 use Rattle.comm_core.specs.Reads.{Pair}
 use Rattle.comm_core.specs.History.{Entry, change, end}
 use Rattle.comm_core.specs.declared.call.Call.{Call}
-use Rattle.comm_core.specs.declared.call.Call.TheVariants.{Register, Open, Msg, Close, Unregister, Launch, Push, Send, HangUp}
+use Rattle.comm_core.specs.declared.call.Call.TheVariants.{Open, Msg, Close, Unregister, Launch, Push, HangUp}
 use Rattle.comm_core.specs.declared.reply.Reply.{Reply}
 use Rattle.comm_core.specs.declared.reply.Reply.TheVariants as reply
 

@@ -1,5 +1,5 @@
 -- How a history tells of the targets and of the states of their comms, from its calls and replies alone.
-use Rattle.std.specs.Prelude.{◌≡◌, ℕ, Bool, true, false, List, [], ◌∷◌, ◌++◌, Option, Some, None, Result, Ok, Err, codes, if◌then◌else◌}
+use Rattle.std.specs.Prelude.{◌≡◌, Bool, true, false, List, ◌∷◌, ◌++◌, Option, Some, None, Result, Ok, Err, codes, if◌then◌else◌}
 use Rattle.std.specs.List.{list_any, filter_map}
 use Rattle.std.specs.Str.{bytes_eq}
 use Rattle.comm_value.specs.Tree.{Tree, text, Members}
@@ -12,7 +12,7 @@ use Rattle.comm_targets.specs.declared.fault.TargetFault.{TargetFault}
 use Rattle.comm_core.specs.Machine.{Name}
 use Rattle.comm_core.specs.History.{Entry, change, end}
 use Rattle.comm_core.specs.declared.call.Call.{Call}
-use Rattle.comm_core.specs.declared.call.Call.TheVariants.{Register, Open, Msg, Close, Unregister, Launch, Push, Send, HangUp}
+use Rattle.comm_core.specs.declared.call.Call.TheVariants.{Register, Open, Msg, Unregister, Launch, Push}
 use Rattle.comm_core.specs.declared.reply.Reply.{Reply}
 use Rattle.comm_core.specs.declared.reply.Reply.TheVariants as reply
 
