@@ -9,7 +9,7 @@ use Rattle.comm_core.specs.Ready.{AreDistinct}
 use Rattle.comm_core.specs.declared.comm.Comm.{Comm}
 use Rattle.comm_core.proofs.Keys.{same_text, text_itself}
 
-none≢some : {X : Type 0} (x : X) → ◌≡◌ {A = Option X} None (Some x) → ⊥
+pub none≢some : {X : Type 0} (x : X) → ◌≡◌ {A = Option X} None (Some x) → ⊥
 none≢some x h = true≢false (sym (ap is_some h))
 
 module _ {X : Type 0} where

@@ -4,6 +4,8 @@ pub mod Step
 pub mod Exact
 pub mod History
 pub mod Reads
+pub mod Runs
+pub mod Updates
 pub mod Tables
 pub mod Ready
 pub mod Code

@@ -7,7 +7,9 @@ ghost use Rattle.comm_targets.specs.declared.stage.Stage.{Stage};
 ghost use Rattle.comm_core.specs.Machine.{at, has, without, with_at};
 ghost use Rattle.comm_core.specs.Step.{holds_widget, is_widget};
 ghost use Rattle.comm_core.specs.Tables.{targets_of, entry_of};
+ghost use Rattle.comm_core.specs.Ready.{AllAgree};
 
+use crate::comms::Comms;
 use comm_targets::{Answer, Event, Held, Kind, Target, TargetFault};
 use comm_value::{Dict, Text};
 use std::alloc::{AllocError, Global};
@@ -155,8 +157,8 @@ impl<T: Target> Boxes<T> {
         }
     }
 
-    /// Takes out the newest target.
-    pub fn pop(&mut self) -> Option<(Text, Held<T>)>
+    // Takes out the newest target.
+    fn pop(&mut self) -> Option<(Text, Held<T>)>
         ensures all { self.old.all ≡ self.new.all ++ entry_of result }
         ensures none { result ≡ None → self.new.all ≡ [] }
     {
@@ -166,12 +168,26 @@ impl<T: Target> Boxes<T> {
         }
     }
 
-    /// Ends an empty table.
-    pub fn end(self)
-        requires { self.all ≡ [] }
+    // How many targets there are.
+    fn len(&self) -> usize
+        ensures { result ≡ length self.now.all }
     {
+        self.all.len()
+    }
+
+    /// Closes each comm in its target, then ends the target, and says how many targets it ended. It takes no memory.
+    pub fn end_all(mut self, comms: &Comms) -> usize
+        requires { AllAgree self.all comms.now.all }
+        ensures { result ≡ length self.all }
+    {
+        let ended = self.len();
+        while let Some((name, mut held)) = self.pop() {
+            comms.close_those_of(&name, &mut held);
+            held.end();
+        }
         let Boxes { all } = self;
         all.destroy_empty();
+        ended
     }
 }
 

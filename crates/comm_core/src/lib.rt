@@ -27,8 +27,10 @@ pub use call::Call;
 pub use comm::Comm;
 pub use ids::Ids;
 pub use laws::{
-    exact_machines_leave_no_choice, legal_histories_grow, prefixes_of_legal_histories_are_legal,
-    refused_calls_change_nothing, steps_keep_machines_exact,
+    comms_are_listed_in_the_order_of_ids, comms_have_the_state_that_they_were_given_last,
+    comms_that_are_listed_were_left_open, exact_machines_leave_no_choice, legal_histories_grow,
+    prefixes_of_legal_histories_are_legal, refused_calls_change_nothing, some_kinds_have_no_states,
+    steps_keep_machines_exact, widgets_have_their_opening_state_merged_with_their_updates,
 };
 pub use limits::{Limits, NewFault};
 pub use manager::{Core, Finished, Ready};

@@ -1,24 +1,7 @@
-use Rattle.std.proofs.Common.{ap, ◌∙◌, subst}
-use Rattle.comm_targets.specs.Meaning.{Meaning}
-use Rattle.comm_core.specs.Ready.{State, AllAgree}
-use Rattle.comm_core.proofs.Stopping.{all_agree, all_but}
+use Rattle.std.proofs.Common.{ap, ◌∙◌}
+use Rattle.comm_core.specs.Ready.{State}
+use Rattle.comm_core.proofs.Stopping.{all_agree}
 use Rattle.comm_core.proofs.manager.Core.stop_all.Goals as goal
 
-pub loop-name-init : goal.loop-name-init
-loop-name-init g c = all_agree _ _ _ _ _ c.self.invariant (ap (λ (s : State). s.settled) c.self.view_is ∙ c.requires)
-
-pub close_those_of-requires-clause-ids : goal.close_those_of-requires-clause-ids
-close_those_of-requires-clause-ids g c κs within =
-    (all_but _ _ _ _ (subst (λ l. AllAgree l c.self.inside.comms.all) c.in-Some.ensures.all c.loop-name.invariant)).1
-
-pub close_those_of-requires-clause-unstaged : goal.close_those_of-requires-clause-unstaged
-close_those_of-requires-clause-unstaged g c κs within = (all_but _ _ _ _ (subst (λ l. AllAgree l c.self.inside.comms.all) c.in-Some.ensures.all c.loop-name.invariant)).2
-
-pub end-requires-after_bounds : goal.end-requires-after_bounds
-end-requires-after_bounds g c κs within = (
-  ap (λ (m : Meaning). m.ids) c.close_those_of.ensures,
-  ap (λ (m : Meaning). m.staged) c.close_those_of.ensures ∙ (all_but _ _ _ _ (subst (λ l. AllAgree l c.self.inside.comms.all) c.in-Some.ensures.all c.loop-name.invariant)).2,
-)
-
-pub loop-name-preserved : goal.loop-name-preserved
-loop-name-preserved g c = (all_but _ _ _ _ (subst (λ l. AllAgree l c.self.inside.comms.all) c.in-Some.ensures.all c.loop-name.invariant)).0
+pub end_all-requires-after_bounds : goal.end_all-requires-after_bounds
+end_all-requires-after_bounds g c κs within = all_agree _ _ _ _ _ c.self.invariant (ap (λ (s : State). s.settled) c.self.view_is ∙ c.requires)

@@ -1,0 +1,5 @@
+use Rattle.comm_core.proofs.Updating.{updates_merged}
+use Rattle.comm_core.proofs.laws.widgets_have_their_opening_state_merged_with_their_updates.Goals as goal
+
+pub returns : goal.returns
+returns c = updates_merged

@@ -1,9 +1,0 @@
-use Rattle.std.proofs.Common.{length}
-use Rattle.comm_core.specs.Ready.{AllAgree}
-use Rattle.comm_core.proofs.manager.Core.stop_all.Given as goal
-
-abbrev pub invariant-loop-name : goal.invariant-loop-name
-invariant-loop-name g l = AllAgree l.boxes.all l.comms.all
-
-abbrev pub decreases-loop-name : goal.decreases-loop-name
-decreases-loop-name g l = length l.boxes.all
