@@ -132,6 +132,7 @@ fn end<T: Target>(session: Session<T>)
         stock: _,
         changes: _,
         made: _,
+        scratch: _,
     } = session;
     core.stop_all();
 }
