@@ -134,10 +134,7 @@ impl<'v, 'a> ObjectRef<'v, 'a> {
 }
 
 // The value of the last member with this key.
-fn last_of<'v, 'a>(
-    list: &'v Members<'a>,
-    key: &str,
-) -> Option<&'v json::Value<'a>>
+fn last_of<'v, 'a>(list: &'v Members<'a>, key: &str) -> Option<&'v json::Value<'a>>
     ensures { option_map (λ v. data_of (value_view v.now)) result ≡ get_member key.now (members_data (members_view list.now.items) no_members) }
 {
     let mut left = list.len();

@@ -2,7 +2,9 @@ use crate::{
     Body, Incoming, MessageFault, buffers_of, client_of, fields_of, member, message_of, object_in,
     object_or_empty, read_message, text, text_or_none, whole_dict,
 };
+use comm_json::JsonRef;
 use comm_value::Buffers;
+use json::Scratch;
 use serde_json::Value;
 use std::alloc::Global;
 use std::test::Fail;
@@ -259,7 +261,7 @@ fn reads_at_most_127_levels(rt: HostRuntime) -> Result<(), Fail> {
 fn buffers_in(alloc: Global, json: &str) -> Result<String, Fail> {
     let value = Value::from_str(alloc, json)?;
     let mut out = String::new(alloc);
-    match buffers_of(alloc, Some(&value)) {
+    match buffers_of(alloc, Some(JsonRef::Owned(&value))) {
         Ok(buffers) => push_bytes(alloc, &mut out, &buffers)?,
         Err(fault) => out.push_str(format!(in alloc; "{fault}")?.as_str())?,
     }
@@ -302,8 +304,9 @@ fn reads_base64(rt: HostRuntime) -> Result<(), Fail> {
 fn offers_its_readers(rt: HostRuntime) -> Result<(), Fail> {
     let alloc = rt.alloc();
     let line = br#"{"call":"send","client":2,"data":{"x":1},"state":null}"#;
-    let value = object_in(alloc, line)?;
-    let fields = fields_of(&value);
+    let mut scratch = Scratch::new(alloc);
+    let object = object_in(alloc, line, &mut scratch)?;
+    let fields = fields_of(&object);
     assert_eq!(rt; text(member(fields, "call")), Some("send"));
     assert!(rt; text(member(fields, "data")).is_none());
     assert_eq!(rt; client_of(member(fields, "client"), 3)?, 2);
@@ -320,7 +323,7 @@ fn offers_its_readers(rt: HostRuntime) -> Result<(), Fail> {
     assert!(rt; matches!(text_or_none(member(fields, "state")), Some(None)));
     assert!(rt; text_or_none(member(fields, "client")).is_none());
     assert_eq!(rt;
-        outcome(alloc, message_of(alloc, &value, 4))?.as_str(),
+        outcome(alloc, message_of(alloc, &Value::from_slice(alloc, line)?, 4))?.as_str(),
         "`header` has no text `msg_type`"
     );
     Ok(())

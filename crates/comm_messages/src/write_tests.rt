@@ -2,15 +2,16 @@ ghost use Rattle.std.specs.Prelude.{◌≡◌, true};
 ghost use Rattle.comm_messages.specs.Text.{goes_with};
 
 use crate::tests::read;
-use crate::{Body, Info, Infos, Outgoing, Parent, fields_of, whole_dict, write_message};
+use crate::{Body, Info, Infos, Outgoing, Parent, fields_of, object_in, whole_dict, write_message};
 use comm_value::{Buffers, Bytes, Dict, Text};
-use serde_json::Value;
+use json::Scratch;
 use std::alloc::Global;
 use std::test::Fail;
 
 fn body(alloc: Global, data: &str, buffers: Buffers) -> Result<Body, Fail> {
-    let value = Value::from_str(alloc, data)?;
-    Ok(Body::new(whole_dict(alloc, fields_of(&value))?, buffers))
+    let mut scratch = Scratch::new(alloc);
+    let object = object_in(alloc, data.as_bytes(), &mut scratch)?;
+    Ok(Body::new(whole_dict(alloc, fields_of(&object))?, buffers))
 }
 
 fn written(alloc: Global, message: &Outgoing, parent: &Parent) -> Result<String, Fail>

@@ -13,7 +13,7 @@ returns-then-eq c =
     let ms = c.args.list.now.items in
     let next : l.left ≡ l.left - 1 + 1 = omega arith in
     sym (l.invariant.1 ∙ ap (λ n. get_member c.args.key.now (members_data (members_view (take n ms)) no_members)) next
-        ∙ here ms (l.left - 1) c.index-member.result.now c.args.key.now (omega (arith, l.invariant.0)) c.index-member.ensures ((bytes_eq-Decides c.index-member.result.now.0.now c.args.key.now).0 (sym c.if-eq.ensures)))
+    ∙ here ms (l.left - 1) c.index-member.result.now c.args.key.now (omega (arith, l.invariant.0)) c.index-member.ensures ((bytes_eq-Decides c.index-member.result.now.0.now c.args.key.now).0 (sym c.if-eq.ensures)))
 
 pub loop-left-preserved : goal.loop-left-preserved
 loop-left-preserved c =
@@ -22,5 +22,5 @@ loop-left-preserved c =
     let next : l.left ≡ l.left - 1 + 1 = omega arith in (
       omega (arith, l.invariant.0),
       l.invariant.1 ∙ ap (λ n. get_member c.args.key.now (members_data (members_view (take n ms)) no_members)) next
-        ∙ not_here ms (l.left - 1) c.index-member.result.now c.args.key.now (omega (arith, l.invariant.0)) c.index-member.ensures (λ same. true≢false (sym ((bytes_eq-Decides c.index-member.result.now.0.now c.args.key.now).1 same) ∙ sym c.if-eq.ensures)),
+          ∙ not_here ms (l.left - 1) c.index-member.result.now c.args.key.now (omega (arith, l.invariant.0)) c.index-member.ensures (λ same. true≢false (sym ((bytes_eq-Decides c.index-member.result.now.0.now c.args.key.now).1 same) ∙ sym c.if-eq.ensures)),
     )
