@@ -15,3 +15,6 @@ mod version;
 mod widget;
 
 pub use widget::WidgetTarget;
+
+#[cfg(test)]
+mod tests;
