@@ -32,11 +32,7 @@ fn asked_by_message(incoming: Incoming) -> Asked
     }
 }
 
-fn asked_in(
-    alloc: Global,
-    line: Fields<'_, '_>,
-    clients: u8,
-) -> Result<(u8, Asked), LineFault>
+fn asked_in(alloc: Global, line: Fields<'_, '_>, clients: u8) -> Result<(u8, Asked), LineFault>
     requires { 0 < clients }
     ensures asked { Gives (λ r. (r.0, r.1)) result (asked_in clients (fields line.entry)) }
     ensures below { IfOk result (λ r. r.0 < clients) }

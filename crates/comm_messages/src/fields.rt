@@ -68,7 +68,8 @@ pub fn text<'v>(value: Option<JsonRef<'v, '_>>) -> Option<&'v str>
 {
     match value?.shape() {
         Shape::Text(text) => Some(text),
-        Shape::Null | Shape::Bool(_) | Shape::Number(_) | Shape::Items(_) | Shape::Object(_) => None,
+        Shape::Null | Shape::Bool(_) | Shape::Number(_) | Shape::Items(_) | Shape::Object(_) =>
+            None,
     }
 }
 

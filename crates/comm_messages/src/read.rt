@@ -136,7 +136,11 @@ fn version_of<'v>(metadata: Fields<'v, '_>) -> Option<&'v str>
 }
 
 /// The body of an object's members, with the buffers of the line's.
-pub fn body_of(alloc: Global, object: Fields<'_, '_>, line: Fields<'_, '_>) -> Result<Body, MessageFault>
+pub fn body_of(
+    alloc: Global,
+    object: Fields<'_, '_>,
+    line: Fields<'_, '_>,
+) -> Result<Body, MessageFault>
     ensures { Gives (λ b. b) result (body_of (fields object.entry) (fields line.entry)) }
 {
     let content = whole_dict(alloc, object)?;
@@ -161,7 +165,11 @@ fn incoming_in(
 }
 
 #[tactic(auto, unfolding(crate::specs::Message::open_in))]
-fn open_in(alloc: Global, line: Fields<'_, '_>, content: Fields<'_, '_>) -> Result<Incoming, MessageFault>
+fn open_in(
+    alloc: Global,
+    line: Fields<'_, '_>,
+    content: Fields<'_, '_>,
+) -> Result<Incoming, MessageFault>
     ensures { Gives (λ i. i) result (open_in (fields line.entry) (fields content.entry)) }
 {
     let id = text_at(Field::CommId, "comm_id", content)?;
@@ -202,7 +210,11 @@ fn copied(alloc: Global, text: Option<&str>) -> Result<Option<Text>, AllocError>
 }
 
 #[tactic(auto, unfolding(crate::specs::Message::msg_in))]
-fn msg_in(alloc: Global, line: Fields<'_, '_>, content: Fields<'_, '_>) -> Result<Incoming, MessageFault>
+fn msg_in(
+    alloc: Global,
+    line: Fields<'_, '_>,
+    content: Fields<'_, '_>,
+) -> Result<Incoming, MessageFault>
     ensures { Gives (λ i. i) result (msg_in (fields line.entry) (fields content.entry)) }
 {
     let id = text_at(Field::CommId, "comm_id", content)?;
@@ -216,7 +228,11 @@ fn msg_in(alloc: Global, line: Fields<'_, '_>, content: Fields<'_, '_>) -> Resul
 }
 
 #[tactic(auto, unfolding(crate::specs::Message::close_in))]
-fn close_in(alloc: Global, line: Fields<'_, '_>, content: Fields<'_, '_>) -> Result<Incoming, MessageFault>
+fn close_in(
+    alloc: Global,
+    line: Fields<'_, '_>,
+    content: Fields<'_, '_>,
+) -> Result<Incoming, MessageFault>
     ensures { Gives (λ i. i) result (close_in (fields line.entry) (fields content.entry)) }
 {
     let id = text_at(Field::CommId, "comm_id", content)?;

@@ -323,7 +323,11 @@ fn offers_its_readers(rt: HostRuntime) -> Result<(), Fail> {
     assert!(rt; matches!(text_or_none(member(fields, "state")), Some(None)));
     assert!(rt; text_or_none(member(fields, "client")).is_none());
     assert_eq!(rt;
-        outcome(alloc, message_of(alloc, &Value::from_slice(alloc, line)?, 4))?.as_str(),
+        outcome(
+            alloc,
+            message_of(alloc, &Value::from_slice(alloc, line)?, 4)
+        )?
+        .as_str(),
         "`header` has no text `msg_type`"
     );
     Ok(())

@@ -17,8 +17,8 @@ returns-in_err-decoded c =
     let at : get_item (length c.loop-text.all.items) ds ≡ Some (of_ref c.in-Some.text) = ap (λ n. get_item n ds) here ∙ sym c.in-Some.ensures.item in
     let p = err_from_is_err_and c.from_residual-in_err-decoded.result c.from_residual-in_err-decoded.ensures.1 in
     rw (p.1, p.2) (fails_too c.in_err-decoded.field-0.0 _ _
-      (λ is. one_fails ds (of_ref c.in-Some.text) c.loop-text.all.items c.in_err-decoded.field-0.0 _ at (ap (λ n. or_fault (BadBuffer n) (decoded (of_ref c.in-Some.text))) number ∙ is) c.loop-text.invariant)
-      c.in_err-decoded.ensures)
+    (λ is. one_fails ds (of_ref c.in-Some.text) c.loop-text.all.items c.in_err-decoded.field-0.0 _ at (ap (λ n. or_fault (BadBuffer n) (decoded (of_ref c.in-Some.text))) number ∙ is) c.loop-text.invariant)
+    c.in_err-decoded.ensures)
 
 pub loop-text-preserved : goal.loop-text-preserved
 loop-text-preserved c =
@@ -27,7 +27,7 @@ loop-text-preserved c =
     let number : length c.loop-text.all.items ≡ c.len-in-Some.result = omega arith in
     let at : get_item (length c.loop-text.all.items) ds ≡ Some (of_ref c.in-Some.text) = ap (λ n. get_item n ds) here ∙ sym c.in-Some.ensures.item in
     one_more ds (of_ref c.in-Some.text) c.loop-text.all.items c.push.new.self.items c.in_ok-decoded.field-0 _ at
-      (ap (λ n. or_fault (BadBuffer n) (decoded (of_ref c.in-Some.text))) number ∙ c.in_ok-decoded.ensures) c.in_ok-push.ensures.items c.loop-text.invariant
+    (ap (λ n. or_fault (BadBuffer n) (decoded (of_ref c.in-Some.text))) number ∙ c.in_ok-decoded.ensures) c.in_ok-push.ensures.items c.loop-text.invariant
 
 pub returns : goal.returns
 returns c =
