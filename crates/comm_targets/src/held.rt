@@ -96,7 +96,8 @@ impl<T: Target> Held<T> {
         self.target.close(id);
     }
 
-    /// Calls the target's `stop` and drops it. It takes no memory.
+    /// Calls the target's `stop` and drops it. It takes no memory. Nothing is left of the target of which a clause could speak:
+    /// that `stop` was called is shown by a test.
     pub fn end(self)
         requires { IsIdle self }
     {

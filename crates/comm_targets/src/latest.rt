@@ -12,8 +12,7 @@ use std::alloc::{AllocError, Global};
 
 /// A target of kind Free: a comm's state is the data that came last on it.
 ///
-/// It is also the pattern for a target of your own. Keep a [`Book`] and what else you need; `means` tells what of it the
-/// comm manager relies on. In `prepare` make the answer, then stage it last, so that an error leaves all as it was.
+/// It is also the pattern for a target of your own: the crate's page says what to change.
 #[derive(Drop)]
 pub struct Latest {
     alloc: Global,
@@ -49,6 +48,7 @@ fn answer_to(alloc: Global, event: &Event) -> Result<Answer, AllocError>
 impl Target for Latest {
     ghost use Rattle.comm_targets.specs.declared.kind.Kind.TheVariants as kind;
 
+    // What the comm manager relies on: the ids of the open comms and what is staged are the book's.
     ghost means = { λ t. record { kind = kind.Free; notes = 0; ids = t.book.ids; staged = t.book.staged } };
 
     fn kind(&self) -> Kind {
@@ -65,6 +65,7 @@ impl Target for Latest {
 
     fn prepare(&mut self, event: &Event, _now: Option<&Dict>) -> Result<Answer, TargetFault> {
         let answer = answer_to(self.alloc, event)?;
+        // Last, so that an error leaves all as it was.
         self.book.stage(self.alloc, event, &answer)?;
         Ok(answer)
     }

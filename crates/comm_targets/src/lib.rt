@@ -5,12 +5,65 @@
 //! its kind, a number, the ids of its open comms and what is staged (`specs/Meaning.antt`); what each kind may answer is
 //! in `specs/Answers.antt`, that of widgets in `specs/Widget.antt`.
 //!
-//! [`Echo`] and [`Counter`] are targets of those kinds. A target of your own keeps a [`Book`]: see [`Latest`], a whole one.
-//! A target that is in use is [`Held`], and [`Held::end`] is the only way to let it go. Types above are generic in
-//! `T: Target`; for objects of several kinds take `T` as `Box<dyn Target>`, which is a target itself.
+//! [`Echo`] and [`Counter`] are targets of those kinds, [`Latest`] is one of kind Free. A target that is in use is
+//! [`Held`], and [`Held::end`] is the only way to let it go, so each target ends after its comms.
 //!
-//! Where a target is put into such a box, the check asks that it may go to another thread. `proofs/Sends.antt` has
-//! that of a `Book` and of the targets here; the tests' files `Hidden/Sent.antt` show the lines that cite it.
+//! # A target of your own
+//!
+//! `src/latest.rt` is a whole one, proved with no proof file. Copy it into a crate that has `comm_targets`,
+//! `comm_messages` and `comm_value` in `crates.txt`, with `use comm_targets::{..}` in place of `use crate::..`. Copy
+//! `specs/Latest.antt` too, which says what it answers, and name it in your `specs/Lib.antt`. Then change:
+//!
+//! 1. The fields: a [`Book`], which keeps the ids of the open comms and what is staged, and beside it what you need.
+//! 2. `prepare`, where your work is. It is given the event and `now`, the state of the event's comm, and makes the answer:
+//!    any state and messages, and to a message also `custom`. A free target is asked `Open` and `Msg` alone. To refuse, give
+//!    `TargetFault::Other` with a code of your own; Memory comes by `?`, and the check refuses every other fault.
+//!    Stage the event and its answer last, and change nothing before that `means` reads, so that an error leaves it.
+//! 3. `commit`, for fields that follow the messages: ask `Book::has_message` before the book's `commit`, as [`Counter`] does.
+//!    It can't fail, and takes no memory. What is staged may be abandoned instead, so `prepare` is too early for them.
+//! 4. `stop`, if something is to be done at the end. Then no comm is open.
+//! 5. The clause of `answer_to`, by words of your own in `specs/`, or none: the trait's clauses tell callers of a free
+//!    target only what it may answer. The other methods stay as they are, since a free target's notes never change.
+//!
+//! `rt check` in your crate's folder then proves that it keeps the contract of [`Target`], on which the comm manager rests.
+//!
+//! # Using it
+//!
+//! A comm manager (`comm_core`) takes it by `register`. By itself: `Held::new`, and for each event `prepare`, then `commit`
+//! or `abandon`; `close` for each comm that was opened, and `end`. The function `conversation` in `src/tests.rt` is an example.
+//!
+//! Types that hold targets are generic in `T: Target`. For objects of several kinds take `T` as `Box<dyn Target>`, which is
+//! a target itself. A function that names no `T` can't make a `Held` of such a box, so it hands the box to one that does:
+//!
+//! ```text
+//! fn used<T: Target>(target: T)
+//!     requires { IsIdle (T.means target) }
+//! {
+//!     Held::new(target).end();
+//! }
+//! ```
+//!
+//! Where a target is put into a box, the check asks that it may go to another thread. For a `Latest` of `src/latest.rt` of
+//! your crate `mine`, put into a box by the function `serve` of `src/lib.rt`, write `proofs/serve/Hidden/Sent.antt`:
+//!
+//! ```text
+//! use denote.Exit
+//! use denote.Param.Send.{IsSend, arg_send, sendable}
+//! use denote.Param.Sent.{Sends}
+//! use Rattle.std.proofs.Crossing
+//! use Rattle.std.proofs.alloc.Global.TheSendSync as global
+//! use Rattle.comm_targets.proofs.Sends.{book_sends}
+//! use Rattle.mine.specs.contracts.latest.Latest as latest
+//! use Rattle.mine.proofs.serve.OwnLists as own
+//!
+//! latest_sends : IsSend latest.the_row
+//! latest_sends = search (book_sends, global.the_field_send, Crossing.crosses, sendable) depth 60 fits 20000
+//!
+//! pub sends-part-1-1 : Sends own.part-1-1
+//! sends-part-1-1 i = arg_send _ Exit.no _ latest_sends
+//! ```
+//!
+//! A second box in the same function is `part-1-2`. The check names what it asks for.
 #![tactic(auto)]
 
 mod answer;
