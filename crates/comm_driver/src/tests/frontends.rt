@@ -136,9 +136,11 @@ out {"buffers":[],"call":2,"client":1,"content":{"comm_id":"a","data":{"x":1}},"
     Row {
         name: "blank lines count, and the last line needs no end",
         comms: MOST,
-        script: b"   \r\n\n{\"header\":{\"msg_type\":\"comm_close\"},\"content\":{\"comm_id\":\"q\"}}\n\t\n{",
+        script: b"   \r\n\n{\"header\":{\"msg_type\":\"comm_close\"},\"content\":{\"comm_id\":\"q\"}}\n\xff\xfe\xfd\n\t\n[]\n{",
         answers: br#"reply 1 no_comm
-bad 5 not_json
+bad 4 not_json
+bad 6 not_json
+bad 7 not_json
 "#,
     },
 ];

@@ -127,7 +127,17 @@ out {"buffers":[],"client":0,"content":{"comms":{"a":{"target_name":"jupyter.wid
     Row {
         name: "hostile paths change nothing",
         comms: MOST,
-        script: b"{\"call\":\"register\",\"kind\":\"widget\",\"name\":\"jupyter.widget\"}\n{\"header\":{\"msg_type\":\"comm_open\"},\"content\":{\"comm_id\":\"a\",\"target_name\":\"jupyter.widget\",\"data\":{\"state\":{\"k\":1}}},\"metadata\":{\"version\":\"2.0.0\"}}\n{\"header\":{\"msg_type\":\"comm_msg\"},\"content\":{\"comm_id\":\"a\",\"data\":{\"method\":\"update\",\"state\":{\"l\":[null]},\"buffer_paths\":[[\"l\",18446744073709551615]]}},\"buffers\":[\"AQI=\"]}\n{\"header\":{\"msg_type\":\"comm_msg\"},\"content\":{\"comm_id\":\"a\",\"data\":{\"method\":\"update\",\"state\":{\"l\":[null]},\"buffer_paths\":[[\"l\",-1]]}},\"buffers\":[\"AQI=\"]}\n{\"header\":{\"msg_type\":\"comm_msg\"},\"content\":{\"comm_id\":\"a\",\"data\":{\"method\":\"update\",\"state\":{\"l\":[null]},\"buffer_paths\":7}},\"buffers\":[\"AQI=\"]}\n{\"header\":{\"msg_type\":\"comm_msg\"},\"content\":{\"comm_id\":\"a\",\"data\":{\"method\":\"update\",\"state\":{\"l\":[null]},\"buffer_paths\":[[\"x\"],7]}},\"buffers\":[]}\n{\"header\":{\"msg_type\":\"comm_msg\"},\"content\":{\"comm_id\":\"a\",\"data\":{\"method\":\"update\",\"state\":{\"l\":[null]},\"buffer_paths\":[[\"x\"],[\"y\"]]}},\"buffers\":[]}\n{\"client\":-1,\"header\":{\"msg_type\":\"comm_msg\"}}\n\x00\x01\n[]\n   \r\n{\"header\":{\"msg_type\":\"comm_msg\"},\"content\":{\"comm_id\":\"a\",\"data\":{\"method\":\"custom\",\"content\":[[[[[[[[[[[[[[[[[[[[[[[[[[[[[[[[[[[[[[[[[[[[[[[[[[[[[[[[[[[[[[[[[[[[[[[[[[[[[[[[[[[[[[[[[[[[[[[[[[[[]]]]]]]]]]]]]]]]]]]]]]]]]]]]]]]]]]]]]]]]]]]]]]]]]]]]]]]]]]]]]]]]]]]]]]]]]]]]]]]]]]]]]]]]]]]]]]]]]]]]}}}\n{\"call\":\"state\",\"id\":\"a\"}\n",
+        script: br#"{"call":"register","kind":"widget","name":"jupyter.widget"}
+{"header":{"msg_type":"comm_open"},"content":{"comm_id":"a","target_name":"jupyter.widget","data":{"state":{"k":1}}},"metadata":{"version":"2.0.0"}}
+{"header":{"msg_type":"comm_msg"},"content":{"comm_id":"a","data":{"method":"update","state":{"l":[null]},"buffer_paths":[["l",18446744073709551615]]}},"buffers":["AQI="]}
+{"header":{"msg_type":"comm_msg"},"content":{"comm_id":"a","data":{"method":"update","state":{"l":[null]},"buffer_paths":[["l",-1]]}},"buffers":["AQI="]}
+{"header":{"msg_type":"comm_msg"},"content":{"comm_id":"a","data":{"method":"update","state":{"l":[null]},"buffer_paths":7}},"buffers":["AQI="]}
+{"header":{"msg_type":"comm_msg"},"content":{"comm_id":"a","data":{"method":"update","state":{"l":[null]},"buffer_paths":[["x"],7]}},"buffers":[]}
+{"header":{"msg_type":"comm_msg"},"content":{"comm_id":"a","data":{"method":"update","state":{"l":[null]},"buffer_paths":[["x"],["y"]]}},"buffers":[]}
+{"client":-1,"header":{"msg_type":"comm_msg"}}
+{"header":{"msg_type":"comm_msg"},"content":{"comm_id":"a","data":{"method":"custom","content":[[[[[[[[[[[[[[[[[[[[[[[[[[[[[[[[[[[[[[[[[[[[[[[[[[[[[[[[[[[[[[[[[[[[[[[[[[[[[[[[[[[[[[[[[[[[[[[[[[[[]]]]]]]]]]]]]]]]]]]]]]]]]]]]]]]]]]]]]]]]]]]]]]]]]]]]]]]]]]]]]]]]]]]]]]]]]]]]]]]]]]]]]]]]]]]]]]]]]]]]}}}
+{"call":"state","id":"a"}
+"#,
         answers: br#"reply 1 registered
 reply 2 opened
 reply 3 fault bad_path 0
@@ -136,8 +146,6 @@ reply 5 fault bad_path 0
 reply 6 fault bad_path 1
 reply 7 fault buffer_missing 0
 bad 8 bad_client
-bad 9 not_json
-bad 10 not_json
 reply 8 custom {"buffers":[],"content":[[[[[[[[[[[[[[[[[[[[[[[[[[[[[[[[[[[[[[[[[[[[[[[[[[[[[[[[[[[[[[[[[[[[[[[[[[[[[[[[[[[[[[[[[[[[[[[[[[[[]]]]]]]]]]]]]]]]]]]]]]]]]]]]]]]]]]]]]]]]]]]]]]]]]]]]]]]]]]]]]]]]]]]]]]]]]]]]]]]]]]]]]]]]]]]]]]]]]]]]}
 state 8 {"buffer_paths":[],"buffers":[],"state":{"k":1}}
 "#,
