@@ -103,7 +103,8 @@ told_came c told target v id y x there same h =
       | false ↦ λ p. (y, sym (at-with_at-other told c _ id p) ∙ h, refl)
     ]) refl
 
-pub came : (k : Change) (c : Opens) (id : Name) (y : Comm) → AreDistinct c → Fits k c → at (changed k c) id ≡ Some y → (opening_of k ≡ Some (id, y.target)) ⊎ WasThere k c id y
+pub came : (k : Change) (c : Opens) (id : Name) (y : Comm) → AreDistinct c → Fits k c → at (changed k c) id ≡ Some y
+    → (opening_of k ≡ Some (id, y.target)) ⊎ WasThere k c id y
 came stays_so c id y d f h = inr (y, h, refl, refl)
 came (begins opened target state) c id y d f h =
     (elim (bytes_eq id opened) as (λ b. bytes_eq id opened ≡ b → (some_pair opened target ≡ some_pair id y.target) ⊎ WasThere (begins opened target state) c id y) [
@@ -127,7 +128,8 @@ begun c opened target state f = rw (text_itself opened) (at-newest c opened _ f)
 pub none_opens : (id target : Name) {P : Type 0} → None ≡ some_pair id target → P
 none_opens id target h = cc
 
-pub opened : (k : Change) (c : Opens) (id target : Name) → Fits k c → opening_of k ≡ Some (id, target) → at (changed k c) id ≡ Some (record { target = target; state = given_of k id })
+pub opened : (k : Change) (c : Opens) (id target : Name) → Fits k c → opening_of k ≡ Some (id, target)
+    → at (changed k c) id ≡ Some (record { target = target; state = given_of k id })
 opened (begins i t state) c id target f h =
     let same = same_pair i t id target h in
     subst (λ z. at (changed (begins i t state) c) z ≡ Some (record { target = target; state = given_of (begins i t state) z })) same.0

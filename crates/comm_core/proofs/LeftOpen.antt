@@ -65,7 +65,8 @@ module _ (limit : ℕ) where
 
   -- ---- what a run does
 
-  pub stays_there : (m : Machine) (es : List Entry) (id : Name) (x : Comm) → Runs limit m es → at m.comms id ≡ Some x → list_any (has_ended id x.target) es ≡ false
+  pub stays_there : (m : Machine) (es : List Entry) (id : Name) (x : Comm) → Runs limit m es → at m.comms id ≡ Some x
+      → list_any (has_ended id x.target) es ≡ false
       → at (replay_from limit m es).comms id ≡ Some (record { target = x.target; state = state_after id x.state es })
   stays_there m [] id x r h going = h
   stays_there m (e ∷ es) id x r h going =
@@ -81,7 +82,8 @@ module _ (limit : ℕ) where
   earlier e es id target h =
       (e ∷ h.0, h.1, h.2, record { parts = ap (λ l. e ∷ l) h.3.parts; opened = h.3.opened; lasts = h.3.lasts })
 
-  came_from : (m : Machine) (es : List Entry) (id : Name) (y : Comm) → Runs limit m es → AreDistinct m.comms → at (replay_from limit m es).comms id ≡ Some y → CameFrom m es id y.target
+  came_from : (m : Machine) (es : List Entry) (id : Name) (y : Comm) → Runs limit m es → AreDistinct m.comms → at (replay_from limit m es).comms id ≡ Some y
+      → CameFrom m es id y.target
   came_from m [] id y r d h = inl (y, h, refl, refl)
   came_from m (e ∷ es) id y r d h =
       elim (came_from (applied limit m e) es id y r.1 (distinct_runs limit m (e ∷ []) (r.0, tt) d) h) [
@@ -95,7 +97,8 @@ module _ (limit : ℕ) where
 
   -- ---- a legal history
 
-  pub open_since : (clients : ℕ) (h before : List Entry) (opener : Entry) (after : List Entry) (id target : Name) → IsLegal clients limit h → IsOpenSince h before opener after id target
+  pub open_since : (clients : ℕ) (h before : List Entry) (opener : Entry) (after : List Entry) (id target : Name) → IsLegal clients limit h
+      → IsOpenSince h before opener after id target
       → at (replay limit h).comms id ≡ Some (record { target = target; state = last_given id (opener ∷ after) })
   open_since clients h before opener after id target p since =
       let m = replay limit before in
@@ -108,7 +111,8 @@ module _ (limit : ℕ) where
       first_given None l = refl
       first_given (Some v) l = refl
 
-  pub left_open : (clients : ℕ) (h : List Entry) (id : Name) (y : Comm) → IsLegal clients limit h → at (replay limit h).comms id ≡ Some y → IsLeftOpen h id y.target
+  pub left_open : (clients : ℕ) (h : List Entry) (id : Name) (y : Comm) → IsLegal clients limit h → at (replay limit h).comms id ≡ Some y
+      → IsLeftOpen h id y.target
   left_open clients h id y p there =
       elim (came_from empty h id y (legal_runs limit clients h p) tt there) [
         | inl stood ↦ absurd (none≢some stood.0 stood.1)
@@ -118,15 +122,18 @@ module _ (limit : ℕ) where
   distinct_legal : (clients : ℕ) (h : List Entry) → IsLegal clients limit h → AreDistinct (replay limit h).comms
   distinct_legal clients h p = distinct_runs limit empty h (legal_runs limit clients h p) tt
 
-  listed : (clients : ℕ) (h : List Entry) → IsLegal clients limit h → (asked : Option Name) (id target : Name) → Contains (infos (replay limit h) asked) (record { id = id; target = target }) → AsksFor asked target × IsLeftOpen h id target
+  listed : (clients : ℕ) (h : List Entry) → IsLegal clients limit h → (asked : Option Name) (id target : Name)
+      → Contains (infos (replay limit h) asked) (record { id = id; target = target }) → AsksFor asked target × IsLeftOpen h id target
   listed clients h p asked id target has =
       let there = listed_there (replay limit h) asked id target (distinct_legal clients h p) has in
       (there.0, subst (λ t. IsLeftOpen h id t) there.1.2 (left_open clients h id there.1.0 p there.1.1))
 
-  lists : (clients : ℕ) (h : List Entry) → IsLegal clients limit h → (asked : Option Name) (id target : Name) → AsksFor asked target × IsLeftOpen h id target → Contains (infos (replay limit h) asked) (record { id = id; target = target })
+  lists : (clients : ℕ) (h : List Entry) → IsLegal clients limit h → (asked : Option Name) (id target : Name) → AsksFor asked target × IsLeftOpen h id target
+      → Contains (infos (replay limit h) asked) (record { id = id; target = target })
   lists clients h p asked id target left =
       let since = left.1.3 in
       there_listed (replay limit h) asked id target (distinct_legal clients h p) (left.0, (_, open_since clients h left.1.0 left.1.1 left.1.2 id target p since, refl))
 
-pub listed_left_open : (clients limit : ℕ) (h : List Entry) → IsLegal clients limit h → (asked : Option Name) (id target : Name) → Contains (infos (replay limit h) asked) (record { id = id; target = target }) ↔ (AsksFor asked target × IsLeftOpen h id target)
+pub listed_left_open : (clients limit : ℕ) (h : List Entry) → IsLegal clients limit h → (asked : Option Name) (id target : Name)
+    → Contains (infos (replay limit h) asked) (record { id = id; target = target }) ↔ (AsksFor asked target × IsLeftOpen h id target)
 listed_left_open clients limit h p asked id target = (listed limit clients h p asked id target, lists limit clients h p asked id target)

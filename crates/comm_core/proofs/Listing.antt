@@ -177,7 +177,8 @@ asked_passes : (asked : Option Name) (c : Comm) (target : Name) → c.target ≡
 asked_passes None c target e p = tt
 asked_passes (Some name) c target e p = same_text name c.target p ∙ e
 
-there_asked : (asked : Option Name) (o : Option Comm) (target : Name) → asked_target asked o ≡ Some target → AsksFor asked target × ((c : Comm) × (o ≡ Some c) × (c.target ≡ target))
+there_asked : (asked : Option Name) (o : Option Comm) (target : Name) → asked_target asked o ≡ Some target
+    → AsksFor asked target × ((c : Comm) × (o ≡ Some c) × (c.target ≡ target))
 there_asked asked None target h = absurd (none≢some target h)
 there_asked asked (Some c) target h =
     (elim (passes asked c) as (λ b. passes asked c ≡ b → cond b (Some c.target) None ≡ Some target → AsksFor asked target × ((x : Comm) × (Some c ≡ Some x) × (x.target ≡ target))) [
@@ -185,16 +186,19 @@ there_asked asked (Some c) target h =
       | false ↦ λ _ l. absurd (none≢some target l)
     ]) refl h
 
-asked_there : (asked : Option Name) (o : Option Comm) (target : Name) → AsksFor asked target → (c : Comm) → o ≡ Some c → c.target ≡ target → asked_target asked o ≡ Some target
+asked_there : (asked : Option Name) (o : Option Comm) (target : Name) → AsksFor asked target → (c : Comm) → o ≡ Some c → c.target ≡ target
+    → asked_target asked o ≡ Some target
 asked_there asked o target a c is e = ap (asked_target asked) is ∙ ap (λ b. cond b (Some c.target) None) (passes_asked asked c target e a) ∙ ap Some e
 
-pub listed_there : (m : Machine) (asked : Option Name) (id target : Name) → AreDistinct m.comms → Contains (infos m asked) (record { id = id; target = target }) → IsThere m asked id target
+pub listed_there : (m : Machine) (asked : Option Name) (id target : Name) → AreDistinct m.comms
+    → Contains (infos m asked) (record { id = id; target = target }) → IsThere m asked id target
 listed_there m asked id target d h =
     let es = in_order (pairs_in m.comms asked) in
     there_asked asked (at m.comms id) target
     (sym (at-listed asked m.comms id d) ∙ lookup-from_Contains nat_list_eq_equiv id target es (distinct_ids (pairs_in m.comms asked)) (contains_pair es (id, target) h))
 
-pub there_listed : (m : Machine) (asked : Option Name) (id target : Name) → AreDistinct m.comms → IsThere m asked id target → Contains (infos m asked) (record { id = id; target = target })
+pub there_listed : (m : Machine) (asked : Option Name) (id target : Name) → AreDistinct m.comms → IsThere m asked id target
+    → Contains (infos m asked) (record { id = id; target = target })
 there_listed m asked id target d h =
     let es = in_order (pairs_in m.comms asked) in
     contains_info es (id, target) (Contains-from_lookup same_text id target es (at-listed asked m.comms id d ∙ asked_there asked (at m.comms id) target h.0 h.1.0 h.1.1 h.1.2))

@@ -58,7 +58,8 @@ same_kind : (a b : Name) (k l : Kind) → named a k ≡ named b l → k ≡ l
 unfolding the_kind
 same_kind a b k l e = ap (λ o. the_kind o k) e
 
-noted_keeps : (m : Machine) (target : Name) (e : Event) (t : Option Registered) → at m.targets target ≡ t → (comms : Opens) (name : Name) (k : Kind) → HasKind m name k → HasKind (record { targets = noted m.targets target e t; comms = comms }) name k
+noted_keeps : (m : Machine) (target : Name) (e : Event) (t : Option Registered) → at m.targets target ≡ t → (comms : Opens) (name : Name) (k : Kind)
+    → HasKind m name k → HasKind (record { targets = noted m.targets target e t; comms = comms }) name k
 noted_keeps m target e None is comms name k h = h
 noted_keeps m target e (Some r) is comms name k h =
     let w : Registered = record { kind = r.kind; notes = notes_after r.kind r.notes e } in
@@ -131,7 +132,8 @@ target_left end id target h = h
 target_left (change client number call outcome r outgoing) id target h = left_in call r id target h
 
 module _ (limit : ℕ) where
-  pub entry_leaves : (m : Machine) (e : Entry) (name : Name) (k : Kind) → Steps limit m e → HasKind m name k → has_unregistered name e ≡ false → HasKind (applied limit m e) name k
+  pub entry_leaves : (m : Machine) (e : Entry) (name : Name) (k : Kind) → Steps limit m e → HasKind m name k → has_unregistered name e ≡ false
+      → HasKind (applied limit m e) name k
   entry_leaves m end name k s h u = absurd (true≢false u)
   entry_leaves m (change client number call outcome r outgoing) name k s h u =
       (comes (Leaves call m) m (judged limit m call) outcome _ (judged_leaves limit m call) s.0 s.1).keeps name k h u
@@ -141,7 +143,8 @@ module _ (limit : ℕ) where
   entry_adds m (change client number call outcome r outgoing) name k s h =
       (comes (Leaves call m) m (judged limit m call) outcome _ (judged_leaves limit m call) s.0 s.1).adds name k h
 
-  run_leaves : (m : Machine) (es : List Entry) (name : Name) (k : Kind) → Runs limit m es → HasKind m name k → list_any (has_unregistered name) es ≡ false → HasKind (replay_from limit m es) name k
+  run_leaves : (m : Machine) (es : List Entry) (name : Name) (k : Kind) → Runs limit m es → HasKind m name k → list_any (has_unregistered name) es ≡ false
+      → HasKind (replay_from limit m es) name k
   run_leaves m [] name k r h u = h
   run_leaves m (e ∷ es) name k r h u =
       let parts = neither (has_unregistered name e) (list_any (has_unregistered name) es) u in

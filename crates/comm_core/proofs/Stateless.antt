@@ -47,7 +47,8 @@ no_state Free notes now e a h w = absurd (true≢false (sym h))
 abbrev Asks : Machine → Name → Option Members → Event → Answer → Type 0
 Asks m name now e a = Gives (at m.targets name) (record { name = name; state = now; event = e }) (Ok a)
 
-gives_none : (m : Machine) (name : Name) (now : Option Members) (e : Event) (a : Answer) (k : Kind) → is_stateless k ≡ true → HasKind m name k → Asks m name now e a → a.state ≡ None
+gives_none : (m : Machine) (name : Name) (now : Option Members) (e : Event) (a : Answer) (k : Kind) → is_stateless k ≡ true → HasKind m name k
+    → Asks m name now e a → a.state ≡ None
 gives_none m name now e a k h kind g = let w = answers_kind m (record { name = name; state = now; event = e }) a k kind g in no_state k w.0 now e a h w.1
 
 none_either : (b : Bool) (s : Option Members) → s ≡ None → cond b s None ≡ None
@@ -56,7 +57,8 @@ none_either false s h = refl
 
 -- What a call gives a comm of such a target, which stands without a state or is opened.
 record GivesNone (call : Call) (m : Machine) (o : Option Outcome) (r : Reply) (n : Machine) : Type 0 where
-  pub standing : (id target : Name) (k : Kind) → is_stateless k ≡ true → HasKind m target k → at m.comms id ≡ Some (record { target = target; state = None }) → given id call o ≡ None
+  pub standing : (id target : Name) (k : Kind) → is_stateless k ≡ true → HasKind m target k → at m.comms id ≡ Some (record { target = target; state = None })
+      → given id call o ≡ None
   pub opening_it : (id target : Name) (k : Kind) → is_stateless k ≡ true → HasKind m target k → opening call r ≡ some_pair id target → given id call o ≡ None
 
 told_none : (m : Machine) (told : Name) (x : Comm) (e : Event) (a : Answer) → at m.comms told ≡ Some x → Asks m x.target x.state e a
@@ -141,7 +143,8 @@ judged_gives limit m (HangUp id) =
     (λ x there. record { standing = λ i t k h u c. refl; opening_it = λ i t k h u c. refl })
 
 module _ (limit : ℕ) (k : Kind) (stateless : is_stateless k ≡ true) where
-  entry_stands : (m : Machine) (e : Entry) (id target : Name) → Steps limit m e → at m.comms id ≡ Some (record { target = target; state = None }) → HasKind m target k → has_ended id target e ≡ false
+  entry_stands : (m : Machine) (e : Entry) (id target : Name) → Steps limit m e → at m.comms id ≡ Some (record { target = target; state = None })
+      → HasKind m target k → has_ended id target e ≡ false
       → at (applied limit m e).comms id ≡ Some (record { target = target; state = None })
   entry_stands m end id target r there kind going = absurd (true≢false going)
   entry_stands m (change client number call outcome reply outgoing) id target r there kind going =
@@ -149,7 +152,8 @@ module _ (limit : ℕ) (k : Kind) (stateless : is_stateless k ≡ true) where
       entry_keeps limit m (change client number call outcome reply outgoing) id (record { target = target; state = None }) r there going
       ∙ ap (λ o. Some (record { target = target; state = newer o None })) none
 
-  run_stands : (m : Machine) (es : List Entry) (id target : Name) → Runs limit m es → at m.comms id ≡ Some (record { target = target; state = None }) → HasKind m target k → list_any (has_ended id target) es ≡ false
+  run_stands : (m : Machine) (es : List Entry) (id target : Name) → Runs limit m es → at m.comms id ≡ Some (record { target = target; state = None })
+      → HasKind m target k → list_any (has_ended id target) es ≡ false
       → at (replay_from limit m es).comms id ≡ Some (record { target = target; state = None })
   run_stands m [] id target r there kind going = there
   run_stands m (e ∷ es) id target r there kind going =
@@ -161,7 +165,8 @@ module _ (limit : ℕ) (k : Kind) (stateless : is_stateless k ≡ true) where
   entry_begins m (change client number call outcome reply outgoing) id target r h kind =
       (comes (GivesNone call m) m (judged limit m call) outcome _ (judged_gives limit m call) r.0 r.1).opening_it id target k stateless kind h
 
-  pub stands : (clients : ℕ) (h before : List Entry) (opener : Entry) (after : List Entry) (id target : Name) → IsLegal clients limit h → IsOpenSince h before opener after id target → IsRegistered before target k
+  pub stands : (clients : ℕ) (h before : List Entry) (opener : Entry) (after : List Entry) (id target : Name) → IsLegal clients limit h
+      → IsOpenSince h before opener after id target → IsRegistered before target k
       → at (replay limit h).comms id ≡ Some (record { target = target; state = None })
   stands clients h before opener after id target p since is =
       let runs = after_opener limit clients h before opener after id target p since in
@@ -172,6 +177,7 @@ module _ (limit : ℕ) (k : Kind) (stateless : is_stateless k ≡ true) where
       ap (λ l. at (replay limit l).comms id) since.parts ∙ ap (λ (z : Machine). at z.comms id) (replay-append limit empty before (opener ∷ after))
       ∙ run_stands (applied limit m opener) after id target runs.1.1 there (opener_leaves limit opener m id target k runs.1.0 since.opened kind) since.lasts
 
-pub no_states : (clients limit : ℕ) (h before : List Entry) (opener : Entry) (after : List Entry) (id target : Name) (k : Kind) → IsLegal clients limit h → IsOpenSince h before opener after id target → IsRegistered before target k
+pub no_states : (clients limit : ℕ) (h before : List Entry) (opener : Entry) (after : List Entry) (id target : Name) (k : Kind) → IsLegal clients limit h
+    → IsOpenSince h before opener after id target → IsRegistered before target k
     → is_stateless k ≡ true → state_of (replay limit h) id ≡ NoState
 no_states clients limit h before opener after id target k p since is stateless = ap state_at (stands limit k stateless clients h before opener after id target p since is)

@@ -28,7 +28,8 @@ Comes P m (Asked q) =
 pub some_same : (x s : Stepped) → Some x ≡ Some s → x ≡ s
 some_same x s e = cc
 
-pub comes : (P : Option Outcome → Reply → Machine → Type 0) (m : Machine) (v : Verdict) (o : Option Outcome) (s : Stepped) → Comes P m v → Allowed m (question_of v) o → stepped m v o ≡ Some s → P o s.reply s.next
+pub comes : (P : Option Outcome → Reply → Machine → Type 0) (m : Machine) (v : Verdict) (o : Option Outcome) (s : Stepped) → Comes P m v
+    → Allowed m (question_of v) o → stepped m v o ≡ Some s → P o s.reply s.next
 comes P m (Done r out next) None s h a e = subst (λ (z : Stepped). P None z.reply z.next) (some_same _ s e) h
 comes P m (Done r out next) (Some g) s h a e = absurd a
 comes P m (Asked q) (Some (Ok x)) s h a e = subst (λ (z : Stepped). P (Some (Ok x)) z.reply z.next) (some_same _ s e) (h.0 x a)
@@ -104,25 +105,29 @@ pub record Does (call : Call) (m : Machine) (o : Option Outcome) (r : Reply) (n 
   pub gives : (id : Name) → given id call o ≡ given_of change id
   pub fits : Fits change m.comms
 
-does_open : (m : Machine) (id target : Name) (version : Option Name) (body : _) → has m.comms id ≡ false → Comes (Does (Open id target version body) m) m (Asked (record { name = target; state = None; event = event.Open id version body }))
+does_open : (m : Machine) (id target : Name) (version : Option Name) (body : _) → has m.comms id ≡ false
+    → Comes (Does (Open id target version body) m) m (Asked (record { name = target; state = None; event = event.Open id version body }))
 does_open m id target version body new = (
   (λ a g. record { change = begins id target a.state; comms = refl; opens = refl; ends = λ _ _. refl; gives = λ _. refl; fits = none_of (at m.comms id) new }),
   (λ f s e. comes_told (Does (Open id target version body) m) m f _ s (record { change = stays_so; comms = refl; opens = refl; ends = λ _ _. refl; gives = λ _. refl; fits = tt }) e),
 )
 
-does_launch : (m : Machine) (uuid : List ℕ) (target : Name) (state : Members) → has m.comms (comm_id uuid) ≡ false → Comes (Does (Launch uuid target state) m) m (Asked (record { name = target; state = None; event = event.Launch (comm_id uuid) state }))
+does_launch : (m : Machine) (uuid : List ℕ) (target : Name) (state : Members) → has m.comms (comm_id uuid) ≡ false
+    → Comes (Does (Launch uuid target state) m) m (Asked (record { name = target; state = None; event = event.Launch (comm_id uuid) state }))
 does_launch m uuid target state new = (
   (λ a g. record { change = begins (comm_id uuid) target a.state; comms = refl; opens = refl; ends = λ _ _. refl; gives = λ _. refl; fits = none_of (at m.comms (comm_id uuid)) new }),
   (λ f s e. none_stepped s e),
 )
 
-does_msg : (m : Machine) (id : Name) (body : _) (x : Comm) → at m.comms id ≡ Some x → Comes (Does (Msg id body) m) m (Asked (record { name = x.target; state = x.state; event = event.Msg id body }))
+does_msg : (m : Machine) (id : Name) (body : _) (x : Comm) → at m.comms id ≡ Some x
+    → Comes (Does (Msg id body) m) m (Asked (record { name = x.target; state = x.state; event = event.Msg id body }))
 does_msg m id body x there = (
   (λ a g. record { change = tells id x.target a.state; comms = refl; opens = refl; ends = λ _ _. refl; gives = λ _. refl; fits = (x, there, refl) }),
   (λ f s e. comes_told (Does (Msg id body) m) m f _ s (record { change = stays_so; comms = refl; opens = refl; ends = λ _ _. refl; gives = λ _. refl; fits = tt }) e),
 )
 
-does_push : (m : Machine) (id : Name) (state : Members) (x : Comm) → at m.comms id ≡ Some x → Comes (Does (Push id state) m) m (Asked (record { name = x.target; state = x.state; event = event.Push id state }))
+does_push : (m : Machine) (id : Name) (state : Members) (x : Comm) → at m.comms id ≡ Some x
+    → Comes (Does (Push id state) m) m (Asked (record { name = x.target; state = x.state; event = event.Push id state }))
 does_push m id state x there = (
   (λ a g. record { change = tells id x.target a.state; comms = refl; opens = refl; ends = λ _ _. refl; gives = λ _. refl; fits = (x, there, refl) }),
   (λ f s e. none_stepped s e),
@@ -167,5 +172,6 @@ judged_does limit m (HangUp id) =
     comes_of (Does (HangUp id) m) m (at m.comms id) _ (record { change = stays_so; comms = refl; opens = refl; ends = λ _ _. refl; gives = λ _. refl; fits = tt })
     (λ x there. record { change = closes id; comms = refl; opens = refl; ends = λ _ _. refl; gives = λ _. refl; fits = tt })
 
-pub step_does : (limit : ℕ) (m : Machine) (call : Call) (o : Option Outcome) (s : Stepped) → Allowed m (asks limit m call) o → step limit m call o ≡ Some s → Does call m o s.reply s.next
+pub step_does : (limit : ℕ) (m : Machine) (call : Call) (o : Option Outcome) (s : Stepped) → Allowed m (asks limit m call) o → step limit m call o ≡ Some s
+    → Does call m o s.reply s.next
 step_does limit m call o s a e = comes (Does call m) m (judged limit m call) o s (judged_does limit m call) a e

@@ -63,7 +63,8 @@ handed_state (Some t) bs = refl
 abbrev Gave : Type 0
 Gave = Result Answer TargetFault
 
-custom_state : (t : Option Tree) (bs : List (List ℕ)) (a : Answer) (b : Bool) → ◌≡◌ {A = Gave} (cond {A = Gave} b (Ok (handed t bs)) (Err UnknownMethod)) (Ok a) → a.state ≡ None
+custom_state : (t : Option Tree) (bs : List (List ℕ)) (a : Answer) (b : Bool)
+    → ◌≡◌ {A = Gave} (cond {A = Gave} b (Ok (handed t bs)) (Err UnknownMethod)) (Ok a) → a.state ≡ None
 custom_state t bs a true h = state_is (handed t bs) a h ∙ handed_state t bs
 custom_state t bs a false h = no_answer UnknownMethod a h
 
@@ -94,7 +95,8 @@ opened_state (Ok s) a h = (s, refl, state_is (new_state s) a h)
 opened_state (Err f) a h = no_answer f a h
 
 -- The answer of a target, by its kind.
-pub answers_kind : (m : Machine) (q : Question) (a : Answer) (k : Kind) → HasKind m q.name k → Gives (at m.targets q.name) q (Ok a) → (notes : ℕ) × Answers k notes q.state q.event a
+pub answers_kind : (m : Machine) (q : Question) (a : Answer) (k : Kind) → HasKind m q.name k → Gives (at m.targets q.name) q (Ok a)
+    → (notes : ℕ) × Answers k notes q.state q.event a
 answers_kind m q a k h g =
     (h.0.notes, subst (λ z. Answers z h.0.notes q.state q.event a) h.2 (subst (λ t. Gives t q (Ok a)) h.1 g))
 
@@ -119,7 +121,8 @@ new_merges m opened state new id y there =
 abbrev Answered : Machine → Comm → Event → Answer → Type 0
 Answered m x e a = Gives (at m.targets x.target) (record { name = x.target; state = x.state; event = e }) (Ok a)
 
-widget_answers : (m : Machine) (x : Comm) (e : Event) (a : Answer) (target : Name) (s : Members) → x ≡ record { target = target; state = Some s } → HasKind m target Widget → Answered m x e a
+widget_answers : (m : Machine) (x : Comm) (e : Event) (a : Answer) (target : Name) (s : Members) → x ≡ record { target = target; state = Some s }
+    → HasKind m target Widget → Answered m x e a
     → (notes : ℕ) × Answers Widget notes (Some s) e a
 widget_answers m x e a target s is kind g =
     answers_kind m (record { name = target; state = Some s; event = e }) a Widget kind (subst (λ z. Answered m z e a) is g)
@@ -174,7 +177,8 @@ judged_merges limit m (HangUp id) = comes_of (Merges (HangUp id) m) m (at m.comm
 abbrev OpensTold : Call → Machine → Option Outcome → Reply → Machine → Type 0
 OpensTold call m o r n = (id target : Name) → opening call r ≡ some_pair id target → HasKind m target Widget → (s : Members) × (opening_state call ≡ Some s) × (given id call o ≡ Some s)
 
-opens_told : (m : Machine) (call : Call) (e : Event) (opened name : Name) (a : Answer) (told : Option Members) → Gives (at m.targets name) (record { name = name; state = None; event = e }) (Ok a)
+opens_told : (m : Machine) (call : Call) (e : Event) (opened name : Name) (a : Answer) (told : Option Members)
+    → Gives (at m.targets name) (record { name = name; state = None; event = e }) (Ok a)
     → ((notes : ℕ) → Answers Widget notes None e a → (s : Members) × (told ≡ Some s) × (a.state ≡ Some s))
     → (id target : Name) → some_pair opened name ≡ some_pair id target → HasKind m target Widget
     → (s : Members) × (told ≡ Some s) × (cond (bytes_eq id opened) a.state None ≡ Some s)
@@ -233,7 +237,8 @@ fold-merged s None us = refl
 fold-merged s (Some u) us = refl
 
 module _ (limit : ℕ) where
-  entry_merges : (m : Machine) (e : Entry) (id target : Name) (s : Members) → Steps limit m e → at m.comms id ≡ Some (record { target = target; state = Some s }) → HasKind m target Widget → has_ended id target e ≡ false
+  entry_merges : (m : Machine) (e : Entry) (id target : Name) (s : Members) → Steps limit m e
+      → at m.comms id ≡ Some (record { target = target; state = Some s }) → HasKind m target Widget → has_ended id target e ≡ false
       → at (applied limit m e).comms id ≡ Some (record { target = target; state = Some (merged_with s (update_by id e)) })
   entry_merges m end id target s r there kind going = absurd (true≢false going)
   entry_merges m (change client number call outcome reply outgoing) id target s r there kind going =
@@ -241,7 +246,8 @@ module _ (limit : ℕ) where
       entry_keeps limit m (change client number call outcome reply outgoing) id (record { target = target; state = Some s }) r there going
       ∙ ap (λ o. Some (record { target = target; state = o })) (ap (λ o. newer o (Some s)) merges ∙ newer-merged s (update id call reply))
 
-  run_merges : (m : Machine) (es : List Entry) (id target : Name) (s : Members) → Runs limit m es → at m.comms id ≡ Some (record { target = target; state = Some s }) → HasKind m target Widget → list_any (has_ended id target) es ≡ false
+  run_merges : (m : Machine) (es : List Entry) (id target : Name) (s : Members) → Runs limit m es
+      → at m.comms id ≡ Some (record { target = target; state = Some s }) → HasKind m target Widget → list_any (has_ended id target) es ≡ false
       → at (replay_from limit m es).comms id ≡ Some (record { target = target; state = Some (fold merged s (updates id es)) })
   run_merges m [] id target s r there kind going = there
   run_merges m (e ∷ es) id target s r there kind going =
@@ -249,19 +255,22 @@ module _ (limit : ℕ) where
       run_merges (applied limit m e) es id target (merged_with s (update_by id e)) r.1 (entry_merges m e id target s r.0 there kind parts.0) (entry_leaves limit m e target Widget r.0 kind (target_left e id target parts.0)) parts.1
       ∙ ap (λ z. Some (record { target = target; state = Some z })) (fold-merged s (update_by id e) (updates id es))
 
-  entry_opening : (m : Machine) (e : Entry) (id target : Name) → Steps limit m e → HasOpened e id target → HasKind m target Widget → (s : Members) × OpensWith e s × (given_by id e ≡ Some s)
+  entry_opening : (m : Machine) (e : Entry) (id target : Name) → Steps limit m e → HasOpened e id target → HasKind m target Widget
+      → (s : Members) × OpensWith e s × (given_by id e ≡ Some s)
   entry_opening m end id target r h kind = absurd h
   entry_opening m (change client number call outcome reply outgoing) id target r h kind =
       comes (OpensTold call m) m (judged limit m call) outcome _ (judged_opens limit m call) r.0 r.1 id target h kind
 
   -- The run from the opener on, and what stood before it.
-  pub after_opener : (clients : ℕ) (h before : List Entry) (opener : Entry) (after : List Entry) (id target : Name) → IsLegal clients limit h → IsOpenSince h before opener after id target
+  pub after_opener : (clients : ℕ) (h before : List Entry) (opener : Entry) (after : List Entry) (id target : Name) → IsLegal clients limit h
+      → IsOpenSince h before opener after id target
       → Runs limit empty before × Runs limit (replay limit before) (opener ∷ after)
   after_opener clients h before opener after id target p since =
       let whole_run = subst (λ l. Runs limit empty l) since.parts (legal_runs limit clients h p) in
       (runs_before limit empty before (opener ∷ after) whole_run, runs_after limit empty before (opener ∷ after) whole_run)
 
-  pub opener_leaves : (e : Entry) (m : Machine) (id target : Name) (k : Kind) → Steps limit m e → HasOpened e id target → HasKind m target k → HasKind (applied limit m e) target k
+  pub opener_leaves : (e : Entry) (m : Machine) (id target : Name) (k : Kind) → Steps limit m e → HasOpened e id target → HasKind m target k
+      → HasKind (applied limit m e) target k
   opener_leaves end m id target k r h kind = absurd h
   opener_leaves (change client number call outcome reply outgoing) m id target k r h kind =
       entry_leaves limit m (change client number call outcome reply outgoing) target k r kind (opening_leaves call reply id target h)
@@ -270,7 +279,8 @@ module _ (limit : ℕ) where
       opening_leaves (Unregister name) r i t h = none_opens i t h
       opening_leaves c r i t h = refl
 
-  pub widget_state : (clients : ℕ) (h before : List Entry) (opener : Entry) (after : List Entry) (id target : Name) → IsLegal clients limit h → IsOpenSince h before opener after id target → IsRegistered before target Widget
+  pub widget_state : (clients : ℕ) (h before : List Entry) (opener : Entry) (after : List Entry) (id target : Name) → IsLegal clients limit h
+      → IsOpenSince h before opener after id target → IsRegistered before target Widget
       → (s : Members) × OpensWith opener s × (at (replay limit h).comms id ≡ Some (record { target = target; state = Some (fold merged s (updates id after)) }))
   widget_state clients h before opener after id target p since is =
       let runs = after_opener clients h before opener after id target p since in
@@ -284,18 +294,21 @@ module _ (limit : ℕ) where
             ∙ run_merges (applied limit m opener) after id target start.0 runs.1.1 there (opener_leaves opener m id target Widget runs.1.0 since.opened kind) since.lasts,
       )
 
-pub given_last : (clients limit : ℕ) (h before : List Entry) (opener : Entry) (after : List Entry) (id target : Name) → IsLegal clients limit h → IsOpenSince h before opener after id target
+pub given_last : (clients limit : ℕ) (h before : List Entry) (opener : Entry) (after : List Entry) (id target : Name) → IsLegal clients limit h
+    → IsOpenSince h before opener after id target
     → state_read (replay limit h) id ≡ state_in (last_given id (opener ∷ after))
 given_last clients limit h before opener after id target p since = ap state_at (open_since limit clients h before opener after id target p since)
 
-pub none_given : (clients limit : ℕ) (h : List Entry) (id : Name) → IsLegal clients limit h → ((target : Name) → IsLeftOpen h id target → ⊥) → state_read (replay limit h) id ≡ NoComm
+pub none_given : (clients limit : ℕ) (h : List Entry) (id : Name) → IsLegal clients limit h → ((target : Name) → IsLeftOpen h id target → ⊥)
+    → state_read (replay limit h) id ≡ NoComm
 none_given clients limit h id p none =
     (elim (at (replay limit h).comms id) as (λ o. at (replay limit h).comms id ≡ o → state_at o ≡ NoComm) [
       | None ↦ λ _. refl
       | Some y ↦ λ there. absurd (none y.target (left_open limit clients h id y p there))
     ]) refl
 
-pub updates_merged : (clients limit : ℕ) (h before : List Entry) (opener : Entry) (after : List Entry) (id target : Name) → IsLegal clients limit h → IsOpenSince h before opener after id target → IsRegistered before target Widget
+pub updates_merged : (clients limit : ℕ) (h before : List Entry) (opener : Entry) (after : List Entry) (id target : Name) → IsLegal clients limit h
+    → IsOpenSince h before opener after id target → IsRegistered before target Widget
     → (s : Members) × OpensWith opener s × (state_read (replay limit h) id ≡ State (fold merged s (updates id after)))
 updates_merged clients limit h before opener after id target p since is =
     let w = widget_state limit clients h before opener after id target p since is in (w.0, w.1, ap state_at w.2)

@@ -6,6 +6,7 @@ pub mod History
 pub mod Reads
 pub mod Runs
 pub mod Updates
+pub mod RunLaws
 pub mod Tables
 pub mod Ready
 pub mod Code

@@ -1,7 +1,7 @@
 //! The open comms by id.
 ghost use Rattle.std.specs.Prelude.{◌≡◌, ◌<◌, ◌≤◌, ◌++◌, true, [], ◌∷◌, not, IfOk, OnOk, IsSome, Option, None, Some, option_map, length, nat_le};
 ghost use Rattle.std.specs.Str.{bytes_eq};
-ghost use Rattle.comm_targets.specs.Meaning.{Meaning};
+ghost use Rattle.comm_targets.specs.Meaning.{Meaning, IsIdle};
 ghost use Rattle.comm_core.specs.Machine.{at, has, without, with_at, ids_of, others};
 ghost use Rattle.comm_core.specs.Reads.{in_order, pairs_in, passes};
 ghost use Rattle.comm_core.specs.Tables.{emptied};
@@ -137,7 +137,8 @@ impl Comms {
     pub fn close_those_of<T: Target>(&self, name: &Text, held: &mut Held<T>)
         requires ids { held.old.ids ≡ ids_of name.now self.now.all }
         requires unstaged { held.old.staged ≡ None }
-        ensures { held.new ≡ emptied held.old }
+        ensures closed { held.new ≡ emptied held.old }
+        ensures idle { IsIdle held.new }
     {
         for i in 0..self.all.len() {
             if let Some((id, comm)) = self.all.get_index(i) {

@@ -1,22 +1,15 @@
 //! Laws of the definitions. Each is the contract of a function that does nothing.
-ghost use Rattle.std.specs.Prelude.{◌≡◌, ◌↔◌, ℕ, List, [], ◌∷◌, ◌++◌, Option, Some, map, fold, true, false};
-ghost use Rattle.std.specs.List.{Contains};
+ghost use Rattle.std.specs.Prelude.{◌≡◌, ℕ, List, [], ◌∷◌, ◌++◌, Option, Some, map, true, false};
 ghost use Rattle.std.specs.List.Sorted.{IsStrictlySortedBy};
 ghost use Rattle.std.specs.Ordering.{nat_cmp};
 ghost use Rattle.std.specs.Cmp.Lexicographic.{slice_cmp};
 ghost use Rattle.comm_messages.specs.declared.infos.Info.{Info};
-ghost use Rattle.comm_value.specs.Tree.{Members};
-ghost use Rattle.comm_value.specs.Merge.{merged};
-ghost use Rattle.comm_targets.specs.declared.kind.Kind.{Kind};
-ghost use Rattle.comm_targets.specs.declared.kind.Kind.TheVariants.{Widget};
 ghost use Rattle.comm_core.specs.Machine.{Machine, Name};
 ghost use Rattle.comm_core.specs.Step.{Outcome, Stepped, Allowed, asks, is_done, step};
 ghost use Rattle.comm_core.specs.Exact.{is_exact, exact_outcome, registers_free};
 ghost use Rattle.comm_core.specs.History.{Entry, Follows, IsLegal, has_end, replay};
-ghost use Rattle.comm_core.specs.Reads.{infos, state_in, state_of};
-ghost use Rattle.comm_core.specs.Runs.{AsksFor, IsLeftOpen, IsOpenSince, last_given};
-ghost use Rattle.comm_core.specs.Updates.{IsRegistered, OpensWith, is_stateless, updates};
-ghost use Rattle.comm_core.specs.declared.reply.StateAnswer.TheVariants.{NoComm, NoState, State};
+ghost use Rattle.comm_core.specs.Reads.{infos};
+ghost use Rattle.comm_core.specs.RunLaws.{ListsThoseLeftOpen, HasStatesGivenLast, HasNoOtherStates, MergesUpdates, LeavesSomeStateless};
 ghost use Rattle.comm_core.specs.declared.call.Call.{Call};
 
 /// Where no target is Free, the only outcome that is allowed is that of the definitions of the other kinds.
@@ -47,7 +40,7 @@ pub fn legal_histories_grow()
 /// After a legal history the comms that are listed are just those that were opened and that nothing ended since, each with
 /// the target towards which it was opened.
 pub fn comms_that_are_listed_were_left_open()
-    ensures { (clients limit : ℕ) (h : List Entry) → IsLegal clients limit h → (asked : Option Name) (id target : Name) → Contains (infos (replay limit h) asked) (record { id = id; target = target }) ↔ (AsksFor asked target × IsLeftOpen h id target) }
+    ensures { (clients limit : ℕ) (h : List Entry) → IsLegal clients limit h → ListsThoseLeftOpen h (replay limit h) }
 {}
 
 /// Comms are listed in the byte order of their ids, each id once.
@@ -57,17 +50,17 @@ pub fn comms_are_listed_in_the_order_of_ids()
 
 /// After a legal history a comm that was left open has the state that it was given last, and no other comm has one.
 pub fn comms_have_the_state_that_they_were_given_last()
-    ensures given { (clients limit : ℕ) (h before : List Entry) (opener : Entry) (after : List Entry) (id target : Name) → IsLegal clients limit h → IsOpenSince h before opener after id target → state_of (replay limit h) id ≡ state_in (last_given id (opener ∷ after)) }
-    ensures other { (clients limit : ℕ) (h : List Entry) (id : Name) → IsLegal clients limit h → ((target : Name) → IsLeftOpen h id target → ⊥) → state_of (replay limit h) id ≡ NoComm }
+    ensures given { (clients limit : ℕ) (h : List Entry) → IsLegal clients limit h → HasStatesGivenLast h (replay limit h) }
+    ensures other { (clients limit : ℕ) (h : List Entry) → IsLegal clients limit h → HasNoOtherStates h (replay limit h) }
 {}
 
 /// The comm of a widget has the state that it was opened with, merged with each update and push that was delivered since, in
 /// order ('Jupyter widgets messaging protocol' 2.0.0).
 pub fn widgets_have_their_opening_state_merged_with_their_updates()
-    ensures { (clients limit : ℕ) (h before : List Entry) (opener : Entry) (after : List Entry) (id target : Name) → IsLegal clients limit h → IsOpenSince h before opener after id target → IsRegistered before target Widget → (s : Members) × OpensWith opener s × (state_of (replay limit h) id ≡ State (fold merged s (updates id after))) }
+    ensures { (clients limit : ℕ) (h : List Entry) → IsLegal clients limit h → MergesUpdates h (replay limit h) }
 {}
 
 /// The comms of an Echo or a Counter have no state.
 pub fn some_kinds_have_no_states()
-    ensures { (clients limit : ℕ) (h before : List Entry) (opener : Entry) (after : List Entry) (id target : Name) (k : Kind) → IsLegal clients limit h → IsOpenSince h before opener after id target → IsRegistered before target k → is_stateless k ≡ true → state_of (replay limit h) id ≡ NoState }
+    ensures { (clients limit : ℕ) (h : List Entry) → IsLegal clients limit h → LeavesSomeStateless h (replay limit h) }
 {}

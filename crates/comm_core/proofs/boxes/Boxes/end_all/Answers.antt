@@ -1,5 +1,4 @@
-use Rattle.std.proofs.Common.{ap, ◌∙◌, subst}
-use Rattle.comm_targets.specs.Meaning.{Meaning}
+use Rattle.std.proofs.Common.{subst}
 use Rattle.comm_core.specs.Ready.{AllAgree}
 use Rattle.comm_core.proofs.Stopping.{all_but}
 use Rattle.comm_core.proofs.boxes.Boxes.end_all.Goals as goal
@@ -9,12 +8,6 @@ close_those_of-requires-clause-ids g c κs within = (all_but _ _ _ _ (subst (λ 
 
 pub close_those_of-requires-clause-unstaged : goal.close_those_of-requires-clause-unstaged
 close_those_of-requires-clause-unstaged g c κs within = (all_but _ _ _ _ (subst (λ l. AllAgree l c.args.comms.now.all) c.in-Some.ensures.all c.loop-name.invariant)).2
-
-pub end-requires-after_bounds : goal.end-requires-after_bounds
-end-requires-after_bounds g c κs within = (
-  ap (λ (m : Meaning). m.ids) c.close_those_of.ensures,
-  ap (λ (m : Meaning). m.staged) c.close_those_of.ensures ∙ (all_but _ _ _ _ (subst (λ l. AllAgree l c.args.comms.now.all) c.in-Some.ensures.all c.loop-name.invariant)).2,
-)
 
 pub loop-name-preserved : goal.loop-name-preserved
 loop-name-preserved g c = (all_but _ _ _ _ (subst (λ l. AllAgree l c.args.comms.now.all) c.in-Some.ensures.all c.loop-name.invariant)).0
