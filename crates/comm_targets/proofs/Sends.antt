@@ -11,7 +11,6 @@ use Rattle.comm_value.proofs.buffer.Buffers.TheSendSync as buffers
 use Rattle.comm_messages.specs.contracts.body.Body as body
 use Rattle.comm_targets.specs.contracts.event.Event as event
 use Rattle.comm_targets.specs.contracts.answer.Answer as answer
-use Rattle.comm_targets.specs.contracts.answer.Custom as custom
 use Rattle.comm_targets.specs.contracts.stage.Stage as stage
 use Rattle.comm_targets.specs.contracts.book.Book as book
 use Rattle.comm_targets.specs.contracts.book.Book.TheInside as inside
@@ -25,15 +24,8 @@ body_sends = search (text.the_send, buffers.the_send, values.crosses, Crossing.c
 event_sends : IsSend event.the_row
 event_sends = search (body_sends, text.the_send, values.crosses, Crossing.crosses, sendable) depth 60 fits 20000
 
-custom_sends : IsSend custom.the_row
-custom_sends = search (text.the_send, buffers.the_send, values.crosses, Crossing.crosses, sendable) depth 60 fits 20000
-
 answer_sends : IsSend answer.the_row
-answer_sends = declared_send answer.the_type (
-  search (values.crosses, Crossing.crosses, sendable) depth 60 fits 20000,
-  (search (body_sends, Crossing.crosses, sendable) depth 60 fits 20000,
-    (search (custom_sends, option.the_field_send, option.the_send, sendable) depth 60 fits 20000, tt)),
-)
+answer_sends = search (body_sends, buffers.the_send, values.crosses, Crossing.crosses, sendable) depth 60 fits 20000
 
 stage_sends : IsSend stage.the_row
 stage_sends = declared_send stage.the_type (event_sends, (answer_sends, tt))

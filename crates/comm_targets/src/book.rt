@@ -99,7 +99,7 @@ impl Book {
         ensures { self.new ≡ record { ids = without id.now self.old.ids; staged = self.old.staged } }
     {
         if let Some(i) = place_of(&self.ids, id) {
-            drop(self.ids.remove(i));
+            let _gone = self.ids.remove(i);
         }
     }
 }

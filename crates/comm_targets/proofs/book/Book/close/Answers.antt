@@ -7,8 +7,8 @@ use Rattle.comm_targets.proofs.book.Book.close.Goals as goal
 
 pub returns-in-Some : goal.returns-in-Some
 returns-in-Some c =
-    let gone : c.remove.new.self.items ≡ without c.args.id.now c.self.inside.ids.items =
-    rw c.remove.ensures.items (remove-at (bytes_eq c.args.id.now) c.self.inside.ids.items c.in-Some.i (rw c.deref.ensures.value at (sym c.place_of.ensures ∙ c.in-Some.is))) in
+    let gone : c.remove-gone.new.self.items ≡ without c.args.id.now c.self.inside.ids.items =
+    rw c.remove-gone.ensures.items (remove-at (bytes_eq c.args.id.now) c.self.inside.ids.items c.in-Some.i (rw c.deref.ensures.value at (sym c.place_of.ensures ∙ c.in-Some.is))) in
     rw (gone, ← c.self.view_is)
 
 pub returns-in_default : goal.returns-in_default
