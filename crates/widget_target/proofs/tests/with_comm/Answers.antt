@@ -1,3 +1,5 @@
+use Rattle.std.proofs.Common.{None}
+use Rattle.comm_targets.specs.Meaning.{Meaning}
 use Rattle.widget_target.proofs.Launched.{launched}
 use Rattle.widget_target.proofs.tests.with_comm.Goals as goal
 
