@@ -8,6 +8,7 @@ pub mod Committing
 pub mod Entries
 pub mod Exacting
 pub mod Gone
+pub mod Kept
 pub mod Keys
 pub mod LeftOpen
 pub mod Legal

@@ -24,18 +24,18 @@ use Rattle.comm_core.proofs.Entries.{length-map}
 use Rattle.comm_core.proofs.Gone.{none≢some}
 use Rattle.comm_core.proofs.Changes.{apart}
 
-abbrev order : Name → Name → Ordering
+abbrev pub order : Name → Name → Ordering
 order = slice_cmp nat_cmp
 
-abbrev IsInOrder : List Pair → Type 0
+abbrev pub IsInOrder : List Pair → Type 0
 IsInOrder es = IsStrictlySortedBy order (keys_of es)
 
-abbrev put : List Pair → Pair → List Pair
+abbrev pub put : List Pair → Pair → List Pair
 put done p = insert_entry order done p.0 p.1
 
 -- ---- in order
 
-all_weaker : {P Q : Name → Type 0} → ((n : Name) → P n → Q n) → (ns : List Name) → AllByRecursion P ns → AllByRecursion Q ns
+pub all_weaker : {P Q : Name → Type 0} → ((n : Name) → P n → Q n) → (ns : List Name) → AllByRecursion P ns → AllByRecursion Q ns
 all_weaker f [] h = tt
 all_weaker f (n ∷ ns) h = (f n h.0, all_weaker f ns h.1)
 
@@ -49,7 +49,7 @@ all_put P (e ∷ es) p h k =
       | Greater ↦ (h.0, more)
     ]
 
-put_in_order : (es : List Pair) (p : Pair) → IsInOrder es → IsInOrder (put es p)
+pub put_in_order : (es : List Pair) (p : Pair) → IsInOrder es → IsInOrder (put es p)
 unfolding IsStrictlySortedBy
 put_in_order [] p h = (tt, tt)
 put_in_order (e ∷ es) p h =
@@ -77,7 +77,7 @@ listed_in_order m asked = subst (λ l. IsStrictlySortedBy order l) (sym (ids_lis
 
 -- ---- what a text has
 
-at-put : (es : List Pair) (p : Pair) (q : Name) → at (put es p) q ≡ cond (bytes_eq q p.0) (Some p.1) (at es q)
+pub at-put : (es : List Pair) (p : Pair) (q : Name) → at (put es p) q ≡ cond (bytes_eq q p.0) (Some p.1) (at es q)
 at-put [] p q = refl
 at-put (e ∷ es) p q =
     let more = at-put es p q in
@@ -138,7 +138,7 @@ at-pairs asked (e ∷ es) q d =
       ]) refl
     ]) refl
 
-distinct-pairs : (asked : Option Name) (es : Opens) → AreDistinct es → AreDistinct (pairs_in es asked)
+pub distinct-pairs : (asked : Option Name) (es : Opens) → AreDistinct es → AreDistinct (pairs_in es asked)
 distinct-pairs asked [] d = tt
 distinct-pairs asked (e ∷ es) d =
     let more = distinct-pairs asked es d.1 in

@@ -8,6 +8,7 @@ pub mod Runs
 pub mod Updates
 pub mod RunLaws
 pub mod Tables
+pub mod Kept
 pub mod Ready
 pub mod Code
 pub mod ReadyCode

@@ -3,15 +3,18 @@ ghost use Rattle.std.specs.Prelude.{◌≡◌, ◌<◌, ◌≤◌, ◌++◌, tru
 ghost use Rattle.std.specs.Str.{bytes_eq};
 ghost use Rattle.comm_targets.specs.Meaning.{Meaning, IsIdle};
 ghost use Rattle.comm_core.specs.Machine.{at, has, without, with_at, ids_of, others};
-ghost use Rattle.comm_core.specs.Reads.{in_order, pairs_in, passes};
+ghost use Rattle.comm_core.specs.Reads.{in_order, pairs_in};
+ghost use Rattle.comm_core.specs.Kept.{listing};
 ghost use Rattle.comm_core.specs.Tables.{emptied};
 ghost use Rattle.comm_core.specs.declared.comm.Comm.{Comm};
 
 use crate::comm::Comm;
 use crate::ids::Ids;
+use crate::infos::listed;
+use comm_messages::Infos;
+use comm_tables::Table;
 use comm_targets::{Held, Target};
 use comm_value::{Dict, Text};
-use indexmap::IndexMap;
 use std::alloc::{AllocError, Global};
 use std::collections::BTreeMap;
 use std::marker::Model;
@@ -19,20 +22,25 @@ use std::marker::Model;
 /// The open comms in the order of opening, by their ids.
 #[derive(Drop)]
 pub struct Comms {
-    all: IndexMap<Text, Comm>,
+    all: Table<Text, Comm>,
+    // The whole listing, from when it is asked for until a comm is opened or closed.
+    kept: Option<Infos>,
 }
 
 impl Model for Comms {
-    ghost use Rattle.indexmap.specs.IndexMap.{spare};
+    ghost use Rattle.comm_tables.specs.Table.{entries};
     ghost use Rattle.comm_core.specs.Tables.{Table};
     ghost use Rattle.comm_core.specs.declared.comm.Comm.{Comm};
     ghost use Rattle.comm_core.specs.Code.{comms_code};
+    ghost use Rattle.comm_core.specs.Kept.{IsCurrent};
 
     ghost Value = { Table Comm };
 
     ghost coded = { comms_code };
 
-    ghost view = { λ c. record { all = c.all.entries; room = spare c.all } };
+    ghost view = { λ c. record { all = entries c.all; room = c.all.room } };
+
+    ghost invariant = { λ c. IsCurrent c.kept (entries c.all) };
 }
 
 impl Comms {
@@ -40,7 +48,8 @@ impl Comms {
         ensures { result.all ≡ [] }
     {
         Comms {
-            all: IndexMap::new(alloc),
+            all: Table::new(alloc),
+            kept: None,
         }
     }
 
@@ -49,7 +58,7 @@ impl Comms {
         ensures all { self.new.all ≡ self.old.all }
         ensures room { OnOk result (0 < self.new.room) }
     {
-        self.all.reserve(1)
+        self.all.reserve()
     }
 
     /// Whether as many comms are open as the limit allows.
@@ -62,7 +71,7 @@ impl Comms {
     pub fn contains(&self, id: &Text) -> bool
         ensures { result ≡ has self.now.all id.now }
     {
-        self.all.contains_key(id)
+        self.all.contains(id)
     }
 
     pub fn get(&self, id: &Text) -> Option<&Comm>
@@ -77,7 +86,8 @@ impl Comms {
         requires fresh { at self.old.all id ≡ None }
         ensures { self.new.all ≡ self.old.all ++ (id, comm) ∷ [] }
     {
-        let _ = self.all.insert(id, comm);
+        self.kept = None; // It lacks this comm.
+        self.all.insert(id, comm);
     }
 
     /// Takes a comm out.
@@ -86,17 +96,22 @@ impl Comms {
         ensures all { self.new.all ≡ without self.old.all id.now }
         ensures room { self.old.room ≤ self.new.room }
     {
-        self.all.shift_remove(id)
+        self.kept = None; // It lists this comm.
+        self.all.take(id)
     }
 
-    /// Gives a comm another state.
+    /// Gives a comm another state, which no listing shows.
     pub fn set_state(&mut self, id: &Text, state: Dict)
         ensures all { (c : Comm) → at self.old.all id.now ≡ Some c → self.new.all ≡ with_at self.old.all id.now (record { target = c.target; state = Some state }) }
         ensures room { self.new.room ≡ self.old.room }
     {
-        if let Some(comm) = self.all.get_mut(id) {
-            comm.state = Some(state);
-        }
+        self.all.update(
+            id,
+            |comm| Comm {
+                target: comm.target,
+                state: Some(state),
+            },
+        );
     }
 
     /// The ids of a target's comms, in the order of opening.
@@ -104,8 +119,8 @@ impl Comms {
         ensures { IfOk result (λ ids. ids ≡ ids_of name.now self.now.all) }
     {
         let mut ids = Ids::new(alloc);
-        for i in 0..self.all.len() {
-            if let Some((id, comm)) = self.all.get_index(i) {
+        for i in 0..self.all.places() {
+            if let Some((id, comm)) = self.all.at(i) {
                 if name == &comm.target {
                     ids.push(id.copy()?)?;
                 }
@@ -114,20 +129,36 @@ impl Comms {
         Ok(ids)
     }
 
-    /// The ids with the names of their targets, those of one target where a name is given, in the byte order of the ids.
-    pub fn infos(
-        &self,
-        alloc: Global,
-        target: Option<&Text>,
-    ) -> Result<BTreeMap<Text, Text>, AllocError>
-        ensures { IfOk result (λ m. m.entries ≡ in_order (pairs_in self.now.all (option_map (λ t. t.now) target.entry))) }
+    /// The whole listing: the one that is kept, shared, or a new one.
+    pub fn listing(&self, alloc: Global) -> Result<Infos, AllocError>
+        ensures { IfOk result (λ i. i ≡ listing self.now.all) }
+    {
+        match &self.kept {
+            Some(kept) => kept.copy(),
+            None => listed(alloc, self.in_order(alloc)?),
+        }
+    }
+
+    /// The whole listing, which is kept for the next who asks.
+    pub fn keep_listing(&mut self, alloc: Global) -> Result<Infos, AllocError>
+        ensures listing { IfOk result (λ i. i ≡ listing self.old.all) }
+        ensures same { self.new ≡ self.old }
+    {
+        let whole = self.listing(alloc)?;
+        if self.kept.is_none() {
+            self.kept = Some(whole.copy()?);
+        }
+        Ok(whole)
+    }
+
+    /// The ids with the names of their targets, in the byte order of the ids.
+    fn in_order(&self, alloc: Global) -> Result<BTreeMap<Text, Text>, AllocError>
+        ensures { IfOk result (λ m. m.entries ≡ in_order (pairs_in self.now.all None)) }
     {
         let mut all = BTreeMap::new(alloc);
-        for i in 0..self.all.len() {
-            if let Some((id, comm)) = self.all.get_index(i) {
-                if is_asked_for(target, comm) {
-                    all.insert(id.copy()?, comm.target.copy()?)?;
-                }
+        for i in 0..self.all.places() {
+            if let Some((id, comm)) = self.all.at(i) {
+                all.insert(id.copy()?, comm.target.copy()?)?;
             }
         }
         Ok(all)
@@ -140,8 +171,8 @@ impl Comms {
         ensures closed { held.new ≡ emptied held.old }
         ensures idle { IsIdle held.new }
     {
-        for i in 0..self.all.len() {
-            if let Some((id, comm)) = self.all.get_index(i) {
+        for i in 0..self.all.places() {
+            if let Some((id, comm)) = self.all.at(i) {
                 if name == &comm.target {
                     held.close(id.as_str());
                 }
@@ -153,19 +184,11 @@ impl Comms {
     pub fn remove_those_of(&mut self, name: &Text)
         ensures { self.new.all ≡ others name.now self.old.all }
     {
+        self.kept = None; // It lists them.
         self.all.retain(
-            |_id: &Text, comm: &mut Comm| -> bool
-                ensures { (result ≡ not (bytes_eq name.entry.now comm.old.target)) × (comm.new ≡ comm.old) }
+            |_id: &Text, comm: &Comm| -> bool
+                ensures { result ≡ not (bytes_eq name.entry.now comm.now.target) }
             { name != &comm.target },
         );
-    }
-}
-
-fn is_asked_for(target: Option<&Text>, comm: &Comm) -> bool
-    ensures { result ≡ passes (option_map (λ t. t.now) target.entry) comm.now }
-{
-    match target {
-        None => true,
-        Some(name) => name == &comm.target,
     }
 }

@@ -13,6 +13,7 @@ mod comm;
 mod comms;
 mod finish;
 mod ids;
+mod infos;
 mod judge;
 mod laws;
 mod limits;
@@ -36,6 +37,3 @@ pub use limits::{Limits, NewFault};
 pub use manager::{Core, Finished, Ready};
 pub use question::Question;
 pub use reply::{Refusal, Reply, StateAnswer};
-
-#[cfg(test)]
-mod tests;

@@ -1,16 +1,16 @@
 //! What a manager is asked without changing it.
-ghost use Rattle.std.specs.Prelude.{◌≡◌, IfOk, map, option_map};
-ghost use Rattle.comm_core.specs.Reads.{info_of, infos, state_of};
+ghost use Rattle.std.specs.Prelude.{◌≡◌, IfOk, option_map};
+ghost use Rattle.comm_core.specs.Reads.{infos, state_of};
 ghost use Rattle.comm_core.specs.Ready.{machine};
 
+use crate::infos::part_of;
 use crate::judge::state_copy;
 use crate::manager::Core;
 use crate::reply::StateAnswer;
-use comm_messages::{Info, Infos};
+use comm_messages::Infos;
 use comm_targets::Target;
 use comm_value::Text;
-use std::alloc::{AllocError, Global};
-use std::collections::BTreeMap;
+use std::alloc::AllocError;
 
 impl<T: Target> Core<T> {
     /// The open comms with the names of their targets, those of one target where a name is given, in the byte order of the ids
@@ -18,8 +18,18 @@ impl<T: Target> Core<T> {
     pub fn infos(&self, target: Option<&Text>) -> Result<Infos, AllocError>
         ensures { IfOk result (λ v. v ≡ infos (machine self.now) (option_map (λ t. t.now) target.entry)) }
     {
-        let pairs = self.comms.infos(self.alloc, target)?;
-        listed(self.alloc, pairs)
+        let whole = self.comms.listing(self.alloc)?;
+        part_of(self.alloc, whole, target)
+    }
+
+    /// What `infos` gives. The whole listing is kept until a comm is opened or closed, so that asking again costs no ordering; a
+    /// manager that is only read can't keep it, so `infos` stays beside this.
+    pub fn listing(&mut self, target: Option<&Text>) -> Result<Infos, AllocError>
+        ensures infos { IfOk result (λ v. v ≡ infos (machine self.old) (option_map (λ t. t.now) target.entry)) }
+        ensures same { self.new ≡ self.old }
+    {
+        let whole = self.comms.keep_listing(self.alloc)?;
+        part_of(self.alloc, whole, target)
     }
 
     /// The state of a comm, shared.
@@ -34,14 +44,4 @@ impl<T: Target> Core<T> {
             Some(state) => Ok(StateAnswer::State(state)),
         }
     }
-}
-
-fn listed(alloc: Global, pairs: BTreeMap<Text, Text>) -> Result<Infos, AllocError>
-    ensures { IfOk result (λ v. v ≡ map info_of pairs.entries) }
-{
-    let mut all = Vec::with_capacity(alloc, pairs.len())?;
-    for (id, target) in pairs {
-        all.push(Info { id, target })?;
-    }
-    Ok(Infos::new(all))
 }

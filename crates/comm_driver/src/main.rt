@@ -1,28 +1,9 @@
 // Plays a script of comm messages and commands.
 #![tactic(auto)]
 
-ghost use Rattle.std.specs.Prelude.{map, OnOk};
-ghost use Rattle.comm_targets.specs.Meaning.{IsIdle};
-ghost use Rattle.comm_driver.specs.Stock.{AreIdle};
-
-mod asked;
-mod command;
-mod fault;
-mod line;
-mod lines;
-mod run;
-mod session;
-mod stock;
-mod stream;
-#[cfg(test)]
-mod tests;
-mod words;
-
-use crate::fault::RunFault;
-use crate::run::run_with;
 use comm_core::Limits;
+use comm_script::{RunFault, add, run_with};
 use comm_targets::{Counter, Echo, Target};
-use std::alloc::AllocError;
 use std::process::ExitCode;
 use std::{env, io};
 use widget_target::WidgetTarget;
@@ -34,16 +15,6 @@ const LIMITS: Limits = Limits {
     history: 1_000_000,
     outbox: 64,
 };
-
-/// Puts a target at the end of the stock.
-fn add<T: Target>(stock: &mut Vec<T>, target: T) -> Result<(), AllocError>
-    requires target { IsIdle (T.means target) }
-    requires stock { AreIdle (map T.means stock.old.items) }
-    ensures { OnOk result (AreIdle (map T.means stock.new.items)) }
-{
-    stock.push(target)?;
-    Ok(())
-}
 
 /// Plays standard input to standard output, with two targets of each kind in stock.
 fn play(rt: &HostRuntime) -> Result<(), RunFault> {

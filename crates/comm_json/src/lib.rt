@@ -15,6 +15,3 @@ pub use in_order::MemberRef;
 pub use json_ref::{ItemsRef, JsonRef, Members, ObjectRef, Shape};
 pub use ranges::numbers_are_in_range;
 pub use reading::{LineFault, read_line};
-
-#[cfg(test)]
-mod tests;

@@ -25,8 +25,3 @@ pub use laws::written_is_read_again;
 pub use outgoing::{Outgoing, Parent};
 pub use read::{body_of, message_in, message_of, read_message};
 pub use write::{append_buffers, append_message, write_message};
-
-#[cfg(test)]
-mod tests;
-#[cfg(test)]
-mod write_tests;

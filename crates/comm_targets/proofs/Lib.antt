@@ -1,4 +1,3 @@
 pub mod CounterCommit
-pub mod Ids
-pub mod Places
+pub mod Opened
 pub mod Sends

@@ -1,13 +1,32 @@
 -- What a target's book says.
-use Rattle.std.specs.Prelude.{ℕ, ◌<◌, List, Option, None, Some}
+use Rattle.std.specs.Prelude.{◌≡◌, ℕ, ◌<◌, false, List, String, map, string_bytes, Option, None, Some}
+use Rattle.comm_targets.specs.declared.event.Event.{Event}
+use Rattle.comm_targets.specs.declared.event.Event.TheVariants.{Open, Msg, Launch, Push}
 use Rattle.comm_targets.specs.declared.stage.Stage.{Stage}
+use Rattle.comm_targets.specs.Meaning.{has_id}
 
 -- the ids of the open comms in the order of opening, and what is staged
 pub record Page : Type 0 where
   pub ids : List (List ℕ)
   pub staged : Option Stage
 
--- where something is staged there is room for one more id
-abbrev pub HasRoom : Option Stage → ℕ → ℕ → Type 0
-HasRoom None len capacity = Unit {0}
-HasRoom (Some s) len capacity = len < capacity
+-- the ids that stand as keys
+abbrev pub texts_of : {A V : Type 0} → List (String A × V) → List (List ℕ)
+texts_of es = map (λ e. string_bytes e.0) es
+
+-- the id that an event opens
+abbrev pub opened_by : Event → Option (List ℕ)
+opened_by (Open id version body) = Some id
+opened_by (Launch id state) = Some id
+opened_by (Msg id body) = None
+opened_by (Push id state) = None
+
+-- an id that is opened is at hand, isn't open, and there is room for it
+abbrev pub IsReadyFor : Option (List ℕ) → Option (List ℕ) → List (List ℕ) → ℕ → Type 0
+IsReadyFor None fresh ids room = fresh ≡ None
+IsReadyFor (Some id) fresh ids room = (fresh ≡ Some id) × (has_id ids id ≡ false) × (0 < room)
+
+-- what is staged can be done with no memory
+abbrev pub IsReady : Option Stage → Option (List ℕ) → List (List ℕ) → ℕ → Type 0
+IsReady None fresh ids room = Unit {0}
+IsReady (Some s) fresh ids room = IsReadyFor (opened_by s.event) fresh ids room

@@ -1,11 +1,13 @@
-ghost use Rattle.std.specs.Prelude.{◌≡◌, ◌↔◌, true, [], IsTrue, OnOk, OnErr, IsSome, None, Some, position};
-ghost use Rattle.std.specs.Str.{bytes_eq};
+ghost use Rattle.std.specs.Prelude.{◌≡◌, ◌≤◌, ◌↔◌, true, [], IsTrue, IfOk, OnOk, OnErr, IsSome, None, Some, option_map, string_bytes};
+ghost use Rattle.comm_tables.specs.Table.{entries};
+ghost use Rattle.comm_targets.specs.Book.{IsReadyFor, opened_by, texts_of};
 ghost use Rattle.comm_targets.specs.declared.stage.Stage.{Stage};
 ghost use Rattle.comm_targets.specs.Meaning.{has_id, without, ids_after, stages_message};
 
 use crate::answer::Answer;
 use crate::event::Event;
 use crate::stage::Stage;
+use comm_tables::Table;
 use comm_value::Text;
 use std::alloc::{AllocError, Global};
 use std::marker::Model;
@@ -13,22 +15,25 @@ use std::marker::Model;
 /// What each target keeps: the ids of its open comms in the order of opening, and the event that is staged, with its answer.
 #[derive(Drop)]
 pub struct Book {
-    ids: Vec<Text>,
+    ids: Table<String, ()>,
     staged: Option<Stage>,
+    // The id that a staged opening adds.
+    fresh: Option<String>,
 }
 
 impl Model for Book {
-    ghost use Rattle.std.specs.Prelude.{vec_len, vec_capacity};
-    ghost use Rattle.comm_targets.specs.Book.{Page, HasRoom};
+    ghost use Rattle.std.specs.Prelude.{option_map, string_bytes};
+    ghost use Rattle.comm_tables.specs.Table.{entries};
+    ghost use Rattle.comm_targets.specs.Book.{Page, IsReady, texts_of};
     ghost use Rattle.comm_targets.specs.Code.{page_code};
 
     ghost Value = { Page };
 
     ghost coded = { page_code };
 
-    ghost view = { λ b. record { ids = b.ids.items; staged = b.staged } };
+    ghost view = { λ b. record { ids = texts_of (entries b.ids); staged = b.staged } };
 
-    ghost invariant = { λ b. HasRoom b.staged (vec_len b.ids) (vec_capacity b.ids) };
+    ghost invariant = { λ b. IsReady b.staged (option_map string_bytes b.fresh) (texts_of (entries b.ids)) b.ids.room };
 }
 
 impl Book {
@@ -37,8 +42,9 @@ impl Book {
         ensures { result ≡ record { ids = []; staged = None } }
     {
         Book {
-            ids: Vec::new(alloc),
+            ids: Table::new(alloc),
             staged: None,
+            fresh: None,
         }
     }
 
@@ -59,14 +65,16 @@ impl Book {
         }
     }
 
-    /// Stages an event with its answer, and makes room for one more id. On an error the book stays as it was.
+    /// Stages an event with its answer, and makes ready for its id. On an error the book stays as it was. An opening of an id that
+    /// is open counts as want of memory; a target is never asked for one.
     pub fn stage(&mut self, alloc: Global, event: &Event, answer: &Answer) -> Result<(), AllocError>
         ensures ok { OnOk result (self.new ≡ record { ids = self.old.ids; staged = Some (record { event = event.now; answer = answer.now }) }) }
         ensures err { OnErr result (self.new ≡ self.old) }
     {
         let event = event.copy(alloc)?;
         let answer = answer.copy(alloc)?;
-        self.ids.reserve(1)?;
+        let fresh = readied(&mut self.ids, alloc, &event)?;
+        self.fresh = fresh;
         self.staged = Some(Stage { event, answer });
         Ok(())
     }
@@ -76,20 +84,17 @@ impl Book {
         requires { IsSome self.old.staged }
         ensures { (s : Stage) → self.old.staged ≡ Some s → self.new ≡ record { ids = ids_after self.old.ids s.event; staged = None } }
     {
-        if let Some(Stage { event, answer: _ }) = self.staged.take() {
-            match event {
-                Event::Open { id, .. } => self.ids.push_reserved(id),
-                Event::Launch { id, .. } => self.ids.push_reserved(id),
-                Event::Msg { .. } => {}
-                Event::Push { .. } => {}
-            }
+        if let Some(id) = self.fresh.take() {
+            self.ids.insert(id, ());
         }
+        self.staged = None;
     }
 
     /// Drops the staged change.
     pub fn abandon(&mut self)
         ensures { self.new ≡ record { ids = self.old.ids; staged = None } }
     {
+        self.fresh = None;
         self.staged = None;
     }
 
@@ -98,15 +103,39 @@ impl Book {
         requires { has_id self.old.ids id.now ≡ true }
         ensures { self.new ≡ record { ids = without id.now self.old.ids; staged = self.old.staged } }
     {
-        if let Some(i) = place_of(&self.ids, id) {
-            let _gone = self.ids.remove(i);
-        }
+        let _gone = self.ids.take_text(id);
     }
 }
 
-// Where an id stands.
-fn place_of(ids: &[Text], id: &str) -> Option<usize>
-    ensures { result ≡ position (λ x. bytes_eq id.now x) ids.now }
+// Makes room for the id that an event opens, and gives the id.
+fn readied(
+    ids: &mut Table<String, ()>,
+    alloc: Global,
+    event: &Event,
+) -> Result<Option<String>, AllocError>
+    ensures places { ids.new.places ≡ ids.old.places }
+    ensures room { ids.old.room ≤ ids.new.room }
+    ensures ready { IfOk result (λ id. IsReadyFor (opened_by event.now) (option_map string_bytes id) (texts_of (entries ids.old)) ids.new.room) }
 {
-    ids.iter().position(|x| id == x.as_str())
+    let Some(id) = opened(event) else {
+        return Ok(None);
+    };
+    let id = String::from_str(alloc, id.as_str())?;
+    if ids.contains(&id) {
+        return Err(AllocError);
+    }
+    ids.reserve()?;
+    Ok(Some(id))
+}
+
+// The id that an event opens.
+fn opened(event: &Event) -> Option<&Text>
+    ensures { option_map (λ t. t.now) result ≡ opened_by event.now }
+{
+    match event {
+        Event::Open { id, .. } => Some(id),
+        Event::Launch { id, .. } => Some(id),
+        Event::Msg { .. } => None,
+        Event::Push { .. } => None,
+    }
 }

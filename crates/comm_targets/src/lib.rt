@@ -30,7 +30,7 @@
 //! # Using it
 //!
 //! A comm manager (`comm_core`) takes it by `register`. By itself: `Held::new`, and for each event `prepare`, then `commit`
-//! or `abandon`; `close` for each comm that was opened, and `end`. The function `conversation` in `src/tests.rt` is an example.
+//! or `abandon`; `close` for each comm that was opened, and `end`. The function `conversation` in `comm_tests/src/tests/targets.rt` is an example.
 //!
 //! Types that hold targets are generic in `T: Target`. For objects of several kinds take `T` as `Box<dyn Target>`, which is
 //! a target itself. A function that names no `T` can't make a `Held` of such a box, so it hands the box to one that does:
@@ -90,6 +90,3 @@ pub use kind::Kind;
 pub use latest::Latest;
 pub use stage::Stage;
 pub use target::Target;
-
-#[cfg(test)]
-mod tests;

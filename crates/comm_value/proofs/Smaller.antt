@@ -1,27 +1,39 @@
 -- What stands in a dict is smaller than it.
-use Rattle.std.proofs.Common.{◌≡◌, ℕ, zero, suc, ◌<◌, List, [], ◌∷◌, length, get_or, Global, ap, arith}
+use Rattle.std.proofs.Common.{◌≡◌, ℕ, zero, suc, ◌<◌, ◌+◌, ◌≤◌, List, [], ◌∷◌, ◌++◌, length, get_or, take, drop, Global, Vec, ap, sym, ◌∙◌, arith}
 use Rattle.std.specs.Arc.{arc_value}
-use Rattle.std.specs.declared.sync.Arc.{Arc}
 use Rattle.comm_value.specs.declared.val.Member.{Member}
 use Rattle.comm_value.specs.declared.val.Dict.TheDeep.{deep-Val, deep-Member}
 use Rattle.comm_value.specs.Tree.{Members, members_size}
-use Rattle.comm_value.specs.View.{members_of}
-use Rattle.comm_value.specs.Falls.{value_falls, member_falls}
+use Rattle.comm_value.specs.View.{members_of, Piece, flat}
+use Rattle.comm_value.specs.Falls.{value_falls, member_falls, size_append}
+use Rattle.comm_value.proofs.Flat.{opened, flat_cut}
 
-member_in : (ms : List (Arc Member Global)) (i : ℕ) (d : Arc Member Global) → i < length ms → deep-Val (arc_value (get_or ms i d)).value < members_size (members_of ms)
-member_in [] i d h = absurd (omega arith)
-member_in (m ∷ ms) zero d h = omega (arith, value_falls (arc_value m).value)
-member_in (m ∷ ms) (suc i) d h = omega (arith, member_in ms i d (omega arith))
+value_in : (ms : List Member) (j : ℕ) (d : Member) → j < length ms → deep-Val (get_or ms j d).value < members_size (members_of ms)
+value_in [] j d h = absurd (omega arith)
+value_in (m ∷ ms) zero d h = omega (arith, value_falls m.value)
+value_in (m ∷ ms) (suc j) d h = omega (arith, value_in ms j d (omega arith))
 
-pub member_smaller : (ms : List (Arc Member Global)) (i : ℕ) (m : Arc Member Global) (v : Member) (all : Members) → i < length ms → m ≡ get_or ms i m → v ≡ arc_value m → members_of ms ≡ all
-    → deep-Val v.value < members_size all
-member_smaller ms i m v all h here opened view =
-    omega (arith, member_in ms i m h, ap (λ (x : Member). deep-Val x.value) opened, ap (λ (x : Arc Member Global). deep-Val (arc_value x).value) here, ap members_size view)
+member_in : (ms : List Member) (j : ℕ) (d : Member) → j < length ms → deep-Member (get_or ms j d) < members_size (members_of ms)
+member_in [] j d h = absurd (omega arith)
+member_in (m ∷ ms) zero d h = omega (arith, member_falls m)
+member_in (m ∷ ms) (suc j) d h = omega (arith, member_in ms j d (omega arith))
 
-shared_in : (ms : List (Arc Member Global)) (i : ℕ) (d : Arc Member Global) → i < length ms → deep-Member (arc_value (get_or ms i d)) < members_size (members_of ms)
-shared_in [] i d h = absurd (omega arith)
-shared_in (m ∷ ms) zero d h = omega (arith, member_falls (arc_value m))
-shared_in (m ∷ ms) (suc i) d h = omega (arith, shared_in ms i d (omega arith))
+piece_in : (ps : List Piece) (i : ℕ) (xs : List Member) → flat (drop i ps) ≡ xs ++ flat (drop (i + 1) ps) → members_size (members_of xs) ≤ members_size (members_of (flat ps))
+piece_in ps i xs here =
+    let cut : members_size (members_of (flat ps)) ≡ members_size (members_of (flat (take i ps))) + members_size (members_of (flat (drop i ps))) =
+    ap (λ l. members_size (members_of l)) (flat_cut ps i) ∙ size_append (flat (take i ps)) (flat (drop i ps)) in
+    let rest : members_size (members_of (flat (drop i ps))) ≡ members_size (members_of xs) + members_size (members_of (flat (drop (i + 1) ps))) =
+    ap (λ l. members_size (members_of l)) here ∙ size_append xs (flat (drop (i + 1) ps)) in
+    omega (arith, cut, rest)
 
-pub shared_smaller : (ms : List (Arc Member Global)) (i : ℕ) (m : Arc Member Global) (all : Members) → i < length ms → m ≡ get_or ms i m → members_of ms ≡ all → deep-Member (arc_value m) < members_size all
-shared_smaller ms i m all h here view = omega (arith, shared_in ms i m h, ap (λ (x : Arc Member Global). deep-Member (arc_value x)) here, ap members_size view)
+-- the value of the member at j in the piece at i
+pub value_smaller : (ps : List Piece) (i : ℕ) (p : Piece) (v : Vec Member Global) (xs : List Member) (j : ℕ) (x : Member) (all : Members) → i < length ps → p ≡ get_or ps i p → v ≡ arc_value p → xs ≡ v.items
+    → j < length xs → x ≡ get_or xs j x → members_of (flat ps) ≡ all → deep-Val x.value < members_size all
+value_smaller ps i p v xs j x all h is deref items within here view =
+    omega (arith, value_in xs j x within, piece_in ps i xs (opened ps i p v xs h is deref items), ap (λ (m : Member). deep-Val m.value) here, ap members_size view)
+
+-- and that member
+pub member_smaller : (ps : List Piece) (i : ℕ) (p : Piece) (v : Vec Member Global) (xs : List Member) (j : ℕ) (x : Member) (all : Members) → i < length ps → p ≡ get_or ps i p → v ≡ arc_value p → xs ≡ v.items
+    → j < length xs → x ≡ get_or xs j x → members_of (flat ps) ≡ all → deep-Member x < members_size all
+member_smaller ps i p v xs j x all h is deref items within here view =
+    omega (arith, member_in xs j x within, piece_in ps i xs (opened ps i p v xs h is deref items), ap (λ (m : Member). deep-Member m) here, ap members_size view)

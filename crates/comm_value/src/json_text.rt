@@ -87,12 +87,14 @@ fn write_members(dict: &Dict, out: &mut Vec<u8>) -> Result<(), AllocError>
 {
     out.push(b'{')?;
     let mut later = false;
-    for member in dict.members() {
-        write_comma(later, out)?;
-        write_text(member.key.as_str(), out)?;
-        out.push(b':')?;
-        write_value(&member.value, out)?;
-        later = true;
+    for piece in dict.pieces() {
+        for member in piece.as_slice() {
+            write_comma(later, out)?;
+            write_text(member.key.as_str(), out)?;
+            out.push(b':')?;
+            write_value(&member.value, out)?;
+            later = true;
+        }
     }
     Ok(out.push(b'}')?)
 }

@@ -15,6 +15,3 @@ mod version;
 mod widget;
 
 pub use widget::WidgetTarget;
-
-#[cfg(test)]
-mod tests;

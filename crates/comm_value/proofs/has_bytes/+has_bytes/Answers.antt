@@ -1,7 +1,36 @@
-use Rattle.std.proofs.Common.{arith}
-use Rattle.comm_value.proofs.Smaller.{member_smaller}
+use Rattle.std.proofs.Common.{sym, ap, ◌∙◌, arith}
+use Rattle.comm_value.specs.Places.{members_have_bytes}
+use Rattle.comm_value.specs.View.{members_of}
+use Rattle.comm_value.proofs.BytesLemmas.{member_has, member_has_not}
+use Rattle.comm_value.proofs.Flat.{opened, next_is, closed, none_left}
+use Rattle.comm_value.proofs.Smaller.{value_smaller}
 use Rattle.comm_value.proofs.has_bytes.+has_bytes.Goals as goal
 
 pub a_member_holds_bytes-holds_bytes-requires : goal.a_member_holds_bytes-holds_bytes-requires
-a_member_holds_bytes-holds_bytes-requires t c =
-    (omega (arith, member_smaller _ c.loop-member.member-index c.member-item.result _ _ c.loop-member-test.true c.member-item.is c.deref.ensures c.members-member-items.ensures.shown, c.decreases), tt)
+a_member_holds_bytes-holds_bytes-requires t c = (
+  omega (
+    arith,
+    value_smaller _ c.loop-piece.piece-index c.piece-item.result c.deref.result.now _ c.loop-member.member-index c.member-item.result _ c.loop-piece-test.true c.piece-item.is c.deref.ensures c.as_slice-member-items.ensures.value
+        c.loop-member-test.true c.member-item.is c.pieces-piece-items.ensures.shown,
+    c.decreases,
+  ),
+  tt,
+)
+
+pub a_member_holds_bytes-loop-member-init : goal.a_member_holds_bytes-loop-member-init
+a_member_holds_bytes-loop-member-init t c =
+    ap (λ l. members_have_bytes (members_of l)) (sym (opened _ c.loop-piece.piece-index c.piece-item.result c.deref.result.now _ c.loop-piece-test.true c.piece-item.is c.deref.ensures c.as_slice-member-items.ensures.value)) ∙ c.loop-piece.invariant
+
+pub a_member_holds_bytes-loop-member-preserved : goal.a_member_holds_bytes-loop-member-preserved
+a_member_holds_bytes-loop-member-preserved t c =
+    member_has_not _ c.member-item.result _ _ (next_is _ c.loop-member.member-index c.member-item.result _ c.loop-member-test.true c.member-item.is) c.loop-member.invariant c.if-holds_bytes.ensures
+
+pub a_member_holds_bytes-returns-then-holds_bytes : goal.a_member_holds_bytes-returns-then-holds_bytes
+a_member_holds_bytes-returns-then-holds_bytes t c =
+    member_has _ c.member-item.result _ _ (next_is _ c.loop-member.member-index c.member-item.result _ c.loop-member-test.true c.member-item.is) c.loop-member.invariant c.if-holds_bytes.ensures
+
+pub a_member_holds_bytes-loop-piece-preserved : goal.a_member_holds_bytes-loop-piece-preserved
+a_member_holds_bytes-loop-piece-preserved t c = ap (λ l. members_have_bytes (members_of l)) (sym (closed _ c.loop-member.member-index _ c.loop-member-test.false)) ∙ c.loop-member.invariant
+
+pub a_member_holds_bytes-returns : goal.a_member_holds_bytes-returns
+a_member_holds_bytes-returns t c = ap (λ l. members_have_bytes (members_of l)) (sym (none_left _ c.loop-piece.piece-index c.loop-piece-test.false)) ∙ c.loop-piece.invariant

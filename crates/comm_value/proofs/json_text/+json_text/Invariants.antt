@@ -1,13 +1,17 @@
-use Rattle.std.proofs.Common.{◌≡◌, ◌++◌, drop, false}
+use Rattle.std.proofs.Common.{◌≡◌, ◌+◌, ◌++◌, ◌∷◌, drop, false}
 use Rattle.serde_json.specs.Written.{items_text, members_text}
 use Rattle.comm_value.specs.ToJson.{json_items, json_members}
-use Rattle.comm_value.specs.View.{items_of, members_of}
+use Rattle.comm_value.specs.View.{items_of, members_of, flat}
 use Rattle.comm_value.proofs.json_text.+json_text.Given as goal
 
 abbrev pub invariant-write_items-loop-item : goal.invariant-write_items-loop-item
 invariant-write_items-loop-item l =
     l.out.items ++ items_text l.later (json_items (items_of (drop l.item-index l.item-items))) ≡ l.initial.out.items ++ items_text false (json_items l.items)
 
+abbrev pub invariant-write_members-loop-piece : goal.invariant-write_members-loop-piece
+invariant-write_members-loop-piece l =
+    l.out.items ++ members_text l.later (json_members (members_of (flat (drop l.piece-index l.piece-items)))) ≡ l.fn.out.items ++ 123 ∷ members_text false (json_members l.dict)
+
 abbrev pub invariant-write_members-loop-member : goal.invariant-write_members-loop-member
 invariant-write_members-loop-member l =
-    l.out.items ++ members_text l.later (json_members (members_of (drop l.member-index l.member-items))) ≡ l.initial.out.items ++ members_text false (json_members l.dict)
+    l.out.items ++ members_text l.later (json_members (members_of (drop l.member-index l.member-items ++ flat (drop (l.piece-index + 1) l.piece-items)))) ≡ l.fn.out.items ++ 123 ∷ members_text false (json_members l.dict)

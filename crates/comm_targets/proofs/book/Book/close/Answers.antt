@@ -1,20 +1,20 @@
-use Rattle.std.proofs.Common.{◌≡◌, true, false, ap, sym, ◌∙◌, true≢false}
-use Rattle.std.specs.Str.{bytes_eq}
-use Rattle.comm_targets.specs.Book.{Page}
-use Rattle.comm_targets.specs.Meaning.{without, has_id}
-use Rattle.comm_targets.proofs.Places.{remove-at, none_passes}
+use Rattle.std.proofs.Common.{◌≡◌, ap, ◌∙◌, option_map, string_bytes}
+use Rattle.comm_tables.specs.Table.{entries}
+use Rattle.comm_targets.specs.Book.{texts_of}
+use Rattle.comm_targets.specs.Meaning.{has_id, without}
+use Rattle.comm_targets.proofs.Opened.{texts_removed, absent_after, ready_kept}
 use Rattle.comm_targets.proofs.book.Book.close.Goals as goal
 
-pub returns-in-Some : goal.returns-in-Some
-returns-in-Some c =
-    let gone : c.remove-gone.new.self.items ≡ without c.args.id.now c.self.inside.ids.items =
-    rw c.remove-gone.ensures.items (remove-at (bytes_eq c.args.id.now) c.self.inside.ids.items c.in-Some.i (rw c.deref.ensures.value at (sym c.place_of.ensures ∙ c.in-Some.is))) in
-    rw (gone, ← c.self.view_is)
+pub invariant_of-self : goal.invariant_of-self
+invariant_of-self c =
+    let gone : texts_of (entries c.take_text-gone.new.self) ≡ without c.args.id.now (texts_of (entries c.self.inside.ids)) =
+    ap texts_of c.take_text-gone.ensures.entries ∙ texts_removed c.args.id.now (entries c.self.inside.ids) in
+    ready_kept (texts_of (entries c.self.inside.ids)) (texts_of (entries c.take_text-gone.new.self)) c.self.inside.ids.room c.take_text-gone.new.self.room
+    (λ id h. ap (λ l. has_id l id) gone ∙ absent_after c.args.id.now id (texts_of (entries c.self.inside.ids)) h) c.take_text-gone.ensures.room
+    (option_map string_bytes c.self.inside.fresh) c.self.inside.staged c.self.invariant
 
-pub returns-in_default : goal.returns-in_default
-returns-in_default c =
-    let none : has_id c.self.inside.ids.items c.args.id.now ≡ false =
-    none_passes (bytes_eq c.args.id.now) c.self.inside.ids.items (rw c.deref.ensures.value at (sym c.place_of.ensures ∙ c.in_default.is)) in
-    let there : has_id c.self.inside.ids.items c.args.id.now ≡ true =
-    ap (λ (b : Page). has_id b.ids c.args.id.now) c.self.view_is ∙ c.requires in
-    absurd (true≢false (sym there ∙ none))
+pub returns : goal.returns
+returns c =
+    let gone : texts_of (entries c.take_text-gone.new.self) ≡ without c.args.id.now (texts_of (entries c.self.inside.ids)) =
+    ap texts_of c.take_text-gone.ensures.entries ∙ texts_removed c.args.id.now (entries c.self.inside.ids) in
+    rw (gone, ← c.self.view_is)

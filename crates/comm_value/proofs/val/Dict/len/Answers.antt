@@ -5,4 +5,4 @@ use Rattle.comm_value.proofs.Shared.{length-keys}
 use Rattle.comm_value.proofs.val.Dict.len.Goals as goal
 
 pub returns : goal.returns
-returns c = sym (length-keys _) ∙ ap (λ (ms : Members). length (keys ms)) c.members.ensures.shown
+returns c = c.self.invariant.2 ∙ sym (length-keys _) ∙ ap (λ (ms : Members). length (keys ms)) c.self.view_is

@@ -1,0 +1,14 @@
+use Rattle.std.proofs.Common.{◌++◌, ◌∷◌, [], ap, sym, ◌∙◌, append_assoc}
+use Rattle.comm_core.specs.Reads.{Pair, info_of}
+use Rattle.comm_core.proofs.Entries.{map-append}
+use Rattle.comm_core.proofs.infos.listed.Goals as goal
+
+pub loop-id-preserved : goal.loop-id-preserved
+loop-id-preserved c =
+    let done = c.loop-id.invariant.0 in
+    let e : Pair = (c.in-Some.id, c.in-Some.target) in
+    let left = c.next.new.self in (
+      done ++ e ∷ [],
+      c.loop-id.invariant.1 ∙ ap (λ es. done ++ es) c.in-Some.ensures.steps ∙ sym (append_assoc done (e ∷ []) left),
+      c.in_ok-push.ensures.items ∙ ap (λ l. l ++ info_of e ∷ []) c.loop-id.invariant.2 ∙ sym (map-append info_of done (e ∷ [])),
+    )

@@ -1,7 +1,0 @@
-use Rattle.std.proofs.Common.{map}
-use Rattle.std.proofs.lemmas.Result.{on_ok_weaker}
-use Rattle.comm_driver.specs.Stock.{shelved}
-use Rattle.comm_driver.proofs.run.run_with.Goals as goal
-
-pub returns-in-Ok-clause-played : goal.returns-in-Ok-clause-played
-returns-in-Ok-clause-played g c = on_ok_weaker c.play-played.result (λ says. says c.args.limits (shelved (map g.T.Target.means c.args.stock.items)) c.in-Ok.ensures.stands) c.play-played.ensures.played

@@ -1,6 +1,0 @@
-use Rattle.std.proofs.Common.{take}
-use Rattle.comm_driver.specs.Stock.{IsWithout}
-use Rattle.comm_driver.proofs.stock.place_in.Given as goal
-
-abbrev pub invariant-loop-i : goal.invariant-loop-i
-invariant-loop-i g l = IsWithout g.T.Target.means l.word (take l.i l.targets)

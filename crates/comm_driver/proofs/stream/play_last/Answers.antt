@@ -1,8 +1,0 @@
-use Rattle.std.proofs.Common.{sym, ◌∙◌}
-use Rattle.comm_driver.proofs.Playing.{says_last}
-use Rattle.comm_driver.proofs.stream.play_last.Goals as goal
-
-pub returns-clause-says : goal.returns-clause-says
-returns-clause-says g c = λ limits stock input written before.
-    says_last limits stock input c.args.session.now c.line.new.self c.args.number c.args.pending.now written c.args.text.now.items c.line.new.text.items c.requires.one_line (sym c.is_empty.ensures ∙ c.if-is_empty.false) before
-    (c.in_ok-line.ensures.text limits) (c.in_ok-line.ensures.stands limits)

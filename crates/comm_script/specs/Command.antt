@@ -1,0 +1,167 @@
+-- What a line asks for: a command of the kernel where its object has the key `call`, else a message of the frontend.
+use Rattle.std.specs.Prelude.{ℕ, List, Option, Some, None, option_and_then, Result, Ok, Err, codes, if◌then◌else◌, ⊤}
+use Rattle.std.specs.Str.{bytes_eq}
+use Rattle.serde_json.specs.Data.{Data, null, string, array, Members}
+use Rattle.serde_json.specs.Find.{get_member}
+use Rattle.uuid.specs.Text.{parsed}
+use Rattle.comm_value.specs.Tree.{Tree, dict}
+use Rattle.comm_value.specs.Tree as tree
+use Rattle.comm_value.specs.Node.{Path}
+use Rattle.comm_value.specs.FromJson.{tree_of}
+use Rattle.comm_value.specs.Paths.{read_paths}
+use Rattle.comm_value.specs.Put.{placed}
+use Rattle.comm_value.specs.declared.fault.ValueFault.{ValueFault}
+use Rattle.comm_value.specs.declared.fault.ValueFault.TheVariants.{NotWhole}
+use Rattle.comm_messages.specs.Buffers.{buffers_of}
+use Rattle.comm_messages.specs.Fields.{object_in, object_or_empty, text, client_of}
+use Rattle.comm_messages.specs.Message.{message_in, whole_dict, body_of}
+use Rattle.comm_messages.specs.declared.incoming.Incoming.{Incoming}
+use Rattle.comm_messages.specs.declared.incoming.Incoming.TheVariants as incoming
+use Rattle.comm_core.specs.declared.call.Call.TheVariants as call
+use Rattle.comm_core.specs.Ready.{HandsNothingIn}
+use Rattle.comm_script.specs.declared.stock.Word.{Word}
+use Rattle.comm_script.specs.declared.stock.Word.TheVariants as word
+use Rattle.comm_script.specs.Line.{Reading, ◌>>=◌, or_fault, of_message}
+use Rattle.comm_script.specs.declared.asked.Asked.{Asked}
+use Rattle.comm_script.specs.declared.asked.Asked.TheVariants.{Change, Register, Infos, State}
+use Rattle.comm_script.specs.declared.asked.Key.{Key}
+use Rattle.comm_script.specs.declared.asked.Key.TheVariants as key
+use Rattle.comm_script.specs.declared.asked.LineFault.TheVariants.{UnknownCall, BadField, Value, BadUuid}
+
+-- ---- fields
+
+abbrev pub text_field : Key → List ℕ → Members → Reading (List ℕ)
+text_field k name line = or_fault (BadField k) (text (get_member name line))
+
+-- absent or null is an empty object
+abbrev pub object_field : Key → List ℕ → Members → Reading Members
+object_field k name line = or_fault (BadField k) (object_or_empty (get_member name line))
+
+-- absent or null is an empty list
+abbrev pub list_or_empty : Option Data → Reading ⊤
+list_or_empty None = Ok tt
+list_or_empty (Some null) = Ok tt
+list_or_empty (Some (array ds)) = Ok tt
+list_or_empty (Some _) = Err (BadField key.Buffers)
+
+abbrev pub list_field : Members → Reading ⊤
+list_field line = list_or_empty (get_member (codes "buffers") line)
+
+abbrev pub kind_named : List ℕ → Option Word
+kind_named name =
+    if bytes_eq name (codes "echo") then Some word.Echo
+    else if bytes_eq name (codes "counter") then Some word.Counter
+    else if bytes_eq name (codes "widget") then Some word.Widget
+    else None
+
+abbrev pub kind_field : Members → Reading Word
+kind_field line = or_fault (BadField key.Kind) (option_and_then kind_named (text (get_member (codes "kind") line)))
+
+-- ---- a state with its buffers at its paths
+
+abbrev pub whole_value : Option Data → Reading (Option Tree)
+whole_value None = Ok None
+whole_value (Some d) = or_fault (Value NotWhole) (tree_of d) >>= (λ t. Ok (Some t))
+
+abbrev pub members_of : Result Tree ValueFault → Reading tree.Members
+members_of (Ok (dict ms)) = Ok ms
+members_of (Ok t) = Ok tree.no_members
+members_of (Err e) = Err (Value e)
+
+abbrev pub placed_at : Result (List Path) ValueFault → List (List ℕ) → tree.Members → Reading tree.Members
+placed_at (Ok paths) buffers state = members_of (placed paths buffers (dict state))
+placed_at (Err e) buffers state = Err (Value e)
+
+unfoldable pub state_in : Members → Members → Reading tree.Members
+state_in object line = do
+  state ← of_message (whole_dict object)
+  paths ← whole_value (get_member (codes "buffer_paths") line)
+  buffers ← of_message (buffers_of (get_member (codes "buffers") line))
+  placed_at (read_paths paths) buffers state
+
+-- ---- the commands
+
+unfoldable pub register_in : Members → Reading Asked
+register_in line = do
+  kind ← kind_field line
+  name ← text_field key.Name (codes "name") line
+  Ok (Register kind name)
+
+abbrev pub unregister_in : Members → Reading Asked
+unregister_in line = text_field key.Name (codes "name") line >>= (λ name. Ok (Change (call.Unregister name)))
+
+-- the UUID is read last
+abbrev pub launched : List ℕ → List ℕ → tree.Members → Reading Asked
+launched name uuid state = or_fault BadUuid (parsed uuid) >>= (λ id. Ok (Change (call.Launch id name state)))
+
+unfoldable pub launch_in : Members → Reading Asked
+launch_in line = do
+  name ← text_field key.Name (codes "name") line
+  uuid ← text_field key.Uuid (codes "uuid") line
+  object ← object_field key.State (codes "state") line
+  list ← list_field line
+  state_in object line >>= launched name uuid
+
+unfoldable pub push_in : Members → Reading Asked
+push_in line = do
+  id ← text_field key.Id (codes "id") line
+  object ← object_field key.State (codes "state") line
+  list ← list_field line
+  state ← state_in object line
+  Ok (Change (call.Push id state))
+
+unfoldable pub send_in : Members → Reading Asked
+send_in line = do
+  id ← text_field key.Id (codes "id") line
+  object ← object_field key.Data (codes "data") line
+  list ← list_field line
+  body ← of_message (body_of object line)
+  Ok (Change (call.Send id body))
+
+abbrev pub hang_up_in : Members → Reading Asked
+hang_up_in line = text_field key.Id (codes "id") line >>= (λ id. Ok (Change (call.HangUp id)))
+
+abbrev pub state_read_in : Members → Reading Asked
+state_read_in line = text_field key.Id (codes "id") line >>= (λ id. Ok (State id))
+
+abbrev pub command_named : List ℕ → Members → Reading Asked
+command_named name line =
+    if bytes_eq name (codes "register") then register_in line
+    else if bytes_eq name (codes "unregister") then unregister_in line
+    else if bytes_eq name (codes "launch") then launch_in line
+    else if bytes_eq name (codes "push") then push_in line
+    else if bytes_eq name (codes "send") then send_in line
+    else if bytes_eq name (codes "hang_up") then hang_up_in line
+    else if bytes_eq name (codes "state") then state_read_in line
+    else Err UnknownCall
+
+abbrev pub command : Data → Members → Reading Asked
+command (string name) line = command_named name line
+command _ line = Err UnknownCall
+
+-- ---- a line
+
+abbrev pub asked_by_message : Incoming → Asked
+asked_by_message (incoming.Open id target version body) = Change (call.Open id target version body)
+asked_by_message (incoming.Msg id body) = Change (call.Msg id body)
+asked_by_message (incoming.Close id) = Change (call.Close id)
+asked_by_message (incoming.InfoRequest target) = Infos target
+
+abbrev pub asked_by : Option Data → ℕ → Members → Reading (ℕ × Asked)
+asked_by None clients line = of_message (message_in clients line) >>= (λ m. Ok (m.0, asked_by_message m.1))
+asked_by (Some name) clients line =
+    of_message (client_of clients (get_member (codes "client") line)) >>= (λ client. command name line >>= (λ asked. Ok (client, asked)))
+
+abbrev pub asked_in : ℕ → Members → Reading (ℕ × Asked)
+asked_in clients line = asked_by (get_member (codes "call") line) clients line
+
+-- the client, and what it asks for
+abbrev pub asked : ℕ → List ℕ → Reading (ℕ × Asked)
+asked clients bytes = of_message (object_in bytes) >>= asked_in clients
+
+-- a change that is asked for hands no target in: a register takes one out of the stock
+abbrev pub HandsNothing : Asked → Type 0
+HandsNothing (Change c) = HandsNothingIn c
+HandsNothing (Register kind name) = Unit {0}
+HandsNothing (Infos target) = Unit {0}
+HandsNothing (State id) = Unit {0}

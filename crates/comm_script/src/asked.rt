@@ -1,0 +1,83 @@
+ghost use Rattle.std.specs.Prelude.{◌≡◌};
+ghost use Rattle.comm_script.specs.declared.asked.LineFault.TheVariants.{Message, Value};
+
+use crate::stock::Word;
+use comm_core::Call;
+use comm_messages::MessageFault;
+use comm_value::{Text, ValueFault};
+use std::alloc::AllocError;
+
+/// What a line asks for.
+#[derive(Drop)]
+pub enum Asked {
+    /// A change of the manager.
+    Change(Call),
+    /// The registration of the first target of this kind that the stock has.
+    Register { kind: Word, name: Text },
+    /// The open comms, those of one target where a name is given.
+    Infos { target: Option<Text> },
+    /// The state of a comm.
+    State { id: Text },
+}
+
+/// A key of a command that can be of the wrong type.
+#[derive(Clone, Copy, Debug, PartialEq, Eq, Drop)]
+pub enum Key {
+    /// `kind`: one of the words `echo`, `counter`, `widget`.
+    Kind,
+    /// `name`, a text.
+    Name,
+    /// `uuid`, a text.
+    Uuid,
+    /// `state`, an object.
+    State,
+    /// `id`, a text.
+    Id,
+    /// `data`, an object.
+    Data,
+    /// `buffers`, a list.
+    Buffers,
+}
+
+/// Why a line can't be read: the first test that it fails.
+#[derive(Clone, Copy, Debug, PartialEq, Eq, Drop)]
+pub enum LineFault {
+    /// A part that messages have too.
+    Message(MessageFault),
+    /// The command's name isn't known.
+    UnknownCall,
+    /// This key of the command is missing or of the wrong type.
+    BadField(Key),
+    /// A number in the state or its paths isn't whole, or a buffer can't be placed.
+    Value(ValueFault),
+    /// The `uuid` isn't one.
+    BadUuid,
+    /// No target of this kind is left.
+    NoStock,
+}
+
+impl From<MessageFault> for LineFault {
+    ghost from_gives = { λ e f. f ≡ Message e };
+
+    fn from(e: MessageFault) -> LineFault {
+        LineFault::Message(e)
+    }
+}
+
+impl From<ValueFault> for LineFault {
+    ghost from_gives = { λ e f. f ≡ Value e };
+
+    fn from(e: ValueFault) -> LineFault {
+        LineFault::Value(e)
+    }
+}
+
+impl From<AllocError> for LineFault {
+    ghost use Rattle.comm_messages.specs.declared.fault.MessageFault.TheVariants.{Memory};
+
+    ghost from_gives = { λ _ f. f ≡ Message Memory };
+
+    fn from(_e: AllocError) -> LineFault {
+        LineFault::Message(MessageFault::Memory)
+    }
+}

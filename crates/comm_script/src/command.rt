@@ -1,0 +1,264 @@
+ghost use Rattle.std.specs.Prelude.{◌≡◌, Ok, IfOk, IfErr, option_map};
+ghost use Rattle.comm_json.specs.Seen.{seen as of_ref};
+ghost use Rattle.comm_value.specs.View.{tree};
+ghost use Rattle.comm_messages.specs.Fields.{seen, fields};
+ghost use Rattle.comm_value.specs.Paths.{read_paths, Refuses};
+ghost use Rattle.comm_script.specs.Line.{Gives};
+ghost use Rattle.comm_script.specs.Command.{text_field, object_field, list_or_empty, list_field, kind_named, kind_field, whole_value, placed_at, state_in, register_in, unregister_in, launched, launch_in, push_in, send_in, hang_up_in, state_read_in, command_named, command, HandsNothing};
+ghost use Rattle.uuid.specs.Text.{parsed};
+ghost use Rattle.comm_script.specs.Line.{or_fault};
+ghost use Rattle.comm_script.specs.declared.asked.LineFault.TheVariants.{BadUuid};
+
+use crate::asked::{Asked, Key, LineFault};
+use crate::stock::Word;
+use comm_core::Call;
+use comm_json::{JsonRef, Shape};
+use comm_messages::{Fields, body_of, buffers_of, member, object_or_empty, text, whole_dict};
+use comm_value::{Buffers, Dict, Path, Text, Val, ValueFault, paths_of, put_all};
+use std::alloc::Global;
+use uuid::Uuid;
+
+fn text_field<'v>(key: Key, name: &str, line: Fields<'v, '_>) -> Result<&'v str, LineFault>
+    ensures { Gives (λ t. t.now) result (text_field key name.now (fields line.entry)) }
+{
+    match text(member(line, name)) {
+        Some(text) => Ok(text),
+        None => Err(LineFault::BadField(key)),
+    }
+}
+
+fn object_field<'v, 'a>(
+    key: Key,
+    name: &str,
+    line: Fields<'v, 'a>,
+) -> Result<Fields<'v, 'a>, LineFault>
+    ensures { Gives fields result (object_field key name.now (fields line.entry)) }
+{
+    match object_or_empty(member(line, name)) {
+        Some(object) => Ok(object),
+        None => Err(LineFault::BadField(key)),
+    }
+}
+
+// Whether the buffers are a list; absent or null is an empty one.
+fn list_field(line: Fields<'_, '_>) -> Result<(), LineFault>
+    ensures { Gives (λ u. u) result (list_field (fields line.entry)) }
+{
+    let Some(buffers) = member(line, "buffers") else {
+        return Ok(());
+    };
+    match buffers.shape() {
+        Shape::Null | Shape::Items(_) => Ok(()),
+        Shape::Bool(_) | Shape::Number(_) | Shape::Text(_) | Shape::Object(_) => Err(
+            LineFault::BadField(Key::Buffers),
+        ),
+    }
+}
+
+fn kind_named(name: &str) -> Option<Word>
+    ensures { result ≡ kind_named name.now }
+{
+    if name == "echo" {
+        Some(Word::Echo)
+    } else if name == "counter" {
+        Some(Word::Counter)
+    } else if name == "widget" {
+        Some(Word::Widget)
+    } else {
+        None
+    }
+}
+
+fn kind_field(line: Fields<'_, '_>) -> Result<Word, LineFault>
+    ensures { Gives (λ k. k) result (kind_field (fields line.entry)) }
+{
+    match text(member(line, "kind")) {
+        Some(name) => match kind_named(name) {
+            Some(kind) => Ok(kind),
+            None => Err(LineFault::BadField(Key::Kind)),
+        },
+        None => Err(LineFault::BadField(Key::Kind)),
+    }
+}
+
+fn whole_value(alloc: Global, json: Option<JsonRef<'_, '_>>) -> Result<Option<Val>, LineFault>
+    ensures { Gives (λ v. option_map tree v) result (whole_value (seen json.entry)) }
+{
+    match json {
+        None => Ok(None),
+        Some(json) => Ok(Some(Val::from_ref(alloc, json)?)),
+    }
+}
+
+fn paths_in(alloc: Global, value: &Option<Val>) -> Result<Vec<Path>, ValueFault>
+    ensures read { IfOk result (λ ps. read_paths (option_map tree value.now) ≡ Ok ps.items) }
+    ensures fault { IfErr result (λ e. Refuses e (read_paths (option_map tree value.now))) }
+{
+    match value {
+        Some(value) => paths_of(alloc, Some(value)),
+        None => paths_of(alloc, None),
+    }
+}
+
+fn placed_at(
+    alloc: Global,
+    paths: Option<Val>,
+    buffers: Buffers,
+    state: Dict,
+) -> Result<Dict, LineFault>
+    ensures { Gives (λ d. d) result (placed_at (read_paths (option_map tree paths)) buffers state) }
+{
+    match paths_in(alloc, &paths) {
+        Ok(paths) => match put_all(alloc, state, &paths, buffers) {
+            Ok(state) => Ok(state),
+            Err(fault) => Err(LineFault::Value(fault)),
+        },
+        Err(fault) => Err(LineFault::Value(fault)),
+    }
+}
+
+// A state with the buffers at their paths.
+#[tactic(auto, unfolding(crate::specs::Command::state_in))]
+fn state_in(alloc: Global, object: Fields<'_, '_>, line: Fields<'_, '_>) -> Result<Dict, LineFault>
+    ensures { Gives (λ d. d) result (state_in (fields object.entry) (fields line.entry)) }
+{
+    let state = whole_dict(alloc, object)?;
+    let paths = whole_value(alloc, member(line, "buffer_paths"))?;
+    let buffers = buffers_of(alloc, member(line, "buffers"))?;
+    placed_at(alloc, paths, buffers, state)
+}
+
+#[tactic(auto, unfolding(crate::specs::Command::register_in))]
+fn register_in(alloc: Global, line: Fields<'_, '_>) -> Result<Asked, LineFault>
+    ensures asked { Gives (λ a. a) result (register_in (fields line.entry)) }
+    ensures handless { IfOk result HandsNothing }
+{
+    let kind = kind_field(line)?;
+    let name = text_field(Key::Name, "name", line)?;
+    let name = Text::copy_of(alloc, name)?;
+    Ok(Asked::Register { kind, name })
+}
+
+fn unregister_in(alloc: Global, line: Fields<'_, '_>) -> Result<Asked, LineFault>
+    ensures asked { Gives (λ a. a) result (unregister_in (fields line.entry)) }
+    ensures handless { IfOk result HandsNothing }
+{
+    let name = text_field(Key::Name, "name", line)?;
+    let name = Text::copy_of(alloc, name)?;
+    Ok(Asked::Change(Call::Unregister { name }))
+}
+
+fn uuid_of(text: &str) -> Result<Uuid, LineFault>
+    ensures { Gives (λ u. u) result (or_fault BadUuid (parsed text.now)) }
+{
+    match Uuid::parse_str(text) {
+        Ok(uuid) => Ok(uuid),
+        Err(_) => Err(LineFault::BadUuid),
+    }
+}
+
+fn launched(alloc: Global, name: &str, uuid: &str, state: Dict) -> Result<Asked, LineFault>
+    ensures asked { Gives (λ a. a) result (launched name.now uuid.now state) }
+    ensures handless { IfOk result HandsNothing }
+{
+    let id = uuid_of(uuid)?;
+    let target = Text::copy_of(alloc, name)?;
+    Ok(Asked::Change(Call::Launch { id, target, state }))
+}
+
+#[tactic(auto, unfolding(crate::specs::Command::launch_in))]
+fn launch_in(alloc: Global, line: Fields<'_, '_>) -> Result<Asked, LineFault>
+    ensures asked { Gives (λ a. a) result (launch_in (fields line.entry)) }
+    ensures handless { IfOk result HandsNothing }
+{
+    let name = text_field(Key::Name, "name", line)?;
+    let uuid = text_field(Key::Uuid, "uuid", line)?;
+    let object = object_field(Key::State, "state", line)?;
+    list_field(line)?;
+    let state = state_in(alloc, object, line)?;
+    launched(alloc, name, uuid, state)
+}
+
+#[tactic(auto, unfolding(crate::specs::Command::push_in))]
+fn push_in(alloc: Global, line: Fields<'_, '_>) -> Result<Asked, LineFault>
+    ensures asked { Gives (λ a. a) result (push_in (fields line.entry)) }
+    ensures handless { IfOk result HandsNothing }
+{
+    let id = text_field(Key::Id, "id", line)?;
+    let object = object_field(Key::State, "state", line)?;
+    list_field(line)?;
+    let state = state_in(alloc, object, line)?;
+    let id = Text::copy_of(alloc, id)?;
+    Ok(Asked::Change(Call::Push { id, state }))
+}
+
+#[tactic(auto, unfolding(crate::specs::Command::send_in))]
+fn send_in(alloc: Global, line: Fields<'_, '_>) -> Result<Asked, LineFault>
+    ensures asked { Gives (λ a. a) result (send_in (fields line.entry)) }
+    ensures handless { IfOk result HandsNothing }
+{
+    let id = text_field(Key::Id, "id", line)?;
+    let object = object_field(Key::Data, "data", line)?;
+    list_field(line)?;
+    let body = body_of(alloc, object, line)?;
+    let id = Text::copy_of(alloc, id)?;
+    Ok(Asked::Change(Call::Send { id, body }))
+}
+
+fn hang_up_in(alloc: Global, line: Fields<'_, '_>) -> Result<Asked, LineFault>
+    ensures asked { Gives (λ a. a) result (hang_up_in (fields line.entry)) }
+    ensures handless { IfOk result HandsNothing }
+{
+    let id = text_field(Key::Id, "id", line)?;
+    let id = Text::copy_of(alloc, id)?;
+    Ok(Asked::Change(Call::HangUp { id }))
+}
+
+fn state_read_in(alloc: Global, line: Fields<'_, '_>) -> Result<Asked, LineFault>
+    ensures asked { Gives (λ a. a) result (state_read_in (fields line.entry)) }
+    ensures handless { IfOk result HandsNothing }
+{
+    let id = text_field(Key::Id, "id", line)?;
+    let id = Text::copy_of(alloc, id)?;
+    Ok(Asked::State { id })
+}
+
+fn command_named(alloc: Global, name: &str, line: Fields<'_, '_>) -> Result<Asked, LineFault>
+    ensures asked { Gives (λ a. a) result (command_named name.now (fields line.entry)) }
+    ensures handless { IfOk result HandsNothing }
+{
+    if name == "register" {
+        register_in(alloc, line)
+    } else if name == "unregister" {
+        unregister_in(alloc, line)
+    } else if name == "launch" {
+        launch_in(alloc, line)
+    } else if name == "push" {
+        push_in(alloc, line)
+    } else if name == "send" {
+        send_in(alloc, line)
+    } else if name == "hang_up" {
+        hang_up_in(alloc, line)
+    } else if name == "state" {
+        state_read_in(alloc, line)
+    } else {
+        Err(LineFault::UnknownCall)
+    }
+}
+
+/// What a command asks for: a line with the key `call`, whose value is handed in.
+pub fn command(
+    alloc: Global,
+    call: JsonRef<'_, '_>,
+    line: Fields<'_, '_>,
+) -> Result<Asked, LineFault>
+    ensures asked { Gives (λ a. a) result (command (of_ref call.entry) (fields line.entry)) }
+    ensures handless { IfOk result HandsNothing }
+{
+    match call.shape() {
+        Shape::Text(name) => command_named(alloc, name, line),
+        Shape::Null | Shape::Bool(_) | Shape::Number(_) | Shape::Items(_) | Shape::Object(_) => Err(
+            LineFault::UnknownCall,
+        ),
+    }
+}

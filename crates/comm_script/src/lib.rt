@@ -1,0 +1,20 @@
+//! Plays scripts of comm messages and commands over a manager: a script is lines of JSON, and what is said to it is a text.
+//!
+//! [`run_with`] plays a script with a stock of targets of one type, [`run`] with boxes; [`add`] puts an idle target into a stock, and a
+//! [`RunFault`] says why a script wasn't played to its end.
+#![tactic(auto)]
+
+mod asked;
+mod command;
+mod fault;
+mod line;
+mod lines;
+mod running;
+mod session;
+mod stock;
+mod stream;
+mod words;
+
+pub use fault::RunFault;
+pub use running::{run, run_with};
+pub use stock::add;

@@ -1,0 +1,68 @@
+ghost use Rattle.std.specs.Prelude.{◌≡◌, ◌<◌, IfOk};
+ghost use Rattle.comm_messages.specs.Fields.{fields};
+ghost use Rattle.comm_script.specs.Line.{Gives};
+ghost use Rattle.comm_script.specs.Command.{asked_by_message, asked_in, asked, HandsNothing};
+
+use crate::asked::{Asked, LineFault};
+use crate::command::command;
+use comm_core::Call;
+use comm_messages::{Fields, Incoming, client_of, fields_of, member, message_in, object_in};
+use json::Scratch;
+use std::alloc::Global;
+
+fn asked_by_message(incoming: Incoming) -> Asked
+    ensures asked { result ≡ asked_by_message incoming }
+    ensures handless { HandsNothing result }
+{
+    match incoming {
+        Incoming::Open {
+            id,
+            target,
+            version,
+            body,
+        } => Asked::Change(Call::Open {
+            id,
+            target,
+            version,
+            body,
+        }),
+        Incoming::Msg { id, body } => Asked::Change(Call::Msg { id, body }),
+        Incoming::Close { id } => Asked::Change(Call::Close { id }),
+        Incoming::InfoRequest { target } => Asked::Infos { target },
+    }
+}
+
+fn asked_in(alloc: Global, line: Fields<'_, '_>, clients: u8) -> Result<(u8, Asked), LineFault>
+    requires { 0 < clients }
+    ensures asked { Gives (λ r. (r.0, r.1)) result (asked_in clients (fields line.entry)) }
+    ensures below { IfOk result (λ r. r.0 < clients) }
+    ensures handless { IfOk result (λ r. HandsNothing r.1) }
+{
+    match member(line, "call") {
+        None => {
+            let (client, incoming) = message_in(alloc, line, clients)?;
+            Ok((client, asked_by_message(incoming)))
+        }
+        Some(call) => {
+            let client = client_of(member(line, "client"), clients)?;
+            let asked = command(alloc, call, line)?;
+            Ok((client, asked))
+        }
+    }
+}
+
+/// The client, and what it asks for by a line. The scratch serves the reading, and can be kept from line to line.
+pub fn asked(
+    alloc: Global,
+    line: &[u8],
+    clients: u8,
+    scratch: &mut Scratch,
+) -> Result<(u8, Asked), LineFault>
+    requires { 0 < clients }
+    ensures asked { Gives (λ r. (r.0, r.1)) result (asked clients line.now) }
+    ensures below { IfOk result (λ r. r.0 < clients) }
+    ensures handless { IfOk result (λ r. HandsNothing r.1) }
+{
+    let object = object_in(alloc, line, scratch)?;
+    asked_in(alloc, fields_of(&object), clients)
+}

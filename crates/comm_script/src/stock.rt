@@ -1,0 +1,101 @@
+ghost use Rattle.std.specs.Prelude.{◌≡◌, ◌<◌, ◌++◌, [], ◌∷◌, true, IfSome, IfNone, OnOk, OnSome, map, option_map, option_to_list};
+ghost use Rattle.std.specs.Option.{ForSome};
+ghost use Rattle.comm_targets.specs.Meaning.{Meaning, IsIdle};
+ghost use Rattle.comm_script.specs.Stock.{has_kind, first_of, rest_of, registered_of, shelved, AreIdle, IsPlace, IsWithout};
+
+use comm_targets::{Kind, Target};
+use std::alloc::AllocError;
+use std::marker::Model;
+
+/// A kind of target that a script can register.
+#[derive(Clone, Copy, Debug, PartialEq, Eq, Drop)]
+pub enum Word {
+    Echo,
+    Counter,
+    Widget,
+}
+
+fn has_kind(word: Word, kind: Kind) -> bool
+    ensures { result ≡ has_kind word kind }
+{
+    match (word, kind) {
+        (Word::Echo, Kind::Echo) => true,
+        (Word::Counter, Kind::Counter) => true,
+        (Word::Widget, Kind::Widget) => true,
+        _ => false,
+    }
+}
+
+// Where the first target of the kind stands.
+fn place_in<T: Target>(targets: &[T], word: Word) -> Option<usize>
+    ensures found { IfSome result (λ i. IsPlace T.means word targets.now i) }
+    ensures none { IfNone result (IsWithout T.means word targets.now) }
+{
+    for (i, target) in targets.iter().enumerate() {
+        if has_kind(word, target.kind()) {
+            return Some(i);
+        }
+    }
+    None
+}
+
+/// The targets that scripts register, each of them idle.
+#[derive(Drop)]
+pub struct Stock<T: Target> {
+    targets: Vec<T>,
+}
+
+impl<T: Target> Model for Stock<T> {
+    ghost use Rattle.std.specs.Prelude.{map, vec_len, vec_capacity, ◌-◌};
+    ghost use Rattle.comm_script.specs.Stock.{Shelf, shelved, AreIdle};
+
+    ghost Value = { Shelf };
+
+    ghost view = { λ s. record { targets = shelved (map T.means s.targets.items); room = vec_capacity s.targets - vec_len s.targets } };
+
+    ghost invariant = { λ s. AreIdle (map T.means s.targets.items) };
+}
+
+impl<T: Target> Stock<T> {
+    pub fn new(targets: Vec<T>) -> Stock<T>
+        requires { AreIdle (map T.means targets.items) }
+        ensures { result.targets ≡ shelved (map T.means targets.items) }
+    {
+        Stock { targets }
+    }
+
+    /// The first target of the kind, and there is room to put it back.
+    pub fn take(&mut self, word: Word) -> Option<T>
+        ensures taken { option_map (λ t. registered_of (T.means t)) result ≡ first_of word self.old.targets }
+        ensures targets { self.new.targets ≡ rest_of word self.old.targets }
+        ensures idle { IfSome result (λ t. IsIdle (T.means t)) }
+        ensures room { OnSome result (0 < self.new.room) }
+    {
+        match place_in(&self.targets, word) {
+            Some(i) => Some(self.targets.remove(i)),
+            None => None,
+        }
+    }
+
+    /// Puts a target, where there is one, at the end.
+    pub fn put_back(&mut self, back: Option<T>)
+        requires idle { ForSome back (λ t. IsIdle (T.means t)) }
+        requires room { 0 < self.old.room }
+        ensures { self.new.targets ≡ self.old.targets ++ option_to_list (option_map (λ t. registered_of (T.means t)) back) }
+    {
+        if let Some(target) = back {
+            self.targets.push_reserved(target);
+        }
+    }
+}
+
+/// Puts an idle target at the end of a stock. Err: memory; the target was let go then.
+pub fn add<T: Target>(stock: &mut Vec<T>, target: T) -> Result<(), AllocError>
+    requires target { IsIdle (T.means target) }
+    requires stock { AreIdle (map T.means stock.old.items) }
+    ensures added { OnOk result (stock.new.items ≡ stock.old.items ++ target ∷ []) }
+    ensures idle { OnOk result (AreIdle (map T.means stock.new.items)) }
+{
+    stock.push(target)?;
+    Ok(())
+}

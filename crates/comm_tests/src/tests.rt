@@ -1,0 +1,11 @@
+//! A file or two for each crate that has tests (`heaps` is of `comm_fakes`, `writing` of `comm_messages`), and `script` for all of them
+//! together.
+mod core_steps;
+mod heaps;
+mod lines;
+mod messages;
+mod script;
+mod targets;
+mod value;
+mod widget;
+mod writing;

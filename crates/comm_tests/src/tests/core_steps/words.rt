@@ -1,0 +1,105 @@
+//! What the tests send and compare, as values and in words.
+use comm_core::{Refusal, Reply};
+use comm_messages::{Body, Outgoing, Parent, write_message};
+use comm_value::{Buffers, Dict, Text, Val, Whole};
+use std::alloc::{AllocError, Global};
+use std::test::Fail;
+
+/// `{key:1}`
+pub(super) fn one(alloc: Global, key: &str) -> Result<Dict, AllocError> {
+    let key = Text::copy_of(alloc, key)?;
+    let value = match Whole::new(1) {
+        Some(whole) => Val::Whole(whole),
+        None => Val::Null,
+    };
+    Dict::new().insert(alloc, key, value)
+}
+
+/// The body `{"n":1}`, without buffers, or `{}`.
+pub(super) fn body(alloc: Global, empty: bool) -> Result<Body, Fail> {
+    let content = if empty { Dict::new() } else { one(alloc, "n")? };
+    if content.has_bytes() {
+        return Err(Fail::new("bytes in a content"));
+    }
+    Ok(Body::new(content, Buffers::none(alloc)))
+}
+
+/// A reply in words.
+pub(super) fn words(alloc: Global, reply: &Reply) -> Result<String, AllocError> {
+    match reply {
+        Reply::Registered => String::from_str(alloc, "registered"),
+        Reply::NameTaken => String::from_str(alloc, "name_taken"),
+        Reply::Opened => String::from_str(alloc, "opened"),
+        Reply::IdInUse => String::from_str(alloc, "id_in_use"),
+        Reply::OpenRefused(Refusal::NoTarget) => String::from_str(alloc, "refused no_target"),
+        Reply::OpenRefused(Refusal::TooManyComms) => String::from_str(
+            alloc,
+            "refused too_many_comms",
+        ),
+        Reply::OpenRefused(Refusal::Fault(fault)) => format!(in alloc; "refused, {fault}"),
+        Reply::Delivered(Some(_)) => String::from_str(alloc, "custom"),
+        Reply::Delivered(None) => String::from_str(alloc, "delivered"),
+        Reply::Fault(fault) => format!(in alloc; "fault, {fault}"),
+        Reply::NoComm => String::from_str(alloc, "no_comm"),
+        Reply::Closed => String::from_str(alloc, "closed"),
+        Reply::Unregistered(ids) => {
+            let mut text = String::from_str(alloc, "unregistered")?;
+            for id in ids.as_slice() {
+                text.push_str(" ")?;
+                text.push_str(id.as_str())?;
+            }
+            Ok(text)
+        }
+        Reply::NoTarget => String::from_str(alloc, "no_target"),
+        Reply::Launched => String::from_str(alloc, "launched"),
+        Reply::NotWidget => String::from_str(alloc, "not_widget"),
+    }
+}
+
+/// A reply, and the messages that go out with it as answers to call 7 of client 0, a line each.
+pub(super) fn shown(alloc: Global, reply: &Reply, outgoing: &[Outgoing]) -> Result<String, Fail> {
+    let mut text = words(alloc, reply)?;
+    for message in outgoing {
+        let parent = Parent::Call {
+            client: 0,
+            number: 7,
+        };
+        if let Outgoing::InfoReply { .. } = message {
+            return Err(Fail::new("an info reply"));
+        }
+        let bytes = write_message(alloc, message, &parent)?;
+        text.push_str("\n")?;
+        match std::str::from_utf8(&bytes) {
+            Ok(line) => text.push_str(line)?,
+            Err(_) => text.push_str("?")?,
+        }
+    }
+    Ok(text)
+}
+
+pub(super) fn same(alloc: Global, got: &str, want: &str) -> Result<(), Fail> {
+    if got != want {
+        return Err(Fail::new(format!(in alloc; "{got} in place of {want}")?));
+    }
+    Ok(())
+}
+
+pub(super) fn holds(fact: bool) -> Result<(), Fail> {
+    if !fact {
+        return Err(Fail::new("a fact does not hold"));
+    }
+    Ok(())
+}
+
+/// A reply and one message, as `shown` gives them.
+pub(super) fn with(
+    alloc: Global,
+    reply: &str,
+    kind: &str,
+    id: &str,
+    data: &str,
+) -> Result<String, AllocError> {
+    format!(in alloc;
+        "{reply}\n{{\"buffers\":[],\"call\":7,\"client\":0,\"content\":{{\"comm_id\":\"{id}\",\"data\":{data}}},\"header\":{{\"msg_type\":\"{kind}\"}},\"metadata\":{{}}}}"
+    )
+}

@@ -1,0 +1,101 @@
+mod ends;
+mod frontends;
+mod kernels;
+mod refusals;
+mod streams;
+mod widgets;
+
+use comm_core::Limits;
+use comm_fakes::{Pieces, Sink, Then};
+use comm_script::{RunFault, add, run};
+use comm_targets::{Counter, Echo, Target};
+use std::alloc::Global;
+use std::io::ErrorKind;
+use std::process::Abort;
+use std::test::Fail;
+use widget_target::WidgetTarget;
+
+/// How many comms there may be, at most.
+const MOST: usize = 4096;
+
+/// More than any answer here is long.
+const ROOM: usize = 8192;
+
+/// A script and what must be written for it.
+struct Row {
+    name: &'static str,
+    comms: usize,
+    script: &'static [u8],
+    answers: &'static [u8],
+}
+
+/// The program's limits, but for the number of comms.
+const fn limits(comms: usize) -> Limits {
+    Limits {
+        clients: 4,
+        comms,
+        history: 1_000_000,
+        outbox: 64,
+    }
+}
+
+/// Plays a script with two targets of each kind in stock.
+fn play(
+    alloc: Global,
+    reader: &mut Pieces<'_>,
+    writer: &mut Sink,
+    limits: Limits,
+) -> Result<(), RunFault> {
+    let mut stock = Vec::new(alloc);
+    let echo: Box<dyn Target> = Box::new(alloc, Echo::new(alloc))?;
+    add(&mut stock, echo)?;
+    let echo: Box<dyn Target> = Box::new(alloc, Echo::new(alloc))?;
+    add(&mut stock, echo)?;
+    let counter: Box<dyn Target> = Box::new(alloc, Counter::new(alloc))?;
+    add(&mut stock, counter)?;
+    let counter: Box<dyn Target> = Box::new(alloc, Counter::new(alloc))?;
+    add(&mut stock, counter)?;
+    let widget: Box<dyn Target> = Box::new(alloc, WidgetTarget::new(alloc))?;
+    add(&mut stock, widget)?;
+    let widget: Box<dyn Target> = Box::new(alloc, WidgetTarget::new(alloc))?;
+    add(&mut stock, widget)?;
+    run(alloc, reader, writer, limits, stock)
+}
+
+/// The row's answers are written, however many bytes are read and written at a time.
+fn gives(rt: &impl Abort, alloc: Global, row: &Row, read: usize, write: usize) -> Result<(), Fail> {
+    let mut reader = Pieces::new(row.script, read, 0, ErrorKind::Other);
+    let mut writer = Sink::new(alloc, ROOM, write, 0, Then::TakeNothing)?;
+    let result = play(alloc, &mut reader, &mut writer, limits(row.comms));
+    let name = row.name;
+    assert!(rt; result.is_ok(), "{name}, by {read} and {write}");
+    assert!(rt;
+        writer.taken() == row.answers,
+        "{name}, by {read} and {write}"
+    );
+    Ok(())
+}
+
+fn all_give(rt: &impl Abort, alloc: Global, rows: &[Row]) -> Result<(), Fail> {
+    for row in rows {
+        for (read, write) in [(4096, 4096), (1, 4096), (4096, 1), (7, 3)] {
+            gives(rt, alloc, row, read, write)?;
+        }
+    }
+    Ok(())
+}
+
+#[test]
+fn frontends_are_answered(rt: HostRuntime) -> Result<(), Fail> {
+    all_give(&rt, rt.alloc(), &frontends::ROWS)
+}
+
+#[test]
+fn commands_are_answered(rt: HostRuntime) -> Result<(), Fail> {
+    all_give(&rt, rt.alloc(), &kernels::ROWS)
+}
+
+#[test]
+fn widgets_are_answered(rt: HostRuntime) -> Result<(), Fail> {
+    all_give(&rt, rt.alloc(), &widgets::ROWS)
+}

@@ -1,0 +1,163 @@
+// Each target that was registered is ended once, when no comm of it is open, however the run ends.
+ghost use Rattle.std.specs.Prelude.{◌≡◌, [], None};
+
+use super::{MOST, ROOM, limits};
+use comm_fakes::{Pieces, Sink, Then, refuse, was_refused};
+use comm_script::{RunFault, add, run};
+use comm_targets::{Answer, Echo, Event, Kind, Target, TargetFault};
+use comm_value::Dict;
+use std::alloc::Global;
+use std::io::ErrorKind;
+use std::process::Abort;
+use std::sync::Arc;
+use std::sync::atomic::{AtomicU64, Ordering};
+use std::test::Fail;
+
+/// An echo that counts its ends: 1 for each where no comm is open, else 100.
+#[derive(Drop)]
+struct Counted {
+    echo: Echo,
+    ends: Arc<AtomicU64>,
+}
+
+impl Counted {
+    fn new(alloc: Global, ends: Arc<AtomicU64>) -> Counted
+        ensures { ⟦<Counted as Target>⟧.means result ≡ record { kind = Kind.Echo; notes = 0; ids = []; staged = None } }
+    {
+        Counted {
+            echo: Echo::new(alloc),
+            ends,
+        }
+    }
+}
+
+impl Target for Counted {
+    ghost means = { λ c. ⟦<Echo as Target>⟧.means c.echo };
+
+    fn kind(&self) -> Kind {
+        self.echo.kind()
+    }
+
+    fn notes(&self) -> u64 {
+        self.echo.notes()
+    }
+
+    fn idle(&self) -> bool {
+        self.echo.idle()
+    }
+
+    fn prepare(&mut self, event: &Event, now: Option<&Dict>) -> Result<Answer, TargetFault> {
+        self.echo.prepare(event, now)
+    }
+
+    fn commit(&mut self) {
+        self.echo.commit();
+    }
+
+    fn abandon(&mut self) {
+        self.echo.abandon();
+    }
+
+    fn close(&mut self, id: &str) {
+        self.echo.close(id);
+    }
+
+    fn stop(&mut self) {
+        let ended = if self.echo.idle() { 1 } else { 100 };
+        let _before = self.ends.fetch_add(ended, Ordering::SeqCst);
+    }
+}
+
+const REGISTERED: &[u8] = b"{\"call\":\"register\",\"kind\":\"echo\",\"name\":\"t\"}\n";
+
+/// A registration, an open and a message.
+pub const SCRIPT: &[u8] = br#"{"call":"register","kind":"echo","name":"t"}
+{"header":{"msg_type":"comm_open"},"content":{"comm_id":"a","target_name":"t","data":{}}}
+{"header":{"msg_type":"comm_msg"},"content":{"comm_id":"a","data":{"n":1}}}
+"#;
+
+/// Plays the script with one such target in stock.
+fn play(
+    alloc: Global,
+    reader: &mut Pieces<'_>,
+    writer: &mut Sink,
+    ends: &Arc<AtomicU64>,
+) -> Result<(), RunFault> {
+    let mut stock = Vec::new(alloc);
+    let target: Box<dyn Target> = Box::new(alloc, Counted::new(alloc, Arc::try_clone(ends)?))?;
+    add(&mut stock, target)?;
+    run(alloc, reader, writer, limits(MOST), stock)
+}
+
+#[test]
+fn a_target_ends_where_the_input_ends(rt: HostRuntime) -> Result<(), Fail> {
+    let alloc = rt.alloc();
+    let ends = Arc::new(alloc, AtomicU64::new(0))?;
+    let mut reader = Pieces::new(SCRIPT, 64, 0, ErrorKind::Other);
+    let mut writer = Sink::new(alloc, ROOM, ROOM, 0, Then::TakeNothing)?;
+    assert!(rt; play(alloc, &mut reader, &mut writer, &ends) == Ok(()));
+    assert!(rt; ends.load(Ordering::SeqCst) == 1);
+    Ok(())
+}
+
+#[test]
+fn a_target_ends_after_a_read_fault(rt: HostRuntime) -> Result<(), Fail> {
+    let alloc = rt.alloc();
+    for call in 1..10_000u64 {
+        let ends = Arc::new(alloc, AtomicU64::new(0))?;
+        let mut reader = Pieces::new(SCRIPT, 1, call, ErrorKind::Other);
+        let mut writer = Sink::new(alloc, ROOM, ROOM, 0, Then::TakeNothing)?;
+        let result = play(alloc, &mut reader, &mut writer, &ends);
+        if reader.calls() < call {
+            return Ok(());
+        }
+        let is_registered = call > REGISTERED.len() as u64;
+        assert!(rt; result == Err(RunFault::Read), "at {call}");
+        assert!(rt;
+            ends.load(Ordering::SeqCst) == u64::from(is_registered),
+            "at {call}"
+        );
+    }
+    panic!(rt; "it never answered");
+}
+
+#[test]
+fn a_target_ends_after_a_write_fault(rt: HostRuntime) -> Result<(), Fail> {
+    let alloc = rt.alloc();
+    for call in 1..10_000u64 {
+        let ends = Arc::new(alloc, AtomicU64::new(0))?;
+        let mut reader = Pieces::new(SCRIPT, 64, 0, ErrorKind::Other);
+        let mut writer = Sink::new(alloc, ROOM, 7, call, Then::Fail(ErrorKind::Other))?;
+        let result = play(alloc, &mut reader, &mut writer, &ends);
+        if writer.calls() < call {
+            return Ok(());
+        }
+        assert!(rt; result == Err(RunFault::Write), "at {call}");
+        assert!(rt; ends.load(Ordering::SeqCst) == 1, "at {call}");
+    }
+    panic!(rt; "it never answered");
+}
+
+/// After a refused allocation, too: what was said tells whether the target had been registered.
+#[test]
+fn refused_run_ends_its_target(rt: HostRuntime) -> Result<(), Fail> {
+    let alloc = rt.alloc();
+    for number in 1..100_000u32 {
+        let ends = Arc::new(alloc, AtomicU64::new(0))?;
+        let mut reader = Pieces::new(SCRIPT, 64, 0, ErrorKind::Other);
+        let mut writer = Sink::new(alloc, ROOM, ROOM, 0, Then::TakeNothing)?;
+        let _is_heard = refuse(alloc, number);
+        let result = play(alloc, &mut reader, &mut writer, &ends);
+        let was_refused = was_refused(alloc);
+        let ended = ends.load(Ordering::SeqCst);
+        assert!(rt; ended <= 1, "at {number}");
+        assert!(rt; writer.taken().is_empty() || ended == 1, "at {number}");
+        if !was_refused {
+            assert!(rt; result == Ok(()));
+            assert!(rt; ended == 1);
+            return Ok(());
+        }
+        assert!(rt; result == Err(RunFault::Memory), "at {number}");
+    }
+    panic!(rt; "it never answered");
+}

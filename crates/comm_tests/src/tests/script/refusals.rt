@@ -1,0 +1,85 @@
+// Limits that don't fit, and allocations that are refused.
+use super::{MOST, ROOM, limits, play};
+use comm_core::Limits;
+use comm_fakes::{Pieces, Sink, Then, has_leaked, mark, refuse, was_refused};
+use comm_script::RunFault;
+use std::io::ErrorKind;
+use std::test::Fail;
+
+#[test]
+fn limits_that_fit_are_needed(rt: HostRuntime) -> Result<(), Fail> {
+    let alloc = rt.alloc();
+    for (clients, comms, history, outbox, fit) in [
+        (4, 4096, 4_294_967_295, 65_536, true),
+        (1, 1, 1, 1, true),
+        (0, 1, 1, 1, false),
+        (5, 1, 1, 1, false),
+        (1, 0, 1, 1, false),
+        (1, 4097, 1, 1, false),
+        (1, 1, 0, 1, false),
+        (1, 1, 4_294_967_296, 1, false),
+        (1, 1, 1, 0, false),
+        (1, 1, 1, 65_537, false),
+    ] {
+        let limits = Limits {
+            clients,
+            comms,
+            history,
+            outbox,
+        };
+        let mut reader = Pieces::new(b"{}", 4096, 0, ErrorKind::Other);
+        let mut writer = Sink::new(alloc, ROOM, ROOM, 0, Then::TakeNothing)?;
+        let result = play(alloc, &mut reader, &mut writer, limits);
+        if fit {
+            assert!(rt; result == Ok(()));
+            assert!(rt; writer.taken() == b"bad 1 no_type\n".as_slice());
+        } else {
+            assert!(rt; result == Err(RunFault::BadLimits));
+            assert!(rt; reader.calls() == 0);
+            assert!(rt; writer.calls() == 0);
+        }
+    }
+    Ok(())
+}
+
+const SCRIPT: &[u8] = br#"{"call":"register","kind":"widget","name":"jupyter.widget"}
+{"header":{"msg_type":"comm_open"},"content":{"comm_id":"a","target_name":"jupyter.widget","data":{"state":{"l":[1],"n":null},"buffer_paths":[["x"]]}},"metadata":{"version":"2"},"buffers":["AQI="]}
+{"call":"send","id":"a","data":{"n":1}}
+{"call":"state","id":"a"}
+{"header":{"msg_type":"comm_info_request"}}
+{"call":"unregister","name":"jupyter.widget"}
+{"#;
+
+const ANSWERS: &[u8] = br#"reply 1 registered
+reply 2 opened
+reply 3 delivered
+out {"buffers":[],"call":3,"client":0,"content":{"comm_id":"a","data":{"n":1}},"header":{"msg_type":"comm_msg"},"metadata":{}}
+state 3 {"buffer_paths":[["x"]],"buffers":["AQI="],"state":{"l":[1],"n":null}}
+out {"buffers":[],"client":0,"content":{"comms":{"a":{"target_name":"jupyter.widget"}},"status":"ok"},"front":3,"header":{"msg_type":"comm_info_reply"},"metadata":{}}
+reply 4 unregistered ["a"]
+out {"buffers":[],"call":4,"client":0,"content":{"comm_id":"a","data":{}},"header":{"msg_type":"comm_close"},"metadata":{}}
+bad 7 not_json
+"#;
+
+/// The first allocation is refused, then the second, and so on until none is left to refuse. A heap that refuses nothing plays once.
+#[test]
+fn refused_run(rt: HostRuntime) -> Result<(), Fail> {
+    let alloc = rt.alloc();
+    for number in 1..100_000u32 {
+        mark(alloc);
+        let mut reader = Pieces::new(SCRIPT, 64, 0, ErrorKind::Other);
+        let mut writer = Sink::new(alloc, ROOM, ROOM, 0, Then::TakeNothing)?;
+        let _is_heard = refuse(alloc, number);
+        let result = play(alloc, &mut reader, &mut writer, limits(MOST));
+        if !was_refused(alloc) {
+            assert!(rt; result == Ok(()));
+            assert!(rt; writer.taken() == ANSWERS);
+            return Ok(());
+        }
+        assert!(rt; result == Err(RunFault::Memory), "at {number}");
+        assert!(rt; ANSWERS.starts_with(writer.taken()), "at {number}");
+        drop(writer);
+        assert!(rt; !has_leaked(alloc), "at {number}");
+    }
+    panic!(rt; "it never answered");
+}

@@ -1,0 +1,278 @@
+ghost use Rattle.std.specs.Prelude.{◌≡◌, true, [], None};
+ghost use Rattle.comm_targets.specs.Event.{id_of};
+ghost use Rattle.comm_targets.specs.Meaning.{IsIdle, is_open, is_message};
+
+use comm_messages::Body;
+use comm_targets::{
+    Answer, Bodies, Book, Counter, Custom, Echo, Event, Held, Kind, Latest, Target, TargetFault,
+};
+use comm_value::{Buffers, Bytes, Dict, Text, Val, Whole};
+use std::alloc::Global;
+use std::sync::Arc;
+use std::sync::atomic::{AtomicU64, Ordering};
+use std::test::Fail;
+
+/// A target of kind Free that refuses empty data with code 7, and counts its ends: 1 for each where it is idle, else 100.
+#[derive(Drop)]
+struct Strict {
+    alloc: Global,
+    book: Book,
+    ends: Arc<AtomicU64>,
+}
+
+impl Strict {
+    fn new(alloc: Global, ends: Arc<AtomicU64>) -> Strict
+        ensures { ⟦<Strict as Target>⟧.means result ≡ record { kind = Kind.Free; notes = 0; ids = []; staged = None } }
+    {
+        Strict {
+            alloc,
+            book: Book::new(alloc),
+            ends,
+        }
+    }
+}
+
+impl Target for Strict {
+    ghost use Rattle.comm_targets.specs.declared.kind.Kind.TheVariants as kind;
+
+    ghost means = { λ t. record { kind = kind.Free; notes = 0; ids = t.book.ids; staged = t.book.staged } };
+
+    fn kind(&self) -> Kind {
+        Kind::Free
+    }
+
+    fn notes(&self) -> u64 {
+        0
+    }
+
+    fn idle(&self) -> bool {
+        self.book.is_idle()
+    }
+
+    fn prepare(&mut self, event: &Event, _now: Option<&Dict>) -> Result<Answer, TargetFault> {
+        if let Event::Msg { body, .. } = event {
+            if body.content().is_empty() {
+                return Err(TargetFault::Other(7));
+            }
+        }
+        let answer = Answer::empty(self.alloc);
+        self.book.stage(self.alloc, event, &answer)?;
+        Ok(answer)
+    }
+
+    fn commit(&mut self) {
+        self.book.commit();
+    }
+
+    fn abandon(&mut self) {
+        self.book.abandon();
+    }
+
+    fn close(&mut self, id: &str) {
+        self.book.close(id);
+    }
+
+    fn stop(&mut self) {
+        let ended = if self.book.is_idle() { 1 } else { 100 };
+        let _before = self.ends.fetch_add(ended, Ordering::SeqCst);
+    }
+}
+
+/// Sends a message on a comm that is open.
+
+fn sent<T: Target>(held: &mut Held<T>, message: &Event) -> Result<Answer, TargetFault>
+    requires unstaged { held.old.staged ≡ None }
+    requires message { is_message message.now ≡ true }
+    requires opened { is_open held.old (id_of message.now) ≡ true }
+    ensures unstaged { held.new.staged ≡ None }
+    ensures ids { held.new.ids ≡ held.old.ids }
+{
+    let answer = held.prepare(message, None)?;
+    held.commit();
+    Ok(answer)
+}
+
+/// Opens a comm, sends the same message twice, closes the comm and ends the target. Gives the last answer and the notes.
+
+fn conversation<T: Target>(
+    target: T,
+    id: Text,
+    again: Text,
+    opening: Body,
+    message: Body,
+) -> Result<(Answer, u64), TargetFault>
+    requires idle { IsIdle (T.means target) }
+    requires same { again ≡ id }
+{
+    let opening = Event::Open {
+        id,
+        version: None,
+        body: opening,
+    };
+    let message = Event::Msg {
+        id: again,
+        body: message,
+    };
+    let mut held = Held::new(target);
+    if let Err(fault) = held.prepare(&opening, None) {
+        held.end();
+        return Err(fault);
+    }
+    held.commit();
+    let _first = sent(&mut held, &message);
+    let second = sent(&mut held, &message);
+    let notes = held.notes();
+    held.close(message.id().as_str());
+    held.end();
+    Ok((second?, notes))
+}
+
+/// An opening that is taken back.
+fn taken_back<T: Target>(target: T, id: Text, body: Body) -> Result<bool, TargetFault>
+    requires { IsIdle (T.means target) }
+{
+    let opening = Event::Open {
+        id,
+        version: None,
+        body,
+    };
+    let mut held = Held::new(target);
+    if let Err(fault) = held.prepare(&opening, None) {
+        held.end();
+        return Err(fault);
+    }
+    let staged = !held.idle();
+    held.abandon();
+    let idle = held.idle();
+    held.end();
+    Ok(staged && idle)
+}
+
+// The body `{"n":number}`, with one buffer of the bytes 1 and 2.
+fn body(alloc: Global, number: i128) -> Result<Body, Fail> {
+    let mut all = Vec::new(alloc);
+    all.push(Bytes::new(alloc, vec![in alloc; 1, 2]?)?)?;
+    let content = match Whole::new(number) {
+        Some(whole) => Dict::new().insert(alloc, Text::copy_of(alloc, "n")?, Val::Whole(whole))?,
+        None => Dict::new(),
+    };
+    Ok(Body::new(content, Buffers::new(all)))
+}
+
+fn empty_body(alloc: Global) -> Body {
+    Body::new(Dict::new(), Buffers::none(alloc))
+}
+
+// The number at the one key of a dict.
+fn number_at(dict: &Dict, key: &str) -> Option<i128> {
+    match dict.get(key) {
+        Some(Val::Whole(whole)) if dict.len() == 1 => Some(whole.get()),
+        _ => None,
+    }
+}
+
+fn same_bytes(buffers: &Buffers) -> bool {
+    match buffers.as_slice() {
+        [one] => one.as_slice() == [1, 2].as_slice(),
+        _ => false,
+    }
+}
+
+#[test]
+fn echo_sends_each_message_back(rt: HostRuntime) -> Result<(), Fail> {
+    let alloc = rt.alloc();
+    let id = Text::copy_of(alloc, "a")?;
+    let again = id.copy()?;
+    let boxed: Box<dyn Target> = Box::new(alloc, Echo::new(alloc))?;
+    let (answer, notes) = conversation(boxed, id, again, empty_body(alloc), body(alloc, 1)?)?;
+    assert!(rt; answer.state.is_none() && answer.custom.is_none());
+    assert_eq!(rt; notes, 0);
+    assert_eq!(rt; answer.messages.as_slice().len(), 1);
+    let back = &answer.messages.as_slice()[0];
+    assert_eq!(rt; number_at(back.content(), "n"), Some(1));
+    assert!(rt; same_bytes(back.buffers()));
+    Ok(())
+}
+
+#[test]
+fn counter_counts_the_messages(rt: HostRuntime) -> Result<(), Fail> {
+    let alloc = rt.alloc();
+    let id = Text::copy_of(alloc, "a")?;
+    let again = id.copy()?;
+    let boxed: Box<dyn Target> = Box::new(alloc, Counter::new(alloc))?;
+    let (answer, notes) = conversation(boxed, id, again, empty_body(alloc), empty_body(alloc))?;
+    assert_eq!(rt; notes, 2);
+    assert_eq!(rt; answer.messages.as_slice().len(), 1);
+    let count = &answer.messages.as_slice()[0];
+    assert_eq!(rt; number_at(count.content(), "count"), Some(2));
+    assert_eq!(rt; count.buffers().as_slice().len(), 0);
+    Ok(())
+}
+
+#[test]
+fn latest_keeps_the_data_that_came_last(rt: HostRuntime) -> Result<(), Fail> {
+    let alloc = rt.alloc();
+    let id = Text::copy_of(alloc, "a")?;
+    let again = id.copy()?;
+    let boxed: Box<dyn Target> = Box::new(alloc, Latest::new(alloc))?;
+    let (answer, _notes) = conversation(boxed, id, again, body(alloc, 1)?, body(alloc, 5)?)?;
+    let state = answer.state.ok_or("a state")?;
+    assert_eq!(rt; number_at(&state, "n"), Some(5));
+    assert_eq!(rt; answer.messages.as_slice().len(), 0);
+    Ok(())
+}
+
+#[test]
+fn a_target_ends_once_after_its_comms(rt: HostRuntime) -> Result<(), Fail> {
+    let alloc = rt.alloc();
+    let ends = Arc::new(alloc, AtomicU64::new(0))?;
+    for (refused, number) in [(false, 1), (true, 1_i128 << 100)] {
+        let id = Text::copy_of(alloc, "a")?;
+        let again = id.copy()?;
+        let strict = Strict::new(alloc, Arc::try_clone(&ends)?);
+        let boxed: Box<dyn Target> = Box::new(alloc, strict)?;
+        let result = conversation(boxed, id, again, empty_body(alloc), body(alloc, number)?);
+        assert_eq!(rt; result.err() == Some(TargetFault::Other(7)), refused);
+    }
+    assert_eq!(rt; ends.load(Ordering::SeqCst), 2);
+    Ok(())
+}
+
+#[test]
+fn an_opening_is_taken_back(rt: HostRuntime) -> Result<(), Fail> {
+    let alloc = rt.alloc();
+    let id = Text::copy_of(alloc, "a")?;
+    let boxed: Box<dyn Target> = Box::new(alloc, Counter::new(alloc))?;
+    assert!(rt; taken_back(boxed, id, empty_body(alloc))?);
+    Ok(())
+}
+
+#[test]
+fn an_answer_and_its_copy_are_the_same(rt: HostRuntime) -> Result<(), Fail> {
+    let alloc = rt.alloc();
+    let mut messages = Bodies::new(alloc);
+    messages.push(body(alloc, 3)?)?;
+    let answer = Answer {
+        state: Some(Dict::new()),
+        messages,
+        custom: Some(Custom {
+            content: Val::Null,
+            buffers: Buffers::none(alloc),
+        }),
+    };
+    let copy = answer.copy(alloc)?;
+    assert!(rt; copy.state.is_some() && copy.custom.is_some());
+    assert_eq!(rt; copy.messages.as_slice().len(), 1);
+    assert_eq!(rt;
+        number_at(copy.messages.as_slice()[0].content(), "n"),
+        Some(3)
+    );
+    Ok(())
+}
+
+#[test]
+fn a_fault_says_what_was_wrong(rt: HostRuntime) -> Result<(), Fail> {
+    let text = format!(in rt.alloc(); "{}", TargetFault::BadPath(3))?;
+    assert_eq!(rt; text.as_str(), "buffer path 3 can't be read or placed");
+    Ok(())
+}

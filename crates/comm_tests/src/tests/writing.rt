@@ -1,0 +1,165 @@
+ghost use Rattle.std.specs.Prelude.{◌≡◌, true};
+ghost use Rattle.comm_messages.specs.Text.{goes_with};
+
+use crate::tests::messages::read;
+use comm_messages::{
+    Body, Info, Infos, Outgoing, Parent, fields_of, object_in, whole_dict, write_message,
+};
+use comm_value::{Buffers, Bytes, Dict, Text};
+use json::Scratch;
+use std::alloc::Global;
+use std::test::Fail;
+
+fn body(alloc: Global, data: &str, buffers: Buffers) -> Result<Body, Fail> {
+    let mut scratch = Scratch::new(alloc);
+    let object = object_in(alloc, data.as_bytes(), &mut scratch)?;
+    Ok(Body::new(whole_dict(alloc, fields_of(&object))?, buffers))
+}
+
+fn written(alloc: Global, message: &Outgoing, parent: &Parent) -> Result<String, Fail>
+    requires { goes_with message.now parent.now ≡ true }
+{
+    let bytes = write_message(alloc, message, parent)?;
+    Ok(String::from_utf8_lossy(alloc, bytes.as_slice())?)
+}
+
+fn id(alloc: Global, text: &str) -> Result<Text, Fail> {
+    Ok(Text::copy_of(alloc, text)?)
+}
+
+#[test]
+fn writes_an_open(rt: HostRuntime) -> Result<(), Fail> {
+    let alloc = rt.alloc();
+    let body = body(
+        alloc,
+        r#"{"state":{"value":1},"buffer_paths":[]}"#,
+        Buffers::none(alloc),
+    )?;
+    let open = Outgoing::Open {
+        id: id(alloc, "67e55044-10b1-426f-9247-bb680e5fe0c8")?,
+        target: id(alloc, "jupyter.widget")?,
+        version: id(alloc, "2.0.0")?,
+        body,
+    };
+    let text = written(
+        alloc,
+        &open,
+        &Parent::Call {
+            client: 0,
+            number: 2,
+        },
+    )?;
+    assert_eq!(rt;
+        text.as_str(),
+        r#"{"buffers":[],"call":2,"client":0,"content":{"comm_id":"67e55044-10b1-426f-9247-bb680e5fe0c8","data":{"buffer_paths":[],"state":{"value":1}},"target_name":"jupyter.widget"},"header":{"msg_type":"comm_open"},"metadata":{"version":"2.0.0"}}"#
+    );
+    assert_eq!(rt;
+        read(alloc, text.as_bytes())?.as_str(),
+        r#"0 open 67e55044-10b1-426f-9247-bb680e5fe0c8 jupyter.widget 2.0.0 {"buffer_paths":[],"state":{"value":1}}"#
+    );
+    Ok(())
+}
+
+fn two_buffers(alloc: Global) -> Result<Buffers, Fail> {
+    let mut all = Vec::new(alloc);
+    all.push(Bytes::new(alloc, vec![in alloc; 1, 2]?)?)?;
+    all.push(Bytes::new(alloc, vec![in alloc; 255]?)?)?;
+    Ok(Buffers::new(all))
+}
+
+#[test]
+fn writes_a_message(rt: HostRuntime) -> Result<(), Fail> {
+    let alloc = rt.alloc();
+    let state =
+        r#"{"method":"update","state":{"y":{"z":[null]}},"buffer_paths":[["x"],["y","z",0]]}"#;
+    let body = body(alloc, state, two_buffers(alloc)?)?.copy(alloc)?;
+    let message = Outgoing::Msg {
+        id: id(alloc, "a")?,
+        body,
+    };
+    let text = written(
+        alloc,
+        &message,
+        &Parent::Call {
+            client: 0,
+            number: 3,
+        },
+    )?;
+    assert_eq!(rt;
+        text.as_str(),
+        r#"{"buffers":["AQI=","/w=="],"call":3,"client":0,"content":{"comm_id":"a","data":{"buffer_paths":[["x"],["y","z",0]],"method":"update","state":{"y":{"z":[null]}}}},"header":{"msg_type":"comm_msg"},"metadata":{}}"#
+    );
+    assert_eq!(rt;
+        read(alloc, text.as_bytes())?.as_str(),
+        r#"0 msg a {"buffer_paths":[["x"],["y","z",0]],"method":"update","state":{"y":{"z":[null]}}} 1.2. 255."#
+    );
+    Ok(())
+}
+
+#[test]
+fn writes_a_close(rt: HostRuntime) -> Result<(), Fail> {
+    let alloc = rt.alloc();
+    let close = Outgoing::Close {
+        id: id(alloc, "\"\u{1}\u{7f}/\u{2028}")?,
+    };
+    let parent = Parent::Call {
+        client: 3,
+        number: 18446744073709551615,
+    };
+    let text = written(alloc, &close, &parent)?;
+    assert_eq!(rt;
+        text.as_str(),
+        "{\"buffers\":[],\"call\":18446744073709551615,\"client\":3,\"content\":{\"comm_id\":\"\\\"\\u0001\u{7f}/\u{2028}\",\"data\":{}},\"header\":{\"msg_type\":\"comm_close\"},\"metadata\":{}}"
+    );
+    assert_eq!(rt;
+        read(alloc, text.as_bytes())?.as_str(),
+        "3 close \"\u{1}\u{7f}/\u{2028}"
+    );
+    Ok(())
+}
+
+fn info(alloc: Global, comm: &str, target: &str) -> Result<Info, Fail> {
+    let id = Text::copy_of(alloc, comm)?;
+    let target = Text::copy_of(alloc, target)?;
+    Ok(Info { id, target })
+}
+
+fn two_comms(alloc: Global) -> Result<Infos, Fail> {
+    let mut all = Vec::new(alloc);
+    all.push(info(alloc, "a", "jupyter.widget")?)?;
+    all.push(info(alloc, "b", "t")?)?;
+    Ok(Infos::new(alloc, all)?)
+}
+
+fn reply(alloc: Global, comms: Infos, client: u8, front: u64) -> Result<String, Fail> {
+    let reply = Outgoing::InfoReply { comms };
+    written(alloc, &reply, &Parent::Read { client, front })
+}
+
+#[test]
+fn writes_the_open_comms(rt: HostRuntime) -> Result<(), Fail> {
+    let alloc = rt.alloc();
+    let none = reply(alloc, Infos::new(alloc, Vec::new(alloc))?, 0, 0)?;
+    assert_eq!(rt;
+        none.as_str(),
+        r#"{"buffers":[],"client":0,"content":{"comms":{},"status":"ok"},"front":0,"header":{"msg_type":"comm_info_reply"},"metadata":{}}"#
+    );
+    let comms = two_comms(alloc)?;
+    assert_eq!(rt; comms.as_slice().len(), 2);
+    let two = reply(alloc, comms, 2, 7)?;
+    assert_eq!(rt;
+        two.as_str(),
+        r#"{"buffers":[],"client":2,"content":{"comms":{"a":{"target_name":"jupyter.widget"},"b":{"target_name":"t"}},"status":"ok"},"front":7,"header":{"msg_type":"comm_info_reply"},"metadata":{}}"#
+    );
+    Ok(())
+}
+
+#[test]
+fn a_body_gives_its_parts_back(rt: HostRuntime) -> Result<(), Fail> {
+    let alloc = rt.alloc();
+    let (content, buffers) = body(alloc, r#"{"x":1}"#, Buffers::none(alloc))?.into_parts();
+    assert_eq!(rt; content.len(), 1);
+    assert!(rt; buffers.as_slice().is_empty());
+    assert!(rt; Body::new(Dict::new(), buffers).content().is_empty());
+    Ok(())
+}
