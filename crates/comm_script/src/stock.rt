@@ -1,4 +1,4 @@
-ghost use Rattle.std.specs.Prelude.{◌≡◌, ◌<◌, ◌++◌, [], ◌∷◌, true, IfSome, IfNone, OnOk, OnSome, map, option_map, option_to_list};
+ghost use Rattle.std.specs.Prelude.{◌≡◌, ◌<◌, ◌++◌, [], ◌∷◌, true, IfSome, IfNone, OnOk, OnErr, OnSome, map, option_map, option_to_list};
 ghost use Rattle.std.specs.Option.{ForSome};
 ghost use Rattle.comm_targets.specs.Meaning.{Meaning, IsIdle};
 ghost use Rattle.comm_script.specs.Stock.{has_kind, first_of, rest_of, registered_of, shelved, AreIdle, IsPlace, IsWithout};
@@ -89,12 +89,13 @@ impl<T: Target> Stock<T> {
     }
 }
 
-/// Puts an idle target at the end of a stock. Err: memory; the target was let go then.
+/// Puts an idle target at the end of a stock. Err: memory; the stock stays as it was, and the target was let go.
 pub fn add<T: Target>(stock: &mut Vec<T>, target: T) -> Result<(), AllocError>
     requires target { IsIdle (T.means target) }
     requires stock { AreIdle (map T.means stock.old.items) }
     ensures added { OnOk result (stock.new.items ≡ stock.old.items ++ target ∷ []) }
     ensures idle { OnOk result (AreIdle (map T.means stock.new.items)) }
+    ensures unchanged { OnErr result (stock.new.items ≡ stock.old.items) }
 {
     stock.push(target)?;
     Ok(())
