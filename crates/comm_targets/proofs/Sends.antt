@@ -26,7 +26,7 @@ event_sends = search (body_sends, text.the_send, values.crosses, Crossing.crosse
 
 custom_sends : IsSend custom.the_row
 custom_sends = declared_send custom.the_type (
-  search (text.the_send, values.crosses, Crossing.crosses, sendable) depth 60 fits 20000,
+  search (values.crosses, Crossing.crosses, sendable) depth 200 fits 100000,
   (search (buffers.the_send, sendable) depth 60 fits 20000, tt),
 )
 

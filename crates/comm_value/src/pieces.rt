@@ -18,13 +18,16 @@ pub(crate) type Piece = Arc<Vec<Member, Global>, Global>;
 // A longer piece is cut in two: an update copies the pieces that it changes, and the pointers to the others. Eight took the fewest
 // instructions of 4 to 64, for states of 15 and of 200 keys.
 const LONGEST: usize = 8;
+// No half of a piece that was too long is shorter.
+const LEAST: usize = 4;
 
 // The members, in pieces.
 pub(crate) fn pieces_from(alloc: Global, members: Vec<Member>) -> Result<Vec<Piece>, AllocError>
     ensures flat { IfOk result (λ all. flat all.items ≡ members.items) }
     ensures filled { IfOk result (λ all. AllFilled all.items) }
 {
-    push_pieces(alloc, Vec::new(alloc), members)
+    let room = members.len() / LEAST + 1;
+    push_pieces(alloc, Vec::with_capacity(alloc, room)?, members)
 }
 
 fn push_pieces(

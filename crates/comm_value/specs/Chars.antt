@@ -1,0 +1,8 @@
+-- The bytes of a text's characters, wherever they stand.
+use Rattle.std.specs.Prelude.{ℕ, List, string_bytes}
+use Rattle.comm_value.specs.declared.chars.Chars.{Chars}
+use Rattle.comm_value.specs.declared.chars.Chars.TheVariants.{Short, Long}
+
+abbrev pub bytes_in : Chars → List ℕ
+bytes_in (Short s) = s.bytes
+bytes_in (Long s) = string_bytes s
