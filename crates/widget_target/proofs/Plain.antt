@@ -1,5 +1,5 @@
 -- What a message tells of a state has no bytes in it, and a state without bytes is told as it is.
-use Rattle.std.proofs.Common.{◌≡◌, ℕ, suc, Bool, true, false, ◌||◌, List, [], ◌∷◌, ◌++◌, map, refl, ap, sym, ◌∙◌, true≢false}
+use Rattle.std.proofs.Common.{◌≡◌, ℕ, suc, Bool, true, false, ◌||◌, List, [], ◌∷◌, map, refl, ap, true≢false}
 use Rattle.comm_value.specs.Tree.{Tree, null, boolean, whole, text, bytes, list, dict, Items, no_items, item, Members, no_members, member}
 use Rattle.comm_value.specs.Node.{Path}
 use Rattle.comm_value.specs.Paths.{paths_tree, path_tree, step_tree, items_from}

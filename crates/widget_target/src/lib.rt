@@ -10,6 +10,7 @@ mod message;
 mod method;
 mod open;
 mod state;
+mod template;
 mod update;
 mod version;
 mod widget;

@@ -5,6 +5,7 @@ ghost use Rattle.widget_target.specs.Gives.{Gives};
 
 use crate::answers::one_message;
 use crate::method::{Method, method_of};
+use crate::template::Template;
 use crate::update::{update_body, updated};
 use comm_messages::Body;
 use comm_targets::{Answer, Custom, TargetFault};
@@ -13,21 +14,30 @@ use std::alloc::{AllocError, Global};
 
 /// The answer to a message on the comm of a widget whose state is `now`, by the data's `method`.
 /// NoMethod, UnknownMethod, and the faults of `update`.
-pub fn told(alloc: Global, body: &Body, now: &Dict) -> Result<Answer, TargetFault>
+pub fn told(
+    alloc: Global,
+    template: &mut Option<Template>,
+    body: &Body,
+    now: &Dict,
+) -> Result<Answer, TargetFault>
     ensures { Gives result (told (get (codes "method") body.now.content) now.now body.now) }
 {
     match method_of(body.content())? {
         Method::Update => updated(alloc, body, now),
-        Method::RequestState => Ok(requested(alloc, now)?),
+        Method::RequestState => Ok(requested(alloc, template, now)?),
         Method::Custom => Ok(handed(alloc, body)?),
     }
 }
 
 // The answer to `request_state`: the whole state goes out.
-fn requested(alloc: Global, now: &Dict) -> Result<Answer, AllocError>
+fn requested(
+    alloc: Global,
+    template: &mut Option<Template>,
+    now: &Dict,
+) -> Result<Answer, AllocError>
     ensures { IfOk result (λ a. a ≡ one_message (update_of now.now)) }
 {
-    one_message(alloc, update_body(alloc, now)?)
+    one_message(alloc, update_body(alloc, template, now)?)
 }
 
 // The answer to `custom`: the caller is handed the data's `content` and all the message's buffers.

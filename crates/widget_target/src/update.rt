@@ -8,9 +8,10 @@ ghost use Rattle.widget_target.specs.Update.{data_of};
 
 use crate::answers::{new_state, one_message};
 use crate::state::state_of;
+use crate::template::Template;
 use comm_messages::Body;
 use comm_targets::{Answer, TargetFault};
-use comm_value::{Buffers, Dict, Path, Separated, Text, Val, merge, paths_val, separate};
+use comm_value::{Buffers, Dict, Path, Separated, merge, separate};
 use std::alloc::{AllocError, Global};
 
 /// The answer to `update`: each top-level key of the data's `state` replaces that of the widget's state.
@@ -27,18 +28,27 @@ pub fn updated(alloc: Global, body: &Body, now: &Dict) -> Result<Answer, TargetF
 }
 
 /// The answer to a change of these keys by the kernel: they replace those of the widget's state, and are told.
-pub fn pushed(alloc: Global, update: &Dict, now: &Dict) -> Result<Answer, AllocError>
+pub fn pushed(
+    alloc: Global,
+    template: &mut Option<Template>,
+    update: &Dict,
+    now: &Dict,
+) -> Result<Answer, AllocError>
     ensures { IfOk result (λ a. a ≡ record { state = Some (merged now.now update.now); messages = update_of update.now ∷ []; custom = None }) }
 {
     let merged = merge(alloc, now.copy()?, update.copy()?)?;
-    let mut answer = one_message(alloc, update_body(alloc, update)?)?;
+    let mut answer = one_message(alloc, update_body(alloc, template, update)?)?;
     answer.state = Some(merged);
     Ok(answer)
 }
 
 /// The message that tells a state, or some of its keys: `{"buffer_paths":..,"method":"update","state":..}`, with the
 /// buffers in the order of the paths ("State update messages").
-pub fn update_body(alloc: Global, state: &Dict) -> Result<Body, AllocError>
+pub fn update_body(
+    alloc: Global,
+    template: &mut Option<Template>,
+    state: &Dict,
+) -> Result<Body, AllocError>
     ensures { IfOk result (λ b. b ≡ update_of state.now) }
 {
     let Separated {
@@ -46,19 +56,26 @@ pub fn update_body(alloc: Global, state: &Dict) -> Result<Body, AllocError>
         paths,
         buffers,
     } = separated(alloc, state)?;
-    let content = update_data(alloc, plain, paths.as_slice())?;
+    let content = update_data(alloc, template, plain, paths.as_slice())?;
     Ok(Body::new(content, buffers))
 }
 
-fn update_data(alloc: Global, plain: Dict, paths: &[Path]) -> Result<Dict, AllocError>
+// The message's data, by the template, which the first message makes.
+fn update_data(
+    alloc: Global,
+    template: &mut Option<Template>,
+    plain: Dict,
+    paths: &[Path],
+) -> Result<Dict, AllocError>
     ensures { IfOk result (λ d. d ≡ data_of paths.now plain) }
 {
-    let paths = paths_val(alloc, paths)?;
-    let method = Val::Text(Text::copy_of(alloc, "update")?);
-    Dict::new()
-        .insert(alloc, Text::copy_of(alloc, "buffer_paths")?, paths)?
-        .insert(alloc, Text::copy_of(alloc, "method")?, method)?
-        .insert(alloc, Text::copy_of(alloc, "state")?, Val::Dict(plain))
+    if let Some(made) = template.as_ref() {
+        return made.filled(alloc, plain, paths);
+    }
+    let made = Template::new(alloc)?;
+    let data = made.filled(alloc, plain, paths)?;
+    *template = Some(made);
+    Ok(data)
 }
 
 // The state without its bytes, and where they stood. A state without bytes is shared.

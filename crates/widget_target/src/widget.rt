@@ -6,6 +6,7 @@ ghost use Rattle.widget_target.specs.Gives.{Gives};
 use crate::answers::new_state;
 use crate::message::told;
 use crate::open::opened;
+use crate::template::Template;
 use crate::update::pushed;
 use comm_targets::{Answer, Book, Event, Kind, Target, TargetFault};
 use comm_value::Dict;
@@ -16,6 +17,8 @@ use std::alloc::Global;
 pub struct WidgetTarget {
     alloc: Global,
     book: Book,
+    // Made by the first update message.
+    template: Option<Template>,
 }
 
 impl WidgetTarget {
@@ -26,6 +29,7 @@ impl WidgetTarget {
         WidgetTarget {
             alloc,
             book: Book::new(alloc),
+            template: None,
         }
     }
 }
@@ -48,7 +52,7 @@ impl Target for WidgetTarget {
     }
 
     fn prepare(&mut self, event: &Event, now: Option<&Dict>) -> Result<Answer, TargetFault> {
-        let answer = answer_to(self.alloc, event, now)?;
+        let answer = answer_to(self.alloc, &mut self.template, event, now)?;
         self.book.stage(self.alloc, event, &answer)?;
         Ok(answer)
     }
@@ -69,7 +73,12 @@ impl Target for WidgetTarget {
 }
 
 // The answer to an event, of a comm whose state is `now`; with none the empty state.
-fn answer_to(alloc: Global, event: &Event, now: Option<&Dict>) -> Result<Answer, TargetFault>
+fn answer_to(
+    alloc: Global,
+    template: &mut Option<Template>,
+    event: &Event,
+    now: Option<&Dict>,
+) -> Result<Answer, TargetFault>
     ensures { Gives result (answer_of (unwrap_or (option_map (λ d. d.now) now.entry) no_members) event.now) }
 {
     let empty = Dict::new();
@@ -78,8 +87,8 @@ fn answer_to(alloc: Global, event: &Event, now: Option<&Dict>) -> Result<Answer,
         Event::Open { version, body, .. } => {
             Ok(new_state(alloc, opened(alloc, version.as_ref(), body)?))
         }
-        Event::Msg { body, .. } => told(alloc, body, now),
+        Event::Msg { body, .. } => told(alloc, template, body, now),
         Event::Launch { state, .. } => Ok(new_state(alloc, state.copy()?)),
-        Event::Push { state, .. } => Ok(pushed(alloc, state, now)?),
+        Event::Push { state, .. } => Ok(pushed(alloc, template, state, now)?),
     }
 }
