@@ -5,6 +5,9 @@ use Rattle.std.specs.Str.{bytes_eq}
 use Rattle.comm_messages.specs.Content.{Content}
 use Rattle.comm_targets.specs.Meaning.{Meaning, has_id, without, is_message, ids_after, stages, commits}
 use Rattle.comm_targets.specs.declared.stage.Stage.{Stage}
+use Rattle.comm_targets.specs.declared.kind.Kind.TheVariants.{Widget}
+use Rattle.comm_value.specs.Tree.{Members}
+use Rattle.comm_tests.specs.After.{after}
 use Rattle.comm_targets.specs.declared.answer.Answer.{Answer}
 use Rattle.comm_targets.specs.declared.event.Event.{Event}
 use Rattle.comm_targets.specs.declared.event.Event.TheVariants.{Open, Msg, Launch, Push}
@@ -31,13 +34,20 @@ Commits old new e a = (mid : Meaning) × (mid ≡ stages old e a) × ((s : Stage
 pub unstaged : (old new : Meaning) (e : Event) (a : Answer) → Commits old new e a → new.staged ≡ None
 unstaged old new e a c = ap (λ m. m.staged) (c.2 (record { event = e; answer = a }) (ap (λ m. m.staged) c.1))
 
-ids_now : (old new : Meaning) (e : Event) (a : Answer) → Commits old new e a → new.ids ≡ ids_after old.ids e
+pub ids_now : (old new : Meaning) (e : Event) (a : Answer) → Commits old new e a → new.ids ≡ ids_after old.ids e
 ids_now old new e a c =
     ap (λ m. m.ids) (c.2 (record { event = e; answer = a }) (ap (λ m. m.staged) c.1)) ∙ ap (λ m. ids_after m.ids e) c.1
 
 pub told : (old new : Meaning) (e : Event) (a : Answer) → Commits old new e a → is_message e ≡ true → new.ids ≡ old.ids
 told old new e a c said = ids_now old new e a c ∙ ids_after-message old.ids e said
 
-pub opened : (old new : Meaning) (id : List ℕ) (version : Option (List ℕ)) (body : Content) (a : Answer)
-    → Commits old new (Open id version body) a → old.ids ≡ [] → new.ids ≡ id ∷ []
-opened old new id version body a c none = ids_now old new (Open id version body) a c ∙ ap (λ ids. ids ++ id ∷ []) none
+pub committed : (old new : Meaning) (e : Event) (a : Answer) → Commits old new e a → new ≡ after old e
+committed old new e a c =
+    let s : Stage = record { event = e; answer = a } in
+    c.2 s (ap (λ m. m.staged) c.1) ∙ ap (λ m. commits m s) c.1
+
+abbrev pub widget_with : List (List ℕ) → Meaning
+widget_with ids = record { kind = Widget; notes = 0; ids = ids; staged = None }
+
+pub launched : (old : Meaning) (id name : List ℕ) (state : Members) → old ≡ widget_with [] → id ≡ name → after old (Launch id state) ≡ widget_with (name ∷ [])
+launched old id name state fresh named = ap (λ m. after m (Launch id state)) fresh ∙ ap (λ i. widget_with (i ∷ [])) named

@@ -1,9 +1,12 @@
+mod many;
+
 use comm_value::{
-    Buffers, Bytes, Dict, Path, Step, Text, Val, ValueFault, Whole, merge, paths_of, paths_val,
-    put_all, separate, write_text,
+    Buffers, Bytes, Dict, Path, Separated, Step, Text, Val, ValueFault, Whole, merge, paths_of,
+    paths_val, put_all, separate, write_text,
 };
 use serde_json::Value;
 use std::alloc::Global;
+use std::process::Abort;
 use std::test::Fail;
 
 fn value(alloc: Global, text: &str) -> Result<Val, Fail> {
@@ -45,18 +48,41 @@ fn written(alloc: Global, of: &Val) -> Result<String, Fail> {
     Ok(String::from_utf8(out)?)
 }
 
-// The plain dict, the paths and the numbers of each buffer.
-fn separated(alloc: Global, state: &Dict) -> Result<String, Fail> {
-    let parts = separate(alloc, state)?;
-    let mut text = shown(alloc, &Val::Dict(parts.plain))?;
-    text.push(' ')?;
-    text.push_str(shown(alloc, &paths_val(alloc, parts.paths.as_slice())?)?.as_str())?;
-    for buffer in parts.buffers.as_slice() {
+fn push_bytes(alloc: Global, buffers: &[Bytes], text: &mut String) -> Result<(), Fail> {
+    for buffer in buffers {
         text.push(' ')?;
         for byte in buffer.as_slice() {
             text.push_str(format!(in alloc; "{byte}.")?.as_str())?;
         }
     }
+    Ok(())
+}
+
+fn push_shown(alloc: Global, of: Val, text: &mut String) -> Result<(), Fail> {
+    let found = shown(alloc, &of);
+    drop(of);
+    text.push_str(found?.as_str())?;
+    Ok(())
+}
+
+// The plain dict, the paths and the numbers of each buffer.
+fn push_parts(alloc: Global, parts: Separated, text: &mut String) -> Result<(), Fail> {
+    let Separated {
+        plain,
+        paths,
+        buffers,
+    } = parts;
+    let listed = paths_val(alloc, paths.as_slice());
+    drop(paths);
+    push_shown(alloc, Val::Dict(plain), text)?;
+    text.push(' ')?;
+    push_shown(alloc, listed?, text)?;
+    push_bytes(alloc, buffers.as_slice(), text)
+}
+
+fn separated(alloc: Global, state: &Dict) -> Result<String, Fail> {
+    let mut text = String::new(alloc);
+    push_parts(alloc, separate(alloc, state)?, &mut text)?;
     Ok(text)
 }
 
@@ -74,12 +100,26 @@ fn placed(alloc: Global, state: &str, at: &str, all: &[&[u8]]) -> Result<String,
     }
 }
 
-// What becomes of a value that lists paths.
-fn read(alloc: Global, text: &str) -> Result<String, Fail> {
-    match paths_of(alloc, Some(&value(alloc, text)?)) {
+fn read_from(alloc: Global, listed: &Val) -> Result<String, Fail> {
+    match paths_of(alloc, Some(listed)) {
         Ok(found) => shown(alloc, &paths_val(alloc, found.as_slice())?),
         Err(fault) => Ok(format!(in alloc; "{fault:?}")?),
     }
+}
+
+// What becomes of a value that lists paths.
+fn read(alloc: Global, text: &str) -> Result<String, Fail> {
+    let listed = value(alloc, text)?;
+    let found = read_from(alloc, &listed);
+    drop(listed);
+    found
+}
+
+// The text of a value that is let go.
+fn text_of(alloc: Global, of: Val) -> Result<String, Fail> {
+    let found = shown(alloc, &of);
+    drop(of);
+    found
 }
 
 fn is_whole(alloc: Global, text: &str) -> Result<bool, Fail> {
@@ -87,55 +127,98 @@ fn is_whole(alloc: Global, text: &str) -> Result<bool, Fail> {
     Ok(!matches!(Val::from_json(alloc, &json), Err(ValueFault::NotWhole)))
 }
 
-#[test]
-fn places_buffers_and_separates_them(rt: HostRuntime) -> Result<(), Fail> {
-    let alloc = rt.alloc();
-    let both = "[[\"x\"],[\"y\",\"z\",0]]";
-    let found = placed(alloc, "{\"y\":{\"z\":[null]}}", both, &[&[1, 2], &[255]])?;
-    assert!(rt; found.as_str() == "{\"y\":{\"z\":[null]}} [[\"x\"],[\"y\",\"z\",0]] 1.2. 255.");
-    let spare = placed(alloc, "{\"k\":1}", "[[\"x\"]]", &[&[1, 2], &[255]])?;
-    assert!(rt; spare.as_str() == "{\"k\":1} [[\"x\"]] 1.2.");
-    let later = placed(alloc, "{}", "[[\"x\"],[\"x\"]]", &[&[1, 2], &[255]])?;
-    assert!(rt; later.as_str() == "{} [[\"x\"]] 255.");
-    let kept = placed(
-        alloc,
+/// A state, paths and buffers, and the state with the buffers, taken apart again.
+const PLACED: [(&str, &str, &[&[u8]], &str); 4] = [
+    (
+        "{\"y\":{\"z\":[null]}}",
+        "[[\"x\"],[\"y\",\"z\",0]]",
+        &[&[1, 2], &[255]],
+        "{\"y\":{\"z\":[null]}} [[\"x\"],[\"y\",\"z\",0]] 1.2. 255.",
+    ),
+    (
+        "{\"k\":1}",
+        "[[\"x\"]]",
+        &[&[1, 2], &[255]],
+        "{\"k\":1} [[\"x\"]] 1.2.",
+    ),
+    (
+        "{}",
+        "[[\"x\"],[\"x\"]]",
+        &[&[1, 2], &[255]],
+        "{} [[\"x\"]] 255.",
+    ),
+    (
         "{\"b\":{\"k\":1},\"a\":[[2],3]}",
         "[[\"b\",\"x\"],[\"a\",0,0]]",
         &[&[7], &[8]],
-    )?;
-    assert!(rt;
-        kept.as_str() == "{\"a\":[[null],3],\"b\":{\"k\":1}} [[\"a\",0,0],[\"b\",\"x\"]] 8. 7."
-    );
+        "{\"a\":[[null],3],\"b\":{\"k\":1}} [[\"a\",0,0],[\"b\",\"x\"]] 8. 7.",
+    ),
+];
+
+fn all_placed(
+    rt: &impl Abort,
+    alloc: Global,
+    rows: &[(&str, &str, &[&[u8]], &str)],
+) -> Result<(), Fail> {
+    for (state, paths, buffers, wanted) in rows {
+        let found = placed(alloc, state, paths, buffers)?;
+        assert!(rt; found.as_str() == *wanted, "at {state} {paths}");
+    }
     Ok(())
 }
 
 #[test]
-fn refuses_paths_without_a_place(rt: HostRuntime) -> Result<(), Fail> {
-    let alloc = rt.alloc();
-    let one: &[&[u8]] = &[&[1, 2]];
-    let two: &[&[u8]] = &[&[1, 2], &[255]];
-    let list = "{\"l\":[null]}";
-    assert!(rt; placed(alloc, "{}", "[[]]", one)?.as_str() == "BadPath(0)");
-    assert!(rt; placed(alloc, list, "[[\"l\",1]]", one)?.as_str() == "BadPath(0)");
-    assert!(rt;
-        placed(alloc, list, "[[\"l\",18446744073709551615]]", one)?.as_str() == "BadPath(0)"
-    );
-    assert!(rt; placed(alloc, "{}", "[[\"p\"],[\"p\",\"q\"]]", two)?.as_str() == "BadPath(1)");
-    assert!(rt; placed(alloc, "{}", "[[\"x\"],[\"y\"]]", one)?.as_str() == "BufferMissing(1)");
-    assert!(rt; placed(alloc, "{}", "[[]]", &[])?.as_str() == "BufferMissing(0)");
-    Ok(())
+fn places_buffers_and_separates_them(rt: HostRuntime) -> Result<(), Fail> {
+    all_placed(&rt, rt.alloc(), &PLACED)
 }
+
+/// A state, paths without a place for these buffers, and the fault.
+const MISPLACED: [(&str, &str, &[&[u8]], &str); 6] = [
+    ("{}", "[[]]", &[&[1, 2]], "BadPath(0)"),
+    ("{\"l\":[null]}", "[[\"l\",1]]", &[&[1, 2]], "BadPath(0)"),
+    (
+        "{\"l\":[null]}",
+        "[[\"l\",18446744073709551615]]",
+        &[&[1, 2]],
+        "BadPath(0)",
+    ),
+    (
+        "{}",
+        "[[\"p\"],[\"p\",\"q\"]]",
+        &[&[1, 2], &[255]],
+        "BadPath(1)",
+    ),
+    ("{}", "[[\"x\"],[\"y\"]]", &[&[1, 2]], "BufferMissing(1)"),
+    ("{}", "[[]]", &[], "BufferMissing(0)"),
+];
+
+#[test]
+fn refuses_paths_without_a_place(rt: HostRuntime) -> Result<(), Fail> {
+    all_placed(&rt, rt.alloc(), &MISPLACED)
+}
+
+/// A text, and the paths that it lists or the fault.
+const LISTED: [(&str, &str); 6] = [
+    (
+        "[[\"a\",18446744073709551615],[],[\"0\",0]]",
+        "[[\"a\",18446744073709551615],[],[\"0\",0]]",
+    ),
+    ("null", "[]"),
+    ("7", "BadPath(0)"),
+    ("[[\"l\",-1]]", "BadPath(0)"),
+    ("[[\"x\"],7]", "BadPath(1)"),
+    ("[[\"x\"],[true]]", "BadPath(1)"),
+];
 
 #[test]
 fn reads_and_writes_paths(rt: HostRuntime) -> Result<(), Fail> {
     let alloc = rt.alloc();
-    let listed = "[[\"a\",18446744073709551615],[],[\"0\",0]]";
-    assert!(rt; read(alloc, listed)?.as_str() == listed);
-    assert!(rt; read(alloc, "null")?.as_str() == "[]" && paths_of(alloc, None)?.is_empty());
-    assert!(rt; read(alloc, "7")?.as_str() == "BadPath(0)");
-    assert!(rt; read(alloc, "[[\"l\",-1]]")?.as_str() == "BadPath(0)");
-    assert!(rt; read(alloc, "[[\"x\"],7]")?.as_str() == "BadPath(1)");
-    assert!(rt; read(alloc, "[[\"x\"],[true]]")?.as_str() == "BadPath(1)");
+    for (text, wanted) in &LISTED {
+        let found = read(alloc, text)?;
+        assert!(rt; found.as_str() == *wanted, "at {text}");
+    }
+    let none = paths_of(alloc, None)?;
+    assert!(rt; none.is_empty());
     Ok(())
 }
 
@@ -159,18 +242,45 @@ fn reads_whole_numbers_alone(rt: HostRuntime) -> Result<(), Fail> {
     Ok(())
 }
 
+// A state, and what an update makes of it.
+fn merged(alloc: Global, state: Dict, update: &str) -> Result<(Dict, Dict), Fail> {
+    let update = dict(alloc, update)?;
+    let found = merge(alloc, state.copy()?, update)?;
+    Ok((state, found))
+}
+
 #[test]
 fn merges_by_top_level_keys(rt: HostRuntime) -> Result<(), Fail> {
     let alloc = rt.alloc();
     let state = dict(alloc, "{\"a\":{\"old\":1},\"b\":2,\"d\":4}")?;
-    let update = dict(alloc, "{\"a\":{\"new\":1},\"c\":3}")?;
-    let found = merge(alloc, state.copy()?, update)?;
+    let (state, found) = merged(alloc, state, "{\"a\":{\"new\":1},\"c\":3}")?;
     assert!(rt; found.len() == 4 && found.get("a").is_some() && found.get("e").is_none());
-    assert!(rt;
-        shown(alloc, &Val::Dict(found))?.as_str() == "{\"a\":{\"new\":1},\"b\":2,\"c\":3,\"d\":4}"
-    );
-    assert!(rt; shown(alloc, &Val::Dict(state))?.as_str() == "{\"a\":{\"old\":1},\"b\":2,\"d\":4}");
+    let after = text_of(alloc, Val::Dict(found))?;
+    let before = text_of(alloc, Val::Dict(state))?;
+    assert!(rt; after.as_str() == "{\"a\":{\"new\":1},\"b\":2,\"c\":3,\"d\":4}");
+    assert!(rt; before.as_str() == "{\"a\":{\"old\":1},\"b\":2,\"d\":4}");
     Ok(())
+}
+
+// `{"b":true}`
+fn one_key(alloc: Global) -> Result<Dict, Fail> {
+    let key = Text::copy_of(alloc, "b")?;
+    Ok(Dict::new().insert(alloc, key, Val::Bool(true))?)
+}
+
+// The dict with the bytes 1 and 2 at the key `a`.
+fn with_bytes(alloc: Global, one: Dict) -> Result<Dict, Fail> {
+    let bytes = Bytes::new(alloc, [1, 2].to_vec(alloc)?)?;
+    let value = Val::Bytes(bytes);
+    let key = Text::new(alloc, String::from_str(alloc, "a")?)?;
+    Ok(one.insert(alloc, key, value)?)
+}
+
+fn copied(of: &Dict) -> Result<Val, Fail> {
+    let value = Val::Dict(of.copy()?);
+    let copy = value.copy();
+    drop(value);
+    Ok(copy?)
 }
 
 #[test]
@@ -178,31 +288,56 @@ fn inserts_at_a_key_and_leaves_copies(rt: HostRuntime) -> Result<(), Fail> {
     let alloc = rt.alloc();
     let empty = Dict::new();
     assert!(rt; empty.is_empty() && !empty.has_bytes());
-    let one = empty.insert(alloc, Text::copy_of(alloc, "b")?, Val::Bool(true))?;
-    let kept = Val::Dict(one.copy()?).copy()?;
-    let bytes = Bytes::new(alloc, [1, 2].to_vec(alloc)?)?;
-    let two = one.insert(
-        alloc,
-        Text::new(alloc, String::from_str(alloc, "a")?)?,
-        Val::Bytes(bytes),
-    )?;
+    drop(empty);
+    let one = one_key(alloc)?;
+    let kept = copied(&one)?;
+    let two = with_bytes(alloc, one)?;
     assert!(rt; two.has_bytes() && two.len() == 2);
-    assert!(rt; separated(alloc, &two)?.as_str() == "{\"b\":true} [[\"a\"]] 1.2.");
-    assert!(rt; shown(alloc, &kept)?.as_str() == "{\"b\":true}");
+    let found = separated(alloc, &two)?;
+    drop(two);
+    assert!(rt; found.as_str() == "{\"b\":true} [[\"a\"]] 1.2.");
+    let found = text_of(alloc, kept)?;
+    assert!(rt; found.as_str() == "{\"b\":true}");
+    Ok(())
+}
+
+fn is_copied(alloc: Global, key: &str, other: &str) -> Result<bool, Fail> {
+    let text = Text::copy_of(alloc, key)?;
+    let copy = text.copy()?;
+    Ok(copy.is(key) && !text.is(other))
+}
+
+#[test]
+fn copies_texts(rt: HostRuntime) -> Result<(), Fail> {
+    let alloc = rt.alloc();
+    assert!(rt; is_copied(alloc, "key", "other")?);
+    assert!(rt; is_copied(alloc, "more than four and twenty bytes", "more than")?);
+    Ok(())
+}
+
+fn steps_in(alloc: Global, key: Text) -> Result<usize, Fail> {
+    let steps = [Step::Key(key), Step::Index(7)];
+    let path = Path::copy_of(alloc, &steps);
+    drop(steps);
+    let path = path?;
+    Ok(path.as_slice().len())
+}
+
+#[test]
+fn copies_steps(rt: HostRuntime) -> Result<(), Fail> {
+    let alloc = rt.alloc();
+    let key = Text::copy_of(alloc, "key")?;
+    assert!(rt; steps_in(alloc, key)? == 2);
     Ok(())
 }
 
 #[test]
-fn copies_texts_steps_and_buffers(rt: HostRuntime) -> Result<(), Fail> {
+fn copies_buffers(rt: HostRuntime) -> Result<(), Fail> {
     let alloc = rt.alloc();
-    let text = Text::copy_of(alloc, "key")?;
-    assert!(rt; text.copy()?.is("key") && !text.is("other"));
-    let long = Text::copy_of(alloc, "more than four and twenty bytes")?;
-    assert!(rt; long.copy()?.is("more than four and twenty bytes") && !long.is("more than"));
-    let steps = Path::copy_of(alloc, &[Step::Key(text), Step::Index(7)])?;
-    assert!(rt; steps.as_slice().len() == 2);
     let all = buffers(alloc, &[&[1, 2], &[255]])?;
-    let again = all.copy(alloc)?;
+    let again = all.copy(alloc);
+    drop(all);
+    let again = again?;
     assert_eq!(rt; again.as_slice().len(), 2);
     assert!(rt; again.as_slice()[1].copy()?.as_slice() == [255].as_slice());
     assert!(rt; Buffers::none(alloc).as_slice().is_empty());
@@ -213,67 +348,30 @@ fn copies_texts_steps_and_buffers(rt: HostRuntime) -> Result<(), Fail> {
 fn writes_json_text(rt: HostRuntime) -> Result<(), Fail> {
     let alloc = rt.alloc();
     let text =
-        "{\"a\":[-9223372036854775808,18446744073709551615,[],{}],\"b\":null,\"c\":[true,false],\"d\":\"\"}";
-    assert!(rt;
-        written(alloc, &value(alloc, text)?)?.as_str() == format!(in alloc; "> {text}")?.as_str()
-    );
-    let mut empty = Vec::new(alloc);
+        "> {\"a\":[-9223372036854775808,18446744073709551615,[],{}],\"b\":null,\"c\":[true,false],\"d\":\"\"}";
+    let value = value(alloc, &text[2..])?;
+    let found = written(alloc, &value);
+    drop(value);
+    assert!(rt; found?.as_str() == text);
+    Ok(())
+}
+
+#[test]
+fn writes_an_empty_dict(rt: HostRuntime) -> Result<(), Fail> {
+    let mut empty = Vec::new(rt.alloc());
     Dict::new().write_json(&mut empty)?;
     assert!(rt; empty.as_slice() == b"{}".as_slice());
-    let mut quoted = Vec::new(alloc);
+    Ok(())
+}
+
+#[test]
+fn quotes_a_text(rt: HostRuntime) -> Result<(), Fail> {
+    let mut quoted = Vec::new(rt.alloc());
     write_text(
         "\"\\/\u{8}\u{c}\n\r\t\u{1}\u{1f}\u{7f}\u{2028}é",
         &mut quoted,
     )?;
     let wanted = "\"\\\"\\\\/\\b\\f\\n\\r\\t\\u0001\\u001f\u{7f}\u{2028}é\"";
     assert!(rt; quoted.as_slice() == wanted.as_bytes());
-    Ok(())
-}
-
-// The keys k000 to k199, let in from both ends.
-fn many(alloc: Global) -> Result<Dict, Fail> {
-    let mut state = Dict::new();
-    for n in 0..200u32 {
-        let at = if n % 2 == 0 { n } else { 200 - n };
-        let key = format!(in alloc; "k{at:03}")?;
-        let value = value(alloc, format!(in alloc; "{at}")?.as_str())?;
-        state = state.insert(alloc, Text::copy_of(alloc, key.as_str())?, value)?;
-    }
-    Ok(state)
-}
-
-fn at(alloc: Global, of: &Dict, key: &str) -> Result<String, Fail> {
-    match of.get(key) {
-        Some(value) => shown(alloc, value),
-        None => Ok(String::from_str(alloc, "none")?),
-    }
-}
-
-#[test]
-fn states_of_many_keys_share_what_an_update_leaves(rt: HostRuntime) -> Result<(), Fail> {
-    let alloc = rt.alloc();
-    let state = many(alloc)?;
-    let before = state.copy()?;
-    let update = dict(alloc, "{\"a\":1,\"k100\":[2],\"k1005\":3,\"z\":4}")?;
-    let after = merge(alloc, state, update)?;
-    assert!(rt; before.len() == 200 && after.len() == 203);
-    for n in 0..200u32 {
-        let key = format!(in alloc; "k{n:03}")?;
-        let number = format!(in alloc; "{n}")?;
-        let wanted = if n == 100 { "[2]" } else { number.as_str() };
-        assert!(rt; at(alloc, &before, key.as_str())?.as_str() == number.as_str());
-        assert!(rt; at(alloc, &after, key.as_str())?.as_str() == wanted);
-    }
-    assert!(rt; at(alloc, &before, "k1005")?.as_str() == "none");
-    let text = written(alloc, &Val::Dict(after))?;
-    assert!(rt;
-        text.as_str()
-            .starts_with("> {\"a\":1,\"k000\":0,\"k001\":1,")
-    );
-    assert!(rt;
-        text.as_str()
-            .contains("\"k099\":99,\"k100\":[2],\"k1005\":3,\"k101\":101,")
-    );
-    assert!(rt; text.as_str().ends_with(",\"k199\":199,\"z\":4}"));
     Ok(())
 }

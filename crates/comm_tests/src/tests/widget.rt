@@ -1,23 +1,38 @@
 // Worked cases of the protocol, played on a widget. Buffers are given in base64 and shown by their bytes: AQI= is 1 and 2, /w== is 255.
-ghost use Rattle.std.specs.Prelude.{◌≡◌, [], ◌∷◌, None, IfOk, codes};
+ghost use Rattle.std.specs.Prelude.{◌≡◌, [], ◌∷◌, None, OnOk, codes};
+ghost use Rattle.comm_targets.specs.Meaning.{IsAskable};
+ghost use Rattle.comm_tests.specs.After.{after};
+
+mod taken_back;
 
 use comm_messages::{Body, Incoming, read_message};
 use comm_targets::{Answer, Event, Kind, Target, TargetFault};
-use comm_value::{Buffers, Dict, Text, paths_val, separate};
+use comm_value::{Buffers, Dict, Path, Separated, Text, paths_val, separate};
 use std::alloc::{AllocError, Global};
 use std::test::Fail;
 use widget_target::WidgetTarget;
+
+// The body of a message.
+fn body_of(alloc: Global, incoming: &Incoming) -> Result<Body, AllocError> {
+    match incoming {
+        Incoming::Msg { body, .. } => body.copy(alloc),
+        _ => Ok(Body::new(Dict::new(), Buffers::none(alloc))),
+    }
+}
+
+fn body_in(alloc: Global, line: &str) -> Result<Body, Fail> {
+    let (_client, incoming) = read_message(alloc, line.as_bytes(), 1)?;
+    let body = body_of(alloc, &incoming);
+    drop(incoming);
+    Ok(body?)
+}
 
 // The body of a message with this data and these buffers.
 fn body(alloc: Global, data: &str, buffers: &str) -> Result<Body, Fail> {
     let line = format!(in alloc;
         r#"{{"header":{{"msg_type":"comm_msg"}},"content":{{"comm_id":"a","data":{data}}},"buffers":{buffers}}}"#
     )?;
-    let (_client, incoming) = read_message(alloc, line.as_bytes(), 1)?;
-    match &incoming {
-        Incoming::Msg { body, .. } => Ok(body.copy(alloc)?),
-        _ => Ok(Body::new(Dict::new(), Buffers::none(alloc))),
-    }
+    body_in(alloc, line.as_str())
 }
 
 fn plain_body(alloc: Global, data: &str) -> Result<Body, Fail> {
@@ -31,49 +46,88 @@ fn copy_of(alloc: Global, text: Option<&str>) -> Result<Option<Text>, AllocError
     }
 }
 
-// The answer of a new widget to an opening.
-fn opened(alloc: Global, version: Option<&str>, body: Body) -> Result<Answer, TargetFault> {
-    let opening = Event::Open {
-        id: Text::copy_of(alloc, "a")?,
-        version: copy_of(alloc, version)?,
-        body,
-    };
-    let mut widget = WidgetTarget::new(alloc);
-    widget.prepare(&opening, None)
+// The answer of a target, which is let go.
+fn answer<T: Target>(
+    mut target: T,
+    event: &Event,
+    now: Option<&Dict>,
+) -> Result<Answer, TargetFault>
+    requires unstaged { (T.means target).staged ≡ None }
+    requires askable { IsAskable (T.means target) event.now }
+{
+    target.prepare(event, now)
 }
 
-// A widget with the comm `a`.
-fn with_comm(alloc: Global) -> Result<WidgetTarget, TargetFault>
-    ensures { IfOk result (λ w. ⟦<WidgetTarget as Target>⟧.means w ≡ record { kind = Kind.Widget; notes = 0; ids = codes "a" ∷ []; staged = None }) }
+// Has a target do what an event asks.
+fn have_done<T: Target>(target: &mut T, event: &Event) -> Result<(), TargetFault>
+    requires unstaged { (T.means target.old).staged ≡ None }
+    requires askable { IsAskable (T.means target.old) event.now }
+    ensures { OnOk result (T.means target.new ≡ after (T.means target.old) event.now) }
 {
+    let answer = target.prepare(event, None)?;
+    drop(answer);
+    target.commit();
+    Ok(())
+}
+
+// Opens the comm `a` of a widget that has none.
+fn launch<T: Target>(alloc: Global, widget: &mut T) -> Result<(), TargetFault>
+    requires { T.means widget.old ≡ record { kind = Kind.Widget; notes = 0; ids = []; staged = None } }
+    ensures { OnOk result (T.means widget.new ≡ record { kind = Kind.Widget; notes = 0; ids = codes "a" ∷ []; staged = None }) }
+{
+    let id = Text::copy_of(alloc, "a")?;
     let launch = Event::Launch {
-        id: Text::copy_of(alloc, "a")?,
+        id,
         state: Dict::new(),
     };
-    let mut widget = WidgetTarget::new(alloc);
-    let _launched = widget.prepare(&launch, None)?;
-    widget.commit();
-    Ok(widget)
+    let done = have_done(widget, &launch);
+    drop(launch);
+    done
+}
+
+// The answer of a new widget to an event on its comm `a`, whose state is `now`.
+fn later_answer<T: Target>(
+    alloc: Global,
+    mut widget: T,
+    event: &Event,
+    now: &Dict,
+) -> Result<Answer, TargetFault>
+    requires new { T.means widget ≡ record { kind = Kind.Widget; notes = 0; ids = []; staged = None } }
+    requires askable { IsAskable (record { kind = Kind.Widget; notes = 0; ids = codes "a" ∷ []; staged = None }) event.now }
+{
+    launch(alloc, &mut widget)?;
+    widget.prepare(event, Some(now))
+}
+
+// The answer of a new widget to an opening.
+fn opened(alloc: Global, version: Option<&str>, body: Body) -> Result<Answer, TargetFault> {
+    let widget: Box<dyn Target> = Box::new(alloc, WidgetTarget::new(alloc))?;
+    let version = copy_of(alloc, version)?;
+    let id = Text::copy_of(alloc, "a")?;
+    let opening = Event::Open { id, version, body };
+    let given = answer(widget, &opening, None);
+    drop(opening);
+    given
 }
 
 // The answer to a message, where the comm's state is `now`.
 fn told(alloc: Global, now: &Dict, body: Body) -> Result<Answer, TargetFault> {
-    let message = Event::Msg {
-        id: Text::copy_of(alloc, "a")?,
-        body,
-    };
-    let mut widget = with_comm(alloc)?;
-    widget.prepare(&message, Some(now))
+    let widget: Box<dyn Target> = Box::new(alloc, WidgetTarget::new(alloc))?;
+    let id = Text::copy_of(alloc, "a")?;
+    let message = Event::Msg { id, body };
+    let given = later_answer(alloc, widget, &message, now);
+    drop(message);
+    given
 }
 
 // The answer to a push of these keys, where the comm's state is `now`.
 fn pushed(alloc: Global, now: &Dict, keys: Dict) -> Result<Answer, TargetFault> {
-    let push = Event::Push {
-        id: Text::copy_of(alloc, "a")?,
-        state: keys,
-    };
-    let mut widget = with_comm(alloc)?;
-    widget.prepare(&push, Some(now))
+    let widget: Box<dyn Target> = Box::new(alloc, WidgetTarget::new(alloc))?;
+    let id = Text::copy_of(alloc, "a")?;
+    let push = Event::Push { id, state: keys };
+    let given = later_answer(alloc, widget, &push, now);
+    drop(push);
+    given
 }
 
 fn push_bytes(alloc: Global, buffers: &Buffers, out: &mut Vec<u8>) -> Result<(), Fail> {
@@ -87,14 +141,25 @@ fn push_bytes(alloc: Global, buffers: &Buffers, out: &mut Vec<u8>) -> Result<(),
     Ok(())
 }
 
-// A state without its bytes, their paths, and the bytes.
-fn push_state(alloc: Global, state: &Dict, out: &mut Vec<u8>) -> Result<(), Fail> {
-    let parts = separate(alloc, state)?;
+fn push_paths(alloc: Global, paths: &[Path], out: &mut Vec<u8>) -> Result<(), Fail> {
+    let listed = paths_val(alloc, paths)?;
+    let pushed = listed.write_json(out);
+    drop(listed);
+    Ok(pushed?)
+}
+
+fn push_parts(alloc: Global, parts: &Separated, out: &mut Vec<u8>) -> Result<(), Fail> {
     out.extend_from_slice(b"state ")?;
     parts.plain.write_json(out)?;
     out.push(b' ')?;
-    paths_val(alloc, parts.paths.as_slice())?.write_json(out)?;
+    push_paths(alloc, parts.paths.as_slice(), out)?;
     push_bytes(alloc, &parts.buffers, out)
+}
+
+// A state without its bytes, their paths, and the bytes.
+fn push_state(alloc: Global, state: &Dict, out: &mut Vec<u8>) -> Result<(), Fail> {
+    let parts = separate(alloc, state)?;
+    push_parts(alloc, &parts, out)
 }
 
 fn push_answer(alloc: Global, answer: &Answer, out: &mut Vec<u8>) -> Result<(), Fail> {
@@ -114,13 +179,25 @@ fn push_answer(alloc: Global, answer: &Answer, out: &mut Vec<u8>) -> Result<(), 
     Ok(())
 }
 
+fn push_shown(
+    alloc: Global,
+    answer: Result<Answer, TargetFault>,
+    out: &mut Vec<u8>,
+) -> Result<(), Fail> {
+    match answer {
+        Ok(answer) => {
+            let pushed = push_answer(alloc, &answer, out);
+            drop(answer);
+            pushed
+        }
+        Err(fault) => Ok(out.extend_from_slice(format!(in alloc; "{fault:?}")?.as_bytes())?),
+    }
+}
+
 // The new state, the messages and what the caller is handed, or the fault.
 fn shown(alloc: Global, answer: Result<Answer, TargetFault>) -> Result<String, Fail> {
     let mut out = Vec::new(alloc);
-    match answer {
-        Ok(answer) => push_answer(alloc, &answer, &mut out)?,
-        Err(fault) => out.extend_from_slice(format!(in alloc; "{fault:?}")?.as_bytes())?,
-    }
+    push_shown(alloc, answer, &mut out)?;
     Ok(String::from_utf8(out)?)
 }
 
@@ -132,10 +209,14 @@ fn opens(alloc: Global, data: &str, buffers: &str) -> Result<String, Fail> {
     )
 }
 
+fn given_state(answer: Answer) -> Result<Dict, Fail> {
+    Ok(answer.state.ok_or("no state")?)
+}
+
 // The state of a widget that was opened with this data and these buffers.
 fn state_of(alloc: Global, data: &str, buffers: &str) -> Result<Dict, Fail> {
-    let answer = opened(alloc, Some("2.0.0"), body(alloc, data, buffers)?)?;
-    Ok(answer.state.ok_or("no state")?)
+    let body = body(alloc, data, buffers)?;
+    given_state(opened(alloc, Some("2.0.0"), body)?)
 }
 
 // What this message is answered, on the comm of a widget that was opened with the first data.
@@ -201,30 +282,45 @@ fn update_changes_key_by_key(rt: HostRuntime) -> Result<(), Fail> {
     Ok(())
 }
 
+const ONE_BUFFER: &str = r#"["AQI="]"#;
+
+const TWO_BUFFERS: &str = r#"["AQI=","/w=="]"#;
+
+/// An update's state, paths and buffers, and the answer.
+const UPDATES: [(&str, &str, &str, &str); 8] = [
+    ("{}", r#"[["x"],["y"]]"#, ONE_BUFFER, "BufferMissing(1)"),
+    (
+        "{}",
+        r#"[["x"]]"#,
+        TWO_BUFFERS,
+        r#"state {"k":1} [["x"]] 1.2.;"#,
+    ),
+    (
+        "{}",
+        r#"[["x"],["x"]]"#,
+        TWO_BUFFERS,
+        r#"state {"k":1} [["x"]] 255.;"#,
+    ),
+    ("{}", "[[]]", ONE_BUFFER, "BadPath(0)"),
+    (r#"{"l":[null]}"#, r#"[["l",1]]"#, ONE_BUFFER, "BadPath(0)"),
+    ("{}", r#"[["p"],["p","q"]]"#, TWO_BUFFERS, "BadPath(1)"),
+    ("[]", "7", ONE_BUFFER, "BadState"),
+    ("{}", "7", ONE_BUFFER, "BadPath(0)"),
+];
+
+fn updates(alloc: Global, state: &str, paths: &str, buffers: &str) -> Result<String, Fail> {
+    let update = format!(in alloc;
+        r#"{{"method":"update","state":{state},"buffer_paths":{paths}}}"#
+    )?;
+    tells(alloc, ONE, update.as_str(), buffers)
+}
+
 #[test]
 fn buffers_of_an_update_are_placed_or_refused(rt: HostRuntime) -> Result<(), Fail> {
     let alloc = rt.alloc();
-    let (one, two) = (r#"["AQI="]"#, r#"["AQI=","/w=="]"#);
-    for (state, paths, buffers, wanted) in [
-        ("{}", r#"[["x"],["y"]]"#, one, "BufferMissing(1)"),
-        ("{}", r#"[["x"]]"#, two, r#"state {"k":1} [["x"]] 1.2.;"#),
-        (
-            "{}",
-            r#"[["x"],["x"]]"#,
-            two,
-            r#"state {"k":1} [["x"]] 255.;"#,
-        ),
-        ("{}", "[[]]", one, "BadPath(0)"),
-        (r#"{"l":[null]}"#, r#"[["l",1]]"#, one, "BadPath(0)"),
-        ("{}", r#"[["p"],["p","q"]]"#, two, "BadPath(1)"),
-        ("[]", "7", one, "BadState"),
-        ("{}", "7", one, "BadPath(0)"),
-    ] {
-        let update = format!(in alloc;
-            r#"{{"method":"update","state":{state},"buffer_paths":{paths}}}"#
-        )?;
-        let found = tells(alloc, ONE, update.as_str(), buffers)?;
-        assert_eq!(rt; found.as_str(), wanted, "at {update}");
+    for (state, paths, buffers, wanted) in &UPDATES {
+        let found = updates(alloc, state, paths, buffers)?;
+        assert_eq!(rt; found.as_str(), *wanted, "at {state} {paths}");
     }
     Ok(())
 }
@@ -267,35 +363,24 @@ fn other_messages_change_nothing_or_are_refused(rt: HostRuntime) -> Result<(), F
     Ok(())
 }
 
-#[test]
-fn a_push_tells_just_its_keys(rt: HostRuntime) -> Result<(), Fail> {
-    let alloc = rt.alloc();
-    let now = state_of(alloc, r#"{"state":{"value":1,"min":0}}"#, "[]")?;
-    let keys = state_of(alloc, r#"{"state":{"value":5}}"#, "[]")?;
-    let found = shown(alloc, pushed(alloc, &now, keys))?;
-    let wanted =
-        r#"state {"min":0,"value":5} [];message {"buffer_paths":[],"method":"update","state":{"value":5}};"#;
-    assert_eq!(rt; found.as_str(), wanted);
-    Ok(())
+// What a push of the keys of the second data is answered, on the comm of a widget that was opened with the first.
+fn pushes(alloc: Global, first: &str, keys: &str) -> Result<String, Fail> {
+    let now = state_of(alloc, first, "[]")?;
+    let keys = state_of(alloc, keys, "[]")?;
+    let answer = pushed(alloc, &now, keys);
+    drop(now);
+    shown(alloc, answer)
 }
 
 #[test]
-fn a_launch_gives_its_state_and_is_taken_back(rt: HostRuntime) -> Result<(), Fail> {
-    let alloc = rt.alloc();
-    let launch = Event::Launch {
-        id: Text::copy_of(alloc, "a")?,
-        state: state_of(alloc, r#"{"state":{"value":1}}"#, "[]")?,
-    };
-    let mut widget = WidgetTarget::new(alloc);
-    assert!(rt; widget.kind() == Kind::Widget && widget.notes() == 0 && widget.idle());
-    let answer = widget.prepare(&launch, None)?;
-    assert!(rt; !widget.idle());
-    widget.abandon();
-    assert!(rt; widget.idle());
-    widget.stop();
-    assert_eq!(rt;
-        shown(alloc, Ok(answer))?.as_str(),
-        r#"state {"value":1} [];"#
-    );
+fn a_push_tells_just_its_keys(rt: HostRuntime) -> Result<(), Fail> {
+    let found = pushes(
+        rt.alloc(),
+        r#"{"state":{"value":1,"min":0}}"#,
+        r#"{"state":{"value":5}}"#,
+    )?;
+    let wanted =
+        r#"state {"min":0,"value":5} [];message {"buffer_paths":[],"method":"update","state":{"value":5}};"#;
+    assert_eq!(rt; found.as_str(), wanted);
     Ok(())
 }

@@ -8,6 +8,7 @@ use comm_messages::{
 use comm_value::{Buffers, Bytes, Dict, Text};
 use json::Scratch;
 use std::alloc::Global;
+use std::process::Abort;
 use std::test::Fail;
 
 fn body(alloc: Global, data: &str, buffers: Buffers) -> Result<Body, Fail> {
@@ -16,55 +17,84 @@ fn body(alloc: Global, data: &str, buffers: Buffers) -> Result<Body, Fail> {
     Ok(Body::new(whole_dict(alloc, fields_of(&object))?, buffers))
 }
 
-fn written(alloc: Global, message: &Outgoing, parent: &Parent) -> Result<String, Fail>
-    requires { goes_with message.now parent.now ≡ true }
+// The line of a message, which is let go.
+fn written(alloc: Global, message: Outgoing, parent: &Parent) -> Result<String, Fail>
+    requires { goes_with message parent.now ≡ true }
 {
-    let bytes = write_message(alloc, message, parent)?;
+    let bytes = write_message(alloc, &message, parent);
+    drop(message);
+    let bytes = bytes?;
     Ok(String::from_utf8_lossy(alloc, bytes.as_slice())?)
+}
+
+// The line is as wanted, and says this where it is read.
+fn is_line(
+    rt: &impl Abort,
+    alloc: Global,
+    line: &str,
+    wanted: &str,
+    says: &str,
+) -> Result<(), Fail> {
+    assert_eq!(rt; line, wanted);
+    let found = read(alloc, line.as_bytes())?;
+    assert_eq!(rt; found.as_str(), says);
+    Ok(())
 }
 
 fn id(alloc: Global, text: &str) -> Result<Text, Fail> {
     Ok(Text::copy_of(alloc, text)?)
 }
 
-#[test]
-fn writes_an_open(rt: HostRuntime) -> Result<(), Fail> {
-    let alloc = rt.alloc();
-    let body = body(
-        alloc,
-        r#"{"state":{"value":1},"buffer_paths":[]}"#,
-        Buffers::none(alloc),
-    )?;
+fn open_line(alloc: Global, body: Body) -> Result<String, Fail> {
     let open = Outgoing::Open {
         id: id(alloc, "67e55044-10b1-426f-9247-bb680e5fe0c8")?,
         target: id(alloc, "jupyter.widget")?,
         version: id(alloc, "2.0.0")?,
         body,
     };
-    let text = written(
-        alloc,
-        &open,
-        &Parent::Call {
-            client: 0,
-            number: 2,
-        },
-    )?;
-    assert_eq!(rt;
-        text.as_str(),
-        r#"{"buffers":[],"call":2,"client":0,"content":{"comm_id":"67e55044-10b1-426f-9247-bb680e5fe0c8","data":{"buffer_paths":[],"state":{"value":1}},"target_name":"jupyter.widget"},"header":{"msg_type":"comm_open"},"metadata":{"version":"2.0.0"}}"#
-    );
-    assert_eq!(rt;
-        read(alloc, text.as_bytes())?.as_str(),
-        r#"0 open 67e55044-10b1-426f-9247-bb680e5fe0c8 jupyter.widget 2.0.0 {"buffer_paths":[],"state":{"value":1}}"#
-    );
-    Ok(())
+    let parent = Parent::Call {
+        client: 0,
+        number: 2,
+    };
+    written(alloc, open, &parent)
+}
+
+#[test]
+fn writes_an_open(rt: HostRuntime) -> Result<(), Fail> {
+    let alloc = rt.alloc();
+    let state = r#"{"state":{"value":1},"buffer_paths":[]}"#;
+    let line = open_line(alloc, body(alloc, state, Buffers::none(alloc))?)?;
+    let wanted =
+        r#"{"buffers":[],"call":2,"client":0,"content":{"comm_id":"67e55044-10b1-426f-9247-bb680e5fe0c8","data":{"buffer_paths":[],"state":{"value":1}},"target_name":"jupyter.widget"},"header":{"msg_type":"comm_open"},"metadata":{"version":"2.0.0"}}"#;
+    let says =
+        r#"0 open 67e55044-10b1-426f-9247-bb680e5fe0c8 jupyter.widget 2.0.0 {"buffer_paths":[],"state":{"value":1}}"#;
+    is_line(&rt, alloc, line.as_str(), wanted, says)
+}
+
+fn buffer(alloc: Global, bytes: &[u8]) -> Result<Bytes, Fail> {
+    Ok(Bytes::new(alloc, bytes.to_vec(alloc)?)?)
 }
 
 fn two_buffers(alloc: Global) -> Result<Buffers, Fail> {
     let mut all = Vec::new(alloc);
-    all.push(Bytes::new(alloc, vec![in alloc; 1, 2]?)?)?;
-    all.push(Bytes::new(alloc, vec![in alloc; 255]?)?)?;
+    all.push(buffer(alloc, &[1, 2])?)?;
+    all.push(buffer(alloc, &[255])?)?;
     Ok(Buffers::new(all))
+}
+
+fn copy_of(alloc: Global, body: Body) -> Result<Body, Fail> {
+    let copy = body.copy(alloc);
+    drop(body);
+    Ok(copy?)
+}
+
+fn message_line(alloc: Global, body: Body) -> Result<String, Fail> {
+    let id = id(alloc, "a")?;
+    let parent = Parent::Call {
+        client: 0,
+        number: 3,
+    };
+    written(alloc, Outgoing::Msg { id, body }, &parent)
 }
 
 #[test]
@@ -72,50 +102,37 @@ fn writes_a_message(rt: HostRuntime) -> Result<(), Fail> {
     let alloc = rt.alloc();
     let state =
         r#"{"method":"update","state":{"y":{"z":[null]}},"buffer_paths":[["x"],["y","z",0]]}"#;
-    let body = body(alloc, state, two_buffers(alloc)?)?.copy(alloc)?;
-    let message = Outgoing::Msg {
-        id: id(alloc, "a")?,
-        body,
+    let buffers = two_buffers(alloc)?;
+    let line = message_line(alloc, copy_of(alloc, body(alloc, state, buffers)?)?)?;
+    let wanted =
+        r#"{"buffers":["AQI=","/w=="],"call":3,"client":0,"content":{"comm_id":"a","data":{"buffer_paths":[["x"],["y","z",0]],"method":"update","state":{"y":{"z":[null]}}}},"header":{"msg_type":"comm_msg"},"metadata":{}}"#;
+    let says =
+        r#"0 msg a {"buffer_paths":[["x"],["y","z",0]],"method":"update","state":{"y":{"z":[null]}}} 1.2. 255."#;
+    is_line(&rt, alloc, line.as_str(), wanted, says)
+}
+
+fn close_line(alloc: Global, comm: &str) -> Result<String, Fail> {
+    let id = id(alloc, comm)?;
+    let parent = Parent::Call {
+        client: 3,
+        number: 18446744073709551615,
     };
-    let text = written(
-        alloc,
-        &message,
-        &Parent::Call {
-            client: 0,
-            number: 3,
-        },
-    )?;
-    assert_eq!(rt;
-        text.as_str(),
-        r#"{"buffers":["AQI=","/w=="],"call":3,"client":0,"content":{"comm_id":"a","data":{"buffer_paths":[["x"],["y","z",0]],"method":"update","state":{"y":{"z":[null]}}}},"header":{"msg_type":"comm_msg"},"metadata":{}}"#
-    );
-    assert_eq!(rt;
-        read(alloc, text.as_bytes())?.as_str(),
-        r#"0 msg a {"buffer_paths":[["x"],["y","z",0]],"method":"update","state":{"y":{"z":[null]}}} 1.2. 255."#
-    );
-    Ok(())
+    written(alloc, Outgoing::Close { id }, &parent)
 }
 
 #[test]
 fn writes_a_close(rt: HostRuntime) -> Result<(), Fail> {
     let alloc = rt.alloc();
-    let close = Outgoing::Close {
-        id: id(alloc, "\"\u{1}\u{7f}/\u{2028}")?,
-    };
-    let parent = Parent::Call {
-        client: 3,
-        number: 18446744073709551615,
-    };
-    let text = written(alloc, &close, &parent)?;
-    assert_eq!(rt;
-        text.as_str(),
-        "{\"buffers\":[],\"call\":18446744073709551615,\"client\":3,\"content\":{\"comm_id\":\"\\\"\\u0001\u{7f}/\u{2028}\",\"data\":{}},\"header\":{\"msg_type\":\"comm_close\"},\"metadata\":{}}"
-    );
-    assert_eq!(rt;
-        read(alloc, text.as_bytes())?.as_str(),
-        "3 close \"\u{1}\u{7f}/\u{2028}"
-    );
-    Ok(())
+    let line = close_line(alloc, "\"\u{1}\u{7f}/\u{2028}")?;
+    let wanted =
+        "{\"buffers\":[],\"call\":18446744073709551615,\"client\":3,\"content\":{\"comm_id\":\"\\\"\\u0001\u{7f}/\u{2028}\",\"data\":{}},\"header\":{\"msg_type\":\"comm_close\"},\"metadata\":{}}";
+    is_line(
+        &rt,
+        alloc,
+        line.as_str(),
+        wanted,
+        "3 close \"\u{1}\u{7f}/\u{2028}",
+    )
 }
 
 fn info(alloc: Global, comm: &str, target: &str) -> Result<Info, Fail> {
@@ -133,7 +150,7 @@ fn two_comms(alloc: Global) -> Result<Infos, Fail> {
 
 fn reply(alloc: Global, comms: Infos, client: u8, front: u64) -> Result<String, Fail> {
     let reply = Outgoing::InfoReply { comms };
-    written(alloc, &reply, &Parent::Read { client, front })
+    written(alloc, reply, &Parent::Read { client, front })
 }
 
 #[test]

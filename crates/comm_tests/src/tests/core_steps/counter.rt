@@ -2,50 +2,123 @@
 ghost use Rattle.std.specs.Prelude.{◌≡◌, true};
 ghost use Rattle.comm_targets.specs.Meaning.{IsIdle};
 
-use crate::tests::core_steps::steps::{launch, limits, message, open, register, step};
-use crate::tests::core_steps::words::{body, holds, same, with};
-use comm_core::{Call, Core, StateAnswer};
+use crate::tests::core_steps::steps::{Asked, Step, answers, limits, register};
+use crate::tests::core_steps::words::{Sent, holds, same};
+use comm_core::{Core, StateAnswer};
+use comm_messages::Info;
 use comm_targets::{Counter, Target};
-use comm_value::{Dict, Text};
+use comm_value::Text;
 use std::alloc::Global;
 use std::test::Fail;
 
-/// A counter counts the messages of all its comms; the kernel's own calls on it.
+/// A counter counts the messages of all its comms.
+const COUNTED: [Step; 4] = [
+    Step {
+        asked: Asked::OpenWithoutData {
+            id: "b",
+            target: "n",
+        },
+        reply: "opened",
+        messages: &[],
+    },
+    Step {
+        asked: Asked::OpenWithoutData {
+            id: "a",
+            target: "n",
+        },
+        reply: "opened",
+        messages: &[],
+    },
+    Step {
+        asked: Asked::Message("a"),
+        reply: "delivered",
+        messages: &[Sent {
+            kind: "comm_msg",
+            id: "a",
+            data: "{\"count\":1}",
+        }],
+    },
+    Step {
+        asked: Asked::Message("b"),
+        reply: "delivered",
+        messages: &[Sent {
+            kind: "comm_msg",
+            id: "b",
+            data: "{\"count\":2}",
+        }],
+    },
+];
+
+/// The kernel's own calls on it.
+const OWN_CALLS: [Step; 6] = [
+    Step {
+        asked: Asked::Push("a"),
+        reply: "not_widget",
+        messages: &[],
+    },
+    Step {
+        asked: Asked::Launch("nowhere"),
+        reply: "no_target",
+        messages: &[],
+    },
+    Step {
+        asked: Asked::Launch("n"),
+        reply: "not_widget",
+        messages: &[],
+    },
+    Step {
+        asked: Asked::Send("a"),
+        reply: "delivered",
+        messages: &[Sent {
+            kind: "comm_msg",
+            id: "a",
+            data: "{\"n\":1}",
+        }],
+    },
+    Step {
+        asked: Asked::HangUp("a"),
+        reply: "closed",
+        messages: &[Sent {
+            kind: "comm_close",
+            id: "a",
+            data: "{}",
+        }],
+    },
+    Step {
+        asked: Asked::HangUp("a"),
+        reply: "no_comm",
+        messages: &[],
+    },
+];
+
+// The comms `a` and `b` in the order of their ids, of which the first is the counter's.
+fn are_both(alloc: Global, infos: &[Info]) -> Result<(), Fail> {
+    holds(infos.len() == 2)?;
+    if let Some(info) = infos.first() {
+        same(alloc, info.id.as_str(), "a")?;
+        same(alloc, info.target.as_str(), "n")?;
+    }
+    Ok(())
+}
+
+// The comms are told, and a counter's comm has no state.
+fn reads<T: Target>(alloc: Global, core: &Core<T>) -> Result<(), Fail> {
+    let a = Text::copy_of(alloc, "a")?;
+    holds(matches!(core.state(&a)?, StateAnswer::NoState))?;
+    are_both(alloc, core.infos(None)?.as_slice())?;
+    let other = Text::copy_of(alloc, "")?;
+    holds(core.infos(Some(&other))?.as_slice().is_empty())
+}
+
 fn counted<T: Target>(alloc: Global, core: &mut Core<T>, target: T) -> Result<(), Fail>
     requires settled { core.old.settled ≡ true }
     requires idle { IsIdle (T.means target) }
     ensures { core.new.settled ≡ true }
 {
-    let one = with(alloc, "delivered", "comm_msg", "a", "{\"count\":1}")?;
-    let two = with(alloc, "delivered", "comm_msg", "b", "{\"count\":2}")?;
-    let sent = with(alloc, "delivered", "comm_msg", "a", "{\"n\":1}")?;
-    let closed = with(alloc, "closed", "comm_close", "a", "{}")?;
     let _back = register(alloc, core, "n", target, "registered")?;
-    open(alloc, core, "b", "n", true, "opened")?;
-    open(alloc, core, "a", "n", true, "opened")?;
-    message(alloc, core, "a", &one)?;
-    message(alloc, core, "b", &two)?;
-    let a = Text::copy_of(alloc, "a")?;
-    holds(matches!(core.state(&a)?, StateAnswer::NoState))?;
-    let infos = core.infos(None)?;
-    holds(infos.as_slice().len() == 2)?;
-    if let Some(info) = infos.as_slice().first() {
-        same(alloc, info.id.as_str(), "a")?;
-        same(alloc, info.target.as_str(), "n")?;
-    }
-    let other = Text::copy_of(alloc, "")?;
-    holds(core.infos(Some(&other))?.as_slice().is_empty())?;
-    let id = a.copy()?;
-    let state = Dict::new();
-    step(alloc, core, Call::Push { id, state }, "not_widget")?;
-    launch(alloc, core, "nowhere", "no_target")?;
-    launch(alloc, core, "n", "not_widget")?;
-    let id = a.copy()?;
-    let body = body(alloc, false)?;
-    step(alloc, core, Call::Send { id, body }, &sent)?;
-    let id = a.copy()?;
-    step(alloc, core, Call::HangUp { id }, &closed)?;
-    step(alloc, core, Call::HangUp { id: a }, "no_comm")
+    answers(alloc, core, &COUNTED)?;
+    reads(alloc, core)?;
+    answers(alloc, core, &OWN_CALLS)
 }
 
 #[test]

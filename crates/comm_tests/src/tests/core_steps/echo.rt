@@ -2,31 +2,80 @@
 ghost use Rattle.std.specs.Prelude.{◌≡◌, true};
 ghost use Rattle.comm_targets.specs.Meaning.{IsIdle};
 
-use crate::tests::core_steps::steps::{close, limits, message, open, register};
-use crate::tests::core_steps::words::{holds, with};
+use crate::tests::core_steps::steps::{Asked, Step, answers, limits, register};
+use crate::tests::core_steps::words::{Sent, holds};
 use comm_core::Core;
 use comm_targets::{Echo, Target};
 use std::alloc::Global;
 use std::test::Fail;
 
 /// An id in use is refused without a close, a message comes back, an unknown target is answered with a close.
+const ECHOED: [Step; 7] = [
+    Step {
+        asked: Asked::OpenWithoutData {
+            id: "a",
+            target: "t",
+        },
+        reply: "opened",
+        messages: &[],
+    },
+    Step {
+        asked: Asked::OpenWithoutData {
+            id: "a",
+            target: "nowhere",
+        },
+        reply: "id_in_use",
+        messages: &[],
+    },
+    Step {
+        asked: Asked::OpenWithoutData {
+            id: "b",
+            target: "nowhere",
+        },
+        reply: "refused no_target",
+        messages: &[Sent {
+            kind: "comm_close",
+            id: "b",
+            data: "{}",
+        }],
+    },
+    Step {
+        asked: Asked::Message("a"),
+        reply: "delivered",
+        messages: &[Sent {
+            kind: "comm_msg",
+            id: "a",
+            data: "{\"n\":1}",
+        }],
+    },
+    Step {
+        asked: Asked::Message("q"),
+        reply: "no_comm",
+        messages: &[],
+    },
+    Step {
+        asked: Asked::Close("a"),
+        reply: "closed",
+        messages: &[],
+    },
+    Step {
+        asked: Asked::Close("a"),
+        reply: "no_comm",
+        messages: &[],
+    },
+];
+
 fn echoed<T: Target>(alloc: Global, core: &mut Core<T>, first: T, second: T) -> Result<(), Fail>
     requires settled { core.old.settled ≡ true }
     requires first { IsIdle (T.means first) }
     requires second { IsIdle (T.means second) }
     ensures { core.new.settled ≡ true }
 {
-    let refused = with(alloc, "refused no_target", "comm_close", "b", "{}")?;
-    let back = with(alloc, "delivered", "comm_msg", "a", "{\"n\":1}")?;
-    holds(!register(alloc, core, "t", first, "registered")?)?;
-    holds(register(alloc, core, "t", second, "name_taken")?)?;
-    open(alloc, core, "a", "t", true, "opened")?;
-    open(alloc, core, "a", "nowhere", true, "id_in_use")?;
-    open(alloc, core, "b", "nowhere", true, &refused)?;
-    message(alloc, core, "a", &back)?;
-    message(alloc, core, "q", "no_comm")?;
-    close(alloc, core, "a", "closed")?;
-    close(alloc, core, "a", "no_comm")
+    let is_back = register(alloc, core, "t", first, "registered")?;
+    holds(!is_back)?;
+    let is_back = register(alloc, core, "t", second, "name_taken")?;
+    holds(is_back)?;
+    answers(alloc, core, &ECHOED)
 }
 
 #[test]

@@ -2,8 +2,8 @@
 ghost use Rattle.std.specs.Prelude.{◌≡◌, true, [], None};
 ghost use Rattle.comm_targets.specs.Meaning.{IsIdle};
 
-use crate::tests::core_steps::steps::{limits, message, open, register, unregister};
-use crate::tests::core_steps::words::{holds, one, with};
+use crate::tests::core_steps::steps::{Asked, Step, answers, limits, register};
+use crate::tests::core_steps::words::{Sent, holds, one};
 use comm_core::{Core, StateAnswer};
 use comm_targets::{Answer, Book, Custom, Event, Kind, Target, TargetFault};
 use comm_value::{Buffers, Dict, Text, Val};
@@ -99,34 +99,94 @@ impl Target for Scripted {
     }
 }
 
-/// A free target: what it refuses, its state and its value for the caller; its comms are closed in the order of opening, before it ends.
-fn free_scenario<T: Target>(alloc: Global, core: &mut Core<T>, target: T) -> Result<(), Fail>
+/// What it refuses, its state and its value for the caller.
+const OPENED: [Step; 4] = [
+    Step {
+        asked: Asked::OpenWithoutData {
+            id: "c",
+            target: "t",
+        },
+        reply: "refused, the target refused with code 7",
+        messages: &[Sent {
+            kind: "comm_close",
+            id: "c",
+            data: "{}",
+        }],
+    },
+    Step {
+        asked: Asked::Open {
+            id: "b",
+            target: "t",
+        },
+        reply: "opened",
+        messages: &[],
+    },
+    Step {
+        asked: Asked::Open {
+            id: "a",
+            target: "t",
+        },
+        reply: "opened",
+        messages: &[],
+    },
+    Step {
+        asked: Asked::Message("a"),
+        reply: "custom",
+        messages: &[],
+    },
+];
+
+/// Its comms are closed in the order of opening, before it ends.
+const UNREGISTERED: [Step; 2] = [
+    Step {
+        asked: Asked::Unregister("t"),
+        reply: "unregistered b a",
+        messages: &[
+            Sent {
+                kind: "comm_close",
+                id: "b",
+                data: "{}",
+            },
+            Sent {
+                kind: "comm_close",
+                id: "a",
+                data: "{}",
+            },
+        ],
+    },
+    Step {
+        asked: Asked::Unregister("t"),
+        reply: "no_target",
+        messages: &[],
+    },
+];
+
+fn has_state<T: Target>(core: &Core<T>, id: &Text) -> Result<(), Fail> {
+    match core.state(id)? {
+        StateAnswer::State(state) => holds(state.get("s").is_some()),
+        _ => Err(Fail::new("no state")),
+    }
+}
+
+fn has_no_comm<T: Target>(core: &Core<T>, id: &Text) -> Result<(), Fail> {
+    holds(matches!(core.state(id)?, StateAnswer::NoComm))
+}
+
+fn free_scenario<T: Target>(
+    alloc: Global,
+    core: &mut Core<T>,
+    target: T,
+    a: &Text,
+) -> Result<(), Fail>
     requires settled { core.old.settled ≡ true }
     requires idle { IsIdle (T.means target) }
     ensures { core.new.settled ≡ true }
 {
-    let refused = with(
-        alloc,
-        "refused, the target refused with code 7",
-        "comm_close",
-        "c",
-        "{}",
-    )?;
-    let unregistered = with(alloc, "unregistered b a", "comm_close", "b", "{}")?;
-    let both = with(alloc, &unregistered, "comm_close", "a", "{}")?;
     let _back = register(alloc, core, "t", target, "registered")?;
-    open(alloc, core, "c", "t", true, &refused)?;
-    open(alloc, core, "b", "t", false, "opened")?;
-    open(alloc, core, "a", "t", false, "opened")?;
-    message(alloc, core, "a", "custom")?;
-    let a = Text::copy_of(alloc, "a")?;
-    match core.state(&a)? {
-        StateAnswer::State(state) => holds(state.get("s").is_some())?,
-        _ => return Err(Fail::new("no state")),
-    }
-    unregister(alloc, core, "t", &both)?;
-    unregister(alloc, core, "t", "no_target")?;
-    holds(matches!(core.state(&a)?, StateAnswer::NoComm))
+    answers(alloc, core, &OPENED)?;
+    has_state(core, a)?;
+    answers(alloc, core, &UNREGISTERED)?;
+    has_no_comm(core, a)
 }
 
 #[test]
@@ -141,11 +201,12 @@ fn a_free_target(rt: HostRuntime) -> Result<(), Fail> {
 fn run_free<T: Target>(alloc: Global, target: T) -> Result<(), Fail>
     requires { IsIdle (T.means target) }
 {
+    let a = Text::copy_of(alloc, "a")?;
     let mut core = match Core::new(alloc, limits(4_096)) {
         Ok(core) => core,
         Err(_) => return Err(Fail::new("no core")),
     };
-    let done = free_scenario(alloc, &mut core, target);
+    let done = free_scenario(alloc, &mut core, target, &a);
     core.stop_all();
     done
 }

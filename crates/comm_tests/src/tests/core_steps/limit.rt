@@ -2,42 +2,69 @@
 ghost use Rattle.std.specs.Prelude.{◌≡◌, true};
 ghost use Rattle.comm_targets.specs.Meaning.{IsIdle};
 
-use crate::tests::core_steps::steps::{close, limits, open, register};
-use crate::tests::core_steps::words::{holds, with};
+use crate::tests::core_steps::steps::{Asked, Step, answers, limits, register};
+use crate::tests::core_steps::words::{Sent, holds};
 use comm_core::{Core, Limits};
 use comm_targets::{Echo, Target};
 use std::alloc::Global;
 use std::test::Fail;
 
 /// As many comms as the limit allows, and room again after a close.
+const LIMITED: [Step; 4] = [
+    Step {
+        asked: Asked::OpenWithoutData {
+            id: "a",
+            target: "t",
+        },
+        reply: "opened",
+        messages: &[],
+    },
+    Step {
+        asked: Asked::OpenWithoutData {
+            id: "b",
+            target: "t",
+        },
+        reply: "refused too_many_comms",
+        messages: &[Sent {
+            kind: "comm_close",
+            id: "b",
+            data: "{}",
+        }],
+    },
+    Step {
+        asked: Asked::Close("a"),
+        reply: "closed",
+        messages: &[],
+    },
+    Step {
+        asked: Asked::OpenWithoutData {
+            id: "b",
+            target: "t",
+        },
+        reply: "opened",
+        messages: &[],
+    },
+];
+
 fn limited<T: Target>(alloc: Global, target: T) -> Result<(), Fail>
     requires { IsIdle (T.means target) }
 {
-    let refused = with(alloc, "refused too_many_comms", "comm_close", "b", "{}")?;
     let mut core = match Core::new(alloc, limits(1)) {
         Ok(core) => core,
         Err(_) => return Err(Fail::new("no core")),
     };
-    let done = limited_in(alloc, &mut core, target, &refused);
+    let done = limited_in(alloc, &mut core, target);
     core.stop_all();
     done
 }
 
-fn limited_in<T: Target>(
-    alloc: Global,
-    core: &mut Core<T>,
-    target: T,
-    refused: &str,
-) -> Result<(), Fail>
+fn limited_in<T: Target>(alloc: Global, core: &mut Core<T>, target: T) -> Result<(), Fail>
     requires settled { core.old.settled ≡ true }
     requires idle { IsIdle (T.means target) }
     ensures { core.new.settled ≡ true }
 {
     let _back = register(alloc, core, "t", target, "registered")?;
-    open(alloc, core, "a", "t", true, "opened")?;
-    open(alloc, core, "b", "t", true, refused)?;
-    close(alloc, core, "a", "closed")?;
-    open(alloc, core, "b", "t", true, "opened")
+    answers(alloc, core, &LIMITED)
 }
 
 #[test]

@@ -1,13 +1,14 @@
-//! One call of a manager, whose reply and messages are compared with what is wanted.
-ghost use Rattle.std.specs.Prelude.{◌≡◌, true};
+//! Calls of a manager, whose replies and messages are compared with what is wanted.
+ghost use Rattle.std.specs.Prelude.{◌≡◌, true, IfOk};
 ghost use Rattle.comm_targets.specs.Meaning.{IsIdle};
 ghost use Rattle.comm_core.specs.Ready.{HandsNothingIn};
 
-use crate::tests::core_steps::words::{body, same, shown, words};
-use comm_core::{Call, Core, Limits};
+use crate::tests::core_steps::words::{Sent, body, same, shown, wanted, words};
+use comm_core::{Call, Core, Limits, Reply};
+use comm_messages::Outgoing;
 use comm_targets::Target;
 use comm_value::{Dict, Text};
-use std::alloc::Global;
+use std::alloc::{AllocError, Global};
 use std::test::Fail;
 use uuid::Uuid;
 
@@ -20,84 +21,140 @@ pub(super) fn limits(comms: usize) -> Limits {
     }
 }
 
-pub(super) fn step<T: Target>(
-    alloc: Global,
-    core: &mut Core<T>,
-    call: Call,
-    want: &str,
-) -> Result<(), Fail>
-    requires settled { core.old.settled ≡ true }
-    requires call { HandsNothingIn call }
-    ensures { core.new.settled ≡ true }
-{
-    let (reply, outgoing) = core.step(call)?;
-    let got = shown(alloc, &reply, &outgoing)?;
-    same(alloc, &got, want)
+/// What is asked of the comm or the target of a name. A message's data is `{"n":1}`, and so is that of an opening; a launch is
+/// that of the comm 67e55044-10b1-426f-9247-bb680e5fe0c8.
+pub(super) enum Asked {
+    Open {
+        id: &'static str,
+        target: &'static str,
+    },
+    OpenWithoutData {
+        id: &'static str,
+        target: &'static str,
+    },
+    Message(&'static str),
+    Close(&'static str),
+    Unregister(&'static str),
+    Launch(&'static str),
+    Push(&'static str),
+    Send(&'static str),
+    HangUp(&'static str),
 }
 
-/// Opens a comm with the data `{}` or `{"n":1}`.
-pub(super) fn open<T: Target>(
-    alloc: Global,
-    core: &mut Core<T>,
-    id: &str,
-    target: &str,
-    empty: bool,
-    want: &str,
-) -> Result<(), Fail>
-    requires settled { core.old.settled ≡ true }
-    ensures { core.new.settled ≡ true }
+/// What is asked, and the reply and the messages that are wanted.
+pub(super) struct Step {
+    pub asked: Asked,
+    pub reply: &'static str,
+    pub messages: &'static [Sent],
+}
+
+fn open(alloc: Global, id: &str, target: &str, empty: bool) -> Result<Call, Fail>
+    ensures { IfOk result HandsNothingIn }
 {
     let id = Text::copy_of(alloc, id)?;
     let target = Text::copy_of(alloc, target)?;
     let body = body(alloc, empty)?;
-    let call = Call::Open {
+    Ok(Call::Open {
         id,
         target,
         version: None,
         body,
-    };
-    step(alloc, core, call, want)
+    })
 }
 
-/// Sends the data `{"n":1}`.
-pub(super) fn message<T: Target>(
-    alloc: Global,
-    core: &mut Core<T>,
-    id: &str,
-    want: &str,
-) -> Result<(), Fail>
-    requires settled { core.old.settled ≡ true }
-    ensures { core.new.settled ≡ true }
+fn launch(alloc: Global, target: &str) -> Result<Call, Fail>
+    ensures { IfOk result HandsNothingIn }
+{
+    let Ok(id) = Uuid::parse_str("67e5504410b1426f9247bb680e5fe0c8") else {
+        return Err(Fail::new("no uuid"));
+    };
+    let target = Text::copy_of(alloc, target)?;
+    let state = Dict::new();
+    Ok(Call::Launch { id, target, state })
+}
+
+fn message(alloc: Global, id: &str) -> Result<Call, Fail>
+    ensures { IfOk result HandsNothingIn }
 {
     let id = Text::copy_of(alloc, id)?;
     let body = body(alloc, false)?;
-    step(alloc, core, Call::Msg { id, body }, want)
+    Ok(Call::Msg { id, body })
 }
 
-pub(super) fn close<T: Target>(
-    alloc: Global,
-    core: &mut Core<T>,
-    id: &str,
-    want: &str,
-) -> Result<(), Fail>
-    requires settled { core.old.settled ≡ true }
-    ensures { core.new.settled ≡ true }
+fn send(alloc: Global, id: &str) -> Result<Call, Fail>
+    ensures { IfOk result HandsNothingIn }
 {
     let id = Text::copy_of(alloc, id)?;
-    step(alloc, core, Call::Close { id }, want)
+    let body = body(alloc, false)?;
+    Ok(Call::Send { id, body })
 }
 
-pub(super) fn unregister<T: Target>(
+fn push(alloc: Global, id: &str) -> Result<Call, Fail>
+    ensures { IfOk result HandsNothingIn }
+{
+    let id = Text::copy_of(alloc, id)?;
+    let state = Dict::new();
+    Ok(Call::Push { id, state })
+}
+
+fn call_of(alloc: Global, asked: &Asked) -> Result<Call, Fail>
+    ensures { IfOk result HandsNothingIn }
+{
+    match asked {
+        Asked::Open { id, target } => open(alloc, id, target, false),
+        Asked::OpenWithoutData { id, target } => open(alloc, id, target, true),
+        Asked::Message(id) => message(alloc, id),
+        Asked::Close(id) => Ok(Call::Close {
+            id: Text::copy_of(alloc, id)?,
+        }),
+        Asked::Unregister(name) => Ok(Call::Unregister {
+            name: Text::copy_of(alloc, name)?,
+        }),
+        Asked::Launch(target) => launch(alloc, target),
+        Asked::Push(id) => push(alloc, id),
+        Asked::Send(id) => send(alloc, id),
+        Asked::HangUp(id) => Ok(Call::HangUp {
+            id: Text::copy_of(alloc, id)?,
+        }),
+    }
+}
+
+fn is_wanted(alloc: Global, reply: &Reply, outgoing: &[Outgoing], step: &Step) -> Result<(), Fail> {
+    let got = shown(alloc, reply, outgoing)?;
+    let want = wanted(alloc, step.reply, step.messages)?;
+    same(alloc, &got, &want)
+}
+
+fn answer<T: Target>(alloc: Global, core: &mut Core<T>, step: &Step) -> Result<(), Fail>
+    requires settled { core.old.settled ≡ true }
+    ensures { core.new.settled ≡ true }
+{
+    let call = call_of(alloc, &step.asked)?;
+    let (reply, outgoing) = core.step(call)?;
+    let done = is_wanted(alloc, &reply, &outgoing, step);
+    drop(reply);
+    drop(outgoing);
+    done
+}
+
+/// Asks one after another.
+pub(super) fn answers<T: Target>(
     alloc: Global,
     core: &mut Core<T>,
-    name: &str,
-    want: &str,
+    steps: &[Step],
 ) -> Result<(), Fail>
     requires settled { core.old.settled ≡ true }
     ensures { core.new.settled ≡ true }
 {
-    let name = Text::copy_of(alloc, name)?;
-    step(alloc, core, Call::Unregister { name }, want)
+    for step in steps {
+        answer(alloc, core, step)?;
+    }
+    Ok(())
+}
+
+fn is_said(alloc: Global, reply: &Reply, want: &str) -> Result<(), Fail> {
+    let got = words(alloc, reply)?;
+    same(alloc, &got, want)
 }
 
 /// Registers a target, and says whether it came back.
@@ -113,31 +170,15 @@ pub(super) fn register<T: Target>(
     ensures { core.new.settled ≡ true }
 {
     let name = Text::copy_of(alloc, name)?;
-    let (reply, back) = match core.register(name, target) {
-        Ok(answer) => answer,
-        Err(_) => return Err(Fail::new("out of memory")),
-    };
-    let got = words(alloc, &reply)?;
-    same(alloc, &got, want)?;
-    Ok(back.is_some())
-}
-
-/// Launches the comm 67e55044-10b1-426f-9247-bb680e5fe0c8.
-pub(super) fn launch<T: Target>(
-    alloc: Global,
-    core: &mut Core<T>,
-    target: &str,
-    want: &str,
-) -> Result<(), Fail>
-    requires settled { core.old.settled ≡ true }
-    ensures { core.new.settled ≡ true }
-{
-    let id = match Uuid::parse_str("67e5504410b1426f9247bb680e5fe0c8") {
-        Ok(id) => id,
-        Err(_) => return Err(Fail::new("no uuid")),
-    };
-    let target = Text::copy_of(alloc, target)?;
-    let state = Dict::new();
-    let call = Call::Launch { id, target, state };
-    step(alloc, core, call, want)
+    match core.register(name, target) {
+        Ok((reply, back)) => {
+            let said = is_said(alloc, &reply, want);
+            drop(reply);
+            let is_back = back.is_some();
+            drop(back);
+            said?;
+            Ok(is_back)
+        }
+        Err(_) => Err(Fail::new("out of memory")),
+    }
 }

@@ -42,39 +42,50 @@ pub(super) fn words(alloc: Global, reply: &Reply) -> Result<String, AllocError> 
         Reply::Fault(fault) => format!(in alloc; "fault, {fault}"),
         Reply::NoComm => String::from_str(alloc, "no_comm"),
         Reply::Closed => String::from_str(alloc, "closed"),
-        Reply::Unregistered(ids) => {
-            let mut text = String::from_str(alloc, "unregistered")?;
-            for id in ids.as_slice() {
-                text.push_str(" ")?;
-                text.push_str(id.as_str())?;
-            }
-            Ok(text)
-        }
+        Reply::Unregistered(ids) => unregistered(alloc, ids.as_slice()),
         Reply::NoTarget => String::from_str(alloc, "no_target"),
         Reply::Launched => String::from_str(alloc, "launched"),
         Reply::NotWidget => String::from_str(alloc, "not_widget"),
     }
 }
 
+fn unregistered(alloc: Global, ids: &[Text]) -> Result<String, AllocError> {
+    let mut text = String::from_str(alloc, "unregistered")?;
+    for id in ids {
+        text.push_str(" ")?;
+        text.push_str(id.as_str())?;
+    }
+    Ok(text)
+}
+
 /// A reply, and the messages that go out with it as answers to call 7 of client 0, a line each.
 pub(super) fn shown(alloc: Global, reply: &Reply, outgoing: &[Outgoing]) -> Result<String, Fail> {
     let mut text = words(alloc, reply)?;
     for message in outgoing {
-        let parent = Parent::Call {
-            client: 0,
-            number: 7,
-        };
-        if let Outgoing::InfoReply { .. } = message {
-            return Err(Fail::new("an info reply"));
-        }
-        let bytes = write_message(alloc, message, &parent)?;
-        text.push_str("\n")?;
-        match std::str::from_utf8(&bytes) {
-            Ok(line) => text.push_str(line)?,
-            Err(_) => text.push_str("?")?,
-        }
+        push_message(alloc, message, &mut text)?;
     }
     Ok(text)
+}
+
+fn push_message(alloc: Global, message: &Outgoing, text: &mut String) -> Result<(), Fail> {
+    if let Outgoing::InfoReply { .. } = message {
+        return Err(Fail::new("an info reply"));
+    }
+    let parent = Parent::Call {
+        client: 0,
+        number: 7,
+    };
+    let bytes = write_message(alloc, message, &parent)?;
+    text.push('\n')?;
+    push_line(&bytes, text)
+}
+
+fn push_line(bytes: &[u8], text: &mut String) -> Result<(), Fail> {
+    match std::str::from_utf8(bytes) {
+        Ok(line) => text.push_str(line)?,
+        Err(_) => text.push_str("?")?,
+    }
+    Ok(())
 }
 
 pub(super) fn same(alloc: Global, got: &str, want: &str) -> Result<(), Fail> {
@@ -91,15 +102,26 @@ pub(super) fn holds(fact: bool) -> Result<(), Fail> {
     Ok(())
 }
 
-/// A reply and one message, as `shown` gives them.
-pub(super) fn with(
-    alloc: Global,
-    reply: &str,
-    kind: &str,
-    id: &str,
-    data: &str,
-) -> Result<String, AllocError> {
-    format!(in alloc;
-        "{reply}\n{{\"buffers\":[],\"call\":7,\"client\":0,\"content\":{{\"comm_id\":\"{id}\",\"data\":{data}}},\"header\":{{\"msg_type\":\"{kind}\"}},\"metadata\":{{}}}}"
-    )
+/// A message that is wanted.
+pub(super) struct Sent {
+    pub kind: &'static str,
+    pub id: &'static str,
+    pub data: &'static str,
+}
+
+/// A reply and messages, as `shown` gives them.
+pub(super) fn wanted(alloc: Global, reply: &str, messages: &[Sent]) -> Result<String, AllocError> {
+    let mut text = String::from_str(alloc, reply)?;
+    for message in messages {
+        push_sent(alloc, message, &mut text)?;
+    }
+    Ok(text)
+}
+
+fn push_sent(alloc: Global, message: &Sent, text: &mut String) -> Result<(), AllocError> {
+    let Sent { kind, id, data } = message;
+    let line = format!(in alloc;
+        "\n{{\"buffers\":[],\"call\":7,\"client\":0,\"content\":{{\"comm_id\":\"{id}\",\"data\":{data}}},\"header\":{{\"msg_type\":\"{kind}\"}},\"metadata\":{{}}}}"
+    )?;
+    text.push_str(line.as_str())
 }

@@ -100,64 +100,84 @@ fn a_target_ends_where_the_input_ends(rt: HostRuntime) -> Result<(), Fail> {
     Ok(())
 }
 
+/// A reader fails at this call. Tells whether it wasn't called so often.
+fn ends_after_a_read_fault(rt: &impl Abort, alloc: Global, call: u64) -> Result<bool, Fail> {
+    let ends = Arc::new(alloc, AtomicU64::new(0))?;
+    let mut reader = Pieces::new(SCRIPT, 1, call, ErrorKind::Other);
+    let mut writer = Sink::new(alloc, ROOM, ROOM, 0, Then::TakeNothing)?;
+    let result = play(alloc, &mut reader, &mut writer, &ends);
+    if reader.calls() < call {
+        return Ok(true);
+    }
+    let is_registered = call > REGISTERED.len() as u64;
+    assert!(rt; result == Err(RunFault::Read), "at {call}");
+    assert!(rt;
+        ends.load(Ordering::SeqCst) == u64::from(is_registered),
+        "at {call}"
+    );
+    Ok(false)
+}
+
 #[test]
 fn a_target_ends_after_a_read_fault(rt: HostRuntime) -> Result<(), Fail> {
-    let alloc = rt.alloc();
     for call in 1..10_000u64 {
-        let ends = Arc::new(alloc, AtomicU64::new(0))?;
-        let mut reader = Pieces::new(SCRIPT, 1, call, ErrorKind::Other);
-        let mut writer = Sink::new(alloc, ROOM, ROOM, 0, Then::TakeNothing)?;
-        let result = play(alloc, &mut reader, &mut writer, &ends);
-        if reader.calls() < call {
+        if ends_after_a_read_fault(&rt, rt.alloc(), call)? {
             return Ok(());
         }
-        let is_registered = call > REGISTERED.len() as u64;
-        assert!(rt; result == Err(RunFault::Read), "at {call}");
-        assert!(rt;
-            ends.load(Ordering::SeqCst) == u64::from(is_registered),
-            "at {call}"
-        );
     }
     panic!(rt; "it never answered");
+}
+
+/// A writer fails at this call. Tells whether it wasn't called so often.
+fn ends_after_a_write_fault(rt: &impl Abort, alloc: Global, call: u64) -> Result<bool, Fail> {
+    let ends = Arc::new(alloc, AtomicU64::new(0))?;
+    let mut reader = Pieces::new(SCRIPT, 64, 0, ErrorKind::Other);
+    let mut writer = Sink::new(alloc, ROOM, 7, call, Then::Fail(ErrorKind::Other))?;
+    let result = play(alloc, &mut reader, &mut writer, &ends);
+    if writer.calls() < call {
+        return Ok(true);
+    }
+    assert!(rt; result == Err(RunFault::Write), "at {call}");
+    assert!(rt; ends.load(Ordering::SeqCst) == 1, "at {call}");
+    Ok(false)
 }
 
 #[test]
 fn a_target_ends_after_a_write_fault(rt: HostRuntime) -> Result<(), Fail> {
-    let alloc = rt.alloc();
     for call in 1..10_000u64 {
-        let ends = Arc::new(alloc, AtomicU64::new(0))?;
-        let mut reader = Pieces::new(SCRIPT, 64, 0, ErrorKind::Other);
-        let mut writer = Sink::new(alloc, ROOM, 7, call, Then::Fail(ErrorKind::Other))?;
-        let result = play(alloc, &mut reader, &mut writer, &ends);
-        if writer.calls() < call {
+        if ends_after_a_write_fault(&rt, rt.alloc(), call)? {
             return Ok(());
         }
-        assert!(rt; result == Err(RunFault::Write), "at {call}");
-        assert!(rt; ends.load(Ordering::SeqCst) == 1, "at {call}");
     }
     panic!(rt; "it never answered");
 }
 
-/// After a refused allocation, too: what was said tells whether the target had been registered.
+/// An allocation is refused. Tells whether there were fewer. What was said tells whether the target had been registered.
+fn ends_without_memory(rt: &impl Abort, alloc: Global, number: u32) -> Result<bool, Fail> {
+    let ends = Arc::new(alloc, AtomicU64::new(0))?;
+    let mut reader = Pieces::new(SCRIPT, 64, 0, ErrorKind::Other);
+    let mut writer = Sink::new(alloc, ROOM, ROOM, 0, Then::TakeNothing)?;
+    let _is_heard = refuse(alloc, number);
+    let result = play(alloc, &mut reader, &mut writer, &ends);
+    let is_whole = !was_refused(alloc);
+    let ended = ends.load(Ordering::SeqCst);
+    assert!(rt; ended <= 1, "at {number}");
+    assert!(rt; writer.taken().is_empty() || ended == 1, "at {number}");
+    if is_whole {
+        assert!(rt; result == Ok(()) && ended == 1);
+    } else {
+        assert!(rt; result == Err(RunFault::Memory), "at {number}");
+    }
+    Ok(is_whole)
+}
+
+/// After a refused allocation, too.
 #[test]
 fn refused_run_ends_its_target(rt: HostRuntime) -> Result<(), Fail> {
-    let alloc = rt.alloc();
     for number in 1..100_000u32 {
-        let ends = Arc::new(alloc, AtomicU64::new(0))?;
-        let mut reader = Pieces::new(SCRIPT, 64, 0, ErrorKind::Other);
-        let mut writer = Sink::new(alloc, ROOM, ROOM, 0, Then::TakeNothing)?;
-        let _is_heard = refuse(alloc, number);
-        let result = play(alloc, &mut reader, &mut writer, &ends);
-        let was_refused = was_refused(alloc);
-        let ended = ends.load(Ordering::SeqCst);
-        assert!(rt; ended <= 1, "at {number}");
-        assert!(rt; writer.taken().is_empty() || ended == 1, "at {number}");
-        if !was_refused {
-            assert!(rt; result == Ok(()));
-            assert!(rt; ended == 1);
+        if ends_without_memory(&rt, rt.alloc(), number)? {
             return Ok(());
         }
-        assert!(rt; result == Err(RunFault::Memory), "at {number}");
     }
     panic!(rt; "it never answered");
 }

@@ -3,41 +3,49 @@ use super::{MOST, ROOM, limits, play};
 use comm_core::Limits;
 use comm_fakes::{Pieces, Sink, Then, has_leaked, mark, refuse, was_refused};
 use comm_script::RunFault;
+use std::alloc::Global;
 use std::io::ErrorKind;
+use std::process::Abort;
 use std::test::Fail;
+
+/// Limits, and whether they fit.
+const LIMITS: [(u8, usize, u64, usize, bool); 10] = [
+    (4, 4096, 4_294_967_295, 65_536, true),
+    (1, 1, 1, 1, true),
+    (0, 1, 1, 1, false),
+    (5, 1, 1, 1, false),
+    (1, 0, 1, 1, false),
+    (1, 4097, 1, 1, false),
+    (1, 1, 0, 1, false),
+    (1, 1, 4_294_967_296, 1, false),
+    (1, 1, 1, 0, false),
+    (1, 1, 1, 65_537, false),
+];
+
+fn plays_within(rt: &impl Abort, alloc: Global, limits: Limits, fit: bool) -> Result<(), Fail> {
+    let mut reader = Pieces::new(b"{}", 4096, 0, ErrorKind::Other);
+    let mut writer = Sink::new(alloc, ROOM, ROOM, 0, Then::TakeNothing)?;
+    let result = play(alloc, &mut reader, &mut writer, limits);
+    if fit {
+        assert!(rt; result == Ok(()));
+        assert!(rt; writer.taken() == b"bad 1 no_type\n".as_slice());
+    } else {
+        assert!(rt; result == Err(RunFault::BadLimits));
+        assert!(rt; reader.calls() == 0 && writer.calls() == 0);
+    }
+    Ok(())
+}
 
 #[test]
 fn limits_that_fit_are_needed(rt: HostRuntime) -> Result<(), Fail> {
-    let alloc = rt.alloc();
-    for (clients, comms, history, outbox, fit) in [
-        (4, 4096, 4_294_967_295, 65_536, true),
-        (1, 1, 1, 1, true),
-        (0, 1, 1, 1, false),
-        (5, 1, 1, 1, false),
-        (1, 0, 1, 1, false),
-        (1, 4097, 1, 1, false),
-        (1, 1, 0, 1, false),
-        (1, 1, 4_294_967_296, 1, false),
-        (1, 1, 1, 0, false),
-        (1, 1, 1, 65_537, false),
-    ] {
+    for (clients, comms, history, outbox, fit) in &LIMITS {
         let limits = Limits {
-            clients,
-            comms,
-            history,
-            outbox,
+            clients: *clients,
+            comms: *comms,
+            history: *history,
+            outbox: *outbox,
         };
-        let mut reader = Pieces::new(b"{}", 4096, 0, ErrorKind::Other);
-        let mut writer = Sink::new(alloc, ROOM, ROOM, 0, Then::TakeNothing)?;
-        let result = play(alloc, &mut reader, &mut writer, limits);
-        if fit {
-            assert!(rt; result == Ok(()));
-            assert!(rt; writer.taken() == b"bad 1 no_type\n".as_slice());
-        } else {
-            assert!(rt; result == Err(RunFault::BadLimits));
-            assert!(rt; reader.calls() == 0);
-            assert!(rt; writer.calls() == 0);
-        }
+        plays_within(&rt, rt.alloc(), limits, *fit)?;
     }
     Ok(())
 }
@@ -61,24 +69,32 @@ out {"buffers":[],"call":4,"client":0,"content":{"comm_id":"a","data":{}},"heade
 bad 7 not_json
 "#;
 
+/// An allocation is refused. Tells whether there were fewer.
+fn is_played_whole(rt: &impl Abort, alloc: Global, number: u32) -> Result<bool, Fail> {
+    let mut reader = Pieces::new(SCRIPT, 64, 0, ErrorKind::Other);
+    let mut writer = Sink::new(alloc, ROOM, ROOM, 0, Then::TakeNothing)?;
+    let _is_heard = refuse(alloc, number);
+    let result = play(alloc, &mut reader, &mut writer, limits(MOST));
+    let is_whole = !was_refused(alloc);
+    if is_whole {
+        assert!(rt; result == Ok(()));
+        assert!(rt; writer.taken() == ANSWERS);
+    } else {
+        assert!(rt; result == Err(RunFault::Memory), "at {number}");
+        assert!(rt; ANSWERS.starts_with(writer.taken()), "at {number}");
+    }
+    Ok(is_whole)
+}
+
 /// The first allocation is refused, then the second, and so on until none is left to refuse. A heap that refuses nothing plays once.
 #[test]
 fn refused_run(rt: HostRuntime) -> Result<(), Fail> {
     let alloc = rt.alloc();
     for number in 1..100_000u32 {
         mark(alloc);
-        let mut reader = Pieces::new(SCRIPT, 64, 0, ErrorKind::Other);
-        let mut writer = Sink::new(alloc, ROOM, ROOM, 0, Then::TakeNothing)?;
-        let _is_heard = refuse(alloc, number);
-        let result = play(alloc, &mut reader, &mut writer, limits(MOST));
-        if !was_refused(alloc) {
-            assert!(rt; result == Ok(()));
-            assert!(rt; writer.taken() == ANSWERS);
+        if is_played_whole(&rt, alloc, number)? {
             return Ok(());
         }
-        assert!(rt; result == Err(RunFault::Memory), "at {number}");
-        assert!(rt; ANSWERS.starts_with(writer.taken()), "at {number}");
-        drop(writer);
         assert!(rt; !has_leaked(alloc), "at {number}");
     }
     panic!(rt; "it never answered");

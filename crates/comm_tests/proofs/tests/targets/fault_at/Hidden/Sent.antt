@@ -6,7 +6,7 @@ use Rattle.std.proofs.Crossing
 use Rattle.std.proofs.alloc.Global.TheSendSync as global
 use Rattle.comm_targets.proofs.Sends.{book_sends}
 use Rattle.comm_tests.specs.contracts.tests.targets.Strict as strict
-use Rattle.comm_tests.proofs.tests.targets.a_target_ends_once_after_its_comms.OwnLists as own
+use Rattle.comm_tests.proofs.tests.targets.fault_at.OwnLists as own
 
 strict_sends : IsSend strict.the_row
 strict_sends = search (book_sends, global.the_field_send, Crossing.crosses, sendable) depth 60 fits 20000
