@@ -7,7 +7,7 @@ use std::alloc::{AllocError, Global};
 
 /// What all update messages have alike. They share it, so that each makes only what is its own.
 #[derive(Drop)]
-pub(crate) struct Template {
+pub struct Template {
     // `{"buffer_paths":[],"method":"update","state":{}}`
     empty: Dict,
     // The keys whose values are a message's own.
@@ -19,8 +19,7 @@ pub(crate) struct Template {
 }
 
 impl Template {
-    /// Err: memory.
-    pub(crate) fn new(alloc: Global) -> Result<Template, AllocError> {
+    fn new(alloc: Global) -> Result<Template, AllocError> {
         let buffer_paths = Text::copy_of(alloc, "buffer_paths")?;
         let state = Text::copy_of(alloc, "state")?;
         let method = Val::Text(Text::copy_of(alloc, "update")?);
@@ -35,13 +34,7 @@ impl Template {
         })
     }
 
-    /// The data of the message that tells this state, with these paths of its buffers. Err: memory.
-    pub(crate) fn filled(
-        &self,
-        alloc: Global,
-        plain: Dict,
-        paths: &[Path],
-    ) -> Result<Dict, AllocError>
+    fn filled(&self, alloc: Global, plain: Dict, paths: &[Path]) -> Result<Dict, AllocError>
         ensures { IfOk result (λ d. d ≡ data_of paths.now plain) }
     {
         let data = self.empty.copy()?;
@@ -51,4 +44,23 @@ impl Template {
         }
         data.insert(alloc, self.buffer_paths.copy()?, paths_val(alloc, paths)?)
     }
+}
+
+/// The data of the message that tells this state, with these paths of its buffers, by the template, which the first message makes.
+/// Err: memory.
+pub fn update_data(
+    alloc: Global,
+    template: &mut Option<Template>,
+    plain: Dict,
+    paths: &[Path],
+) -> Result<Dict, AllocError>
+    ensures { IfOk result (λ d. d ≡ data_of paths.now plain) }
+{
+    if let Some(made) = template.as_ref() {
+        return made.filled(alloc, plain, paths);
+    }
+    let made = Template::new(alloc)?;
+    let data = made.filled(alloc, plain, paths)?;
+    *template = Some(made);
+    Ok(data)
 }

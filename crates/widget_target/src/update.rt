@@ -4,14 +4,13 @@ ghost use Rattle.comm_value.specs.Node.{get};
 ghost use Rattle.comm_value.specs.Places.{plain_members, member_paths, member_buffers};
 ghost use Rattle.comm_targets.specs.Widget.{updated, update_of};
 ghost use Rattle.widget_target.specs.Gives.{Gives};
-ghost use Rattle.widget_target.specs.Update.{data_of};
 
 use crate::answers::{new_state, one_message};
 use crate::state::state_of;
-use crate::template::Template;
+use crate::template::{Template, update_data};
 use comm_messages::Body;
 use comm_targets::{Answer, TargetFault};
-use comm_value::{Buffers, Dict, Path, Separated, merge, separate};
+use comm_value::{Buffers, Dict, Separated, merge, separate};
 use std::alloc::{AllocError, Global};
 
 /// The answer to `update`: each top-level key of the data's `state` replaces that of the widget's state.
@@ -58,24 +57,6 @@ pub fn update_body(
     } = separated(alloc, state)?;
     let content = update_data(alloc, template, plain, paths.as_slice())?;
     Ok(Body::new(content, buffers))
-}
-
-// The message's data, by the template, which the first message makes.
-fn update_data(
-    alloc: Global,
-    template: &mut Option<Template>,
-    plain: Dict,
-    paths: &[Path],
-) -> Result<Dict, AllocError>
-    ensures { IfOk result (λ d. d ≡ data_of paths.now plain) }
-{
-    if let Some(made) = template.as_ref() {
-        return made.filled(alloc, plain, paths);
-    }
-    let made = Template::new(alloc)?;
-    let data = made.filled(alloc, plain, paths)?;
-    *template = Some(made);
-    Ok(data)
 }
 
 // The state without its bytes, and where they stood. A state without bytes is shared.
