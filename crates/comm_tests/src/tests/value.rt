@@ -312,6 +312,13 @@ fn copies_texts(rt: HostRuntime) -> Result<(), Fail> {
     let alloc = rt.alloc();
     assert!(rt; is_copied(alloc, "key", "other")?);
     assert!(rt; is_copied(alloc, "more than four and twenty bytes", "more than")?);
+    assert!(rt;
+        is_copied(
+            alloc,
+            "more than the forty bytes of a short text",
+            "more than"
+        )?
+    );
     Ok(())
 }
 
