@@ -22,8 +22,19 @@
 //! 3. `commit`, for fields that follow the messages: ask `Book::has_message` before the book's `commit`, as [`Counter`] does.
 //!    It can't fail, and takes no memory. What is staged may be abandoned instead, so `prepare` is too early for them.
 //! 4. `stop`, if something is to be done at the end. Then no comm is open.
-//! 5. The clause of `answer_to`, by words of your own in `specs/`, or none: the trait's clauses tell callers of a free
-//!    target only what it may answer. The other methods stay as they are, since a free target's notes never change.
+//! 5. The clause of `answer_to`, by words of your own in `specs/`. Or let it say no more than what a free target may answer,
+//!    which is all that the trait's clauses tell its callers; then `specs/` isn't needed:
+//!
+//!    ```text
+//!    ghost use Rattle.std.specs.Prelude.{◌≡◌, ◌⊎◌, [], None, IfOk, IfErr};
+//!    ghost use Rattle.comm_targets.specs.Answers.{IsFreeAnswer, IsFreeFault};
+//!
+//!    fn answer_to(alloc: Global, event: &Event) -> Result<Answer, TargetFault>
+//!        ensures answers { IfOk result (IsFreeAnswer event.now) }
+//!        ensures refuses { IfErr result (λ f. (f ≡ TargetFault.Memory) ⊎ IsFreeFault f) }
+//!    ```
+//!
+//!    The other methods stay as they are, since a free target's notes never change.
 //!
 //! `rt check` in your crate's folder then proves that it keeps the contract of [`Target`], on which the comm manager rests.
 //!

@@ -15,27 +15,48 @@ use std::sync::Arc;
 /// Members that follow one another in a dict. It has at least one.
 pub(crate) type Piece = Arc<Vec<Member, Global>, Global>;
 
-// A longer piece is cut in two: an update copies the pieces that it changes, and the pointers to the others. Eight took the fewest
-// instructions of 4 to 64, for states of 15 and of 200 keys.
-const LONGEST: usize = 8;
-// No half of a piece that was too long is shorter.
-const LEAST: usize = 4;
+// A piece may be so long in any dict: of 4 to 64, eight took the fewest instructions for states of 15 and of 200 keys.
+const SHORT: usize = 8;
+
+// How long a piece may be beside so many others; a longer one is cut in two. An update copies the piece that it changes, and the pointers
+// to the others: a large dict has longer pieces, so that there are fewer of them. A pointer costs less to copy than a member.
+fn longest(others: usize) -> usize
+    ensures { 8 ≤ result }
+{
+    let length = others / 4;
+    if length < SHORT { SHORT } else { length }
+}
+
+// How long the pieces of so many members are at most: a half of the square root, so that there are some twice as many as the root.
+// Of few members it isn't worth its time.
+fn longest_of(members: usize) -> usize
+    ensures { 8 ≤ result }
+{
+    if members < 256 {
+        SHORT
+    } else {
+        longest(2 * members.isqrt())
+    }
+}
 
 // The members, in pieces.
 pub(crate) fn pieces_from(alloc: Global, members: Vec<Member>) -> Result<Vec<Piece>, AllocError>
     ensures flat { IfOk result (λ all. flat all.items ≡ members.items) }
     ensures filled { IfOk result (λ all. AllFilled all.items) }
 {
-    let room = members.len() / LEAST + 1;
-    push_pieces(alloc, Vec::with_capacity(alloc, room)?, members)
+    let longest = longest_of(members.len());
+    let room = members.len() / (longest / 2) + 1;
+    push_pieces(alloc, Vec::with_capacity(alloc, room)?, members, longest)
 }
 
 fn push_pieces(
     alloc: Global,
     before: Vec<Piece>,
     members: Vec<Member>,
+    longest: usize,
 ) -> Result<Vec<Piece>, AllocError>
-    requires { AllFilled before.items }
+    requires filled { AllFilled before.items }
+    requires some { 0 < longest }
     ensures flat { IfOk result (λ all. flat all.items ≡ flat before.items ++ members.items) }
     ensures filled { IfOk result (λ all. AllFilled all.items) }
 {
@@ -44,12 +65,13 @@ fn push_pieces(
     if head.is_empty() {
         return Ok(all);
     }
-    if head.len() <= LONGEST {
+    if head.len() <= longest {
         all.push(Arc::new(alloc, head)?)?;
         return Ok(all);
     }
     let tail = head.split_off(head.len() / 2)?;
-    push_pieces(alloc, push_pieces(alloc, all, head)?, tail)
+    let all = push_pieces(alloc, all, head, longest)?;
+    push_pieces(alloc, all, tail, longest)
 }
 
 // The same pieces, which share their members.
@@ -141,7 +163,7 @@ fn let_in(
 {
     let mut all = pieces;
     let mut head = members;
-    if head.len() > LONGEST {
+    if head.len() > longest(all.len()) {
         let tail = head.split_off(head.len() / 2)?;
         all.insert(place, Arc::new(alloc, tail)?)?;
     }

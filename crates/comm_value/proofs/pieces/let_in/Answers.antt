@@ -2,27 +2,27 @@ use Rattle.std.proofs.Common.{ℕ, ◌/◌, ap, ◌∙◌, arith}
 use Rattle.std.specs.List.{insert as list_insert}
 use Rattle.comm_value.proofs.Flat.{let_in_one, let_in_two, filled_let_in, filled_two}
 use Rattle.comm_value.proofs.pieces.let_in.Goals as goal
-use Rattle.comm_value.proofs.pieces.let_in.Goals.{then-len-gt-LONGEST+in_ok-tail+in_ok-new+in_ok-insert, else-len-gt-LONGEST}
+use Rattle.comm_value.proofs.pieces.let_in.Goals.{then-len-longest+in_ok-tail+in_ok-new+in_ok-insert, else-len-longest}
 
 pub returns-clause-flat : goal.returns-clause-flat
-returns-clause-flat c = elim c.if-len-gt-LONGEST.branch [
-  | then-len-gt-LONGEST+in_ok-tail+in_ok-new+in_ok-insert w ↦
-      let_in_two c.args.pieces.items c.if-len-gt-LONGEST.all.items _ c.args.place (w.len-then-len-gt-LONGEST.result / 2) w.in_ok-new.field-0 c.in_ok-new-2.field-0 c.args.members.items c.requires.within
+returns-clause-flat c = elim c.if-len-longest.branch [
+  | then-len-longest+in_ok-tail+in_ok-new+in_ok-insert w ↦
+      let_in_two c.args.pieces.items c.if-len-longest.all.items _ c.args.place (w.len-then-len-longest.result / 2) w.in_ok-new.field-0 c.in_ok-new-2.field-0 c.args.members.items c.requires.within
       (ap (λ v. v.items) w.all-is ∙ w.in_ok-insert.ensures.items) c.in_ok-insert-2.ensures.items (ap (λ v. v.items) w.in_ok-new.ensures.ok ∙ w.in_ok-tail.ensures.tail)
       (ap (λ v. v.items) (c.in_ok-new-2.ensures.ok ∙ w.head-is) ∙ w.in_ok-tail.ensures.items)
-  | else-len-gt-LONGEST w ↦
+  | else-len-longest w ↦
       let_in_one c.args.pieces.items _ c.args.place c.in_ok-new-2.field-0 c.args.members.items (c.in_ok-insert-2.ensures.items ∙ ap (λ v. list_insert v.items c.args.place c.in_ok-new-2.field-0) w.all-is)
       (ap (λ v. v.items) (c.in_ok-new-2.ensures.ok ∙ w.head-is))
 ]
 
 pub returns-clause-filled : goal.returns-clause-filled
-returns-clause-filled c = elim c.if-len-gt-LONGEST.branch [
-  | then-len-gt-LONGEST+in_ok-tail+in_ok-new+in_ok-insert w ↦
-      filled_two c.args.pieces.items c.if-len-gt-LONGEST.all.items _ c.args.place (w.len-then-len-gt-LONGEST.result / 2) w.in_ok-new.field-0 c.in_ok-new-2.field-0 c.args.members.items
+returns-clause-filled c = elim c.if-len-longest.branch [
+  | then-len-longest+in_ok-tail+in_ok-new+in_ok-insert w ↦
+      filled_two c.args.pieces.items c.if-len-longest.all.items _ c.args.place (w.len-then-len-longest.result / 2) w.in_ok-new.field-0 c.in_ok-new-2.field-0 c.args.members.items
       (ap (λ v. v.items) w.all-is ∙ w.in_ok-insert.ensures.items) c.in_ok-insert-2.ensures.items (ap (λ v. v.items) w.in_ok-new.ensures.ok ∙ w.in_ok-tail.ensures.tail)
       (ap (λ v. v.items) (c.in_ok-new-2.ensures.ok ∙ w.head-is) ∙ w.in_ok-tail.ensures.items)
-      (omega (arith, w.if-len-gt-LONGEST.true, w.len-then-len-gt-LONGEST.ensures, c.len.ensures)) (omega (arith, w.if-len-gt-LONGEST.true, w.len-then-len-gt-LONGEST.ensures, c.len.ensures)) c.requires.filled
-  | else-len-gt-LONGEST w ↦
+      (omega (arith, w.if-len-longest.true, w.len-then-len-longest.ensures, c.len.ensures)) (omega (arith, w.if-len-longest.true, w.len-then-len-longest.ensures, c.len.ensures)) c.requires.filled
+  | else-len-longest w ↦
       filled_let_in c.args.pieces.items _ c.args.place c.in_ok-new-2.field-0 c.args.members.items (c.in_ok-insert-2.ensures.items ∙ ap (λ v. list_insert v.items c.args.place c.in_ok-new-2.field-0) w.all-is)
       (ap (λ v. v.items) (c.in_ok-new-2.ensures.ok ∙ w.head-is)) c.requires.some c.requires.filled
 ]
