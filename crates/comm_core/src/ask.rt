@@ -24,12 +24,12 @@ pub fn comes_of<T: Target>(
     comms: &Comms,
     limit: usize,
     alloc: Global,
-    call: &Call,
+    call: Call,
 ) -> Result<Came, AllocError>
     requires none { HaveStaged boxes.old.all (λ _. None) }
     requires agrees { Agrees (bare boxes.old.all) comms.now.all }
-    requires call { HandsNothingIn call.now }
-    ensures came { IfOk result (λ r. HasCome limit boxes.old.all comms.now.all call.now r.outcome r.reply r.outgoing.items r.plan boxes.new.all) }
+    requires call { HandsNothingIn call }
+    ensures came { IfOk result (λ r. HasCome limit boxes.old.all comms.now.all call r.outcome r.reply r.outgoing.items r.plan boxes.new.all) }
     ensures err { OnErr result (boxes.new.all ≡ boxes.old.all) }
     ensures room { boxes.new.room ≡ boxes.old.room }
 {

@@ -22,18 +22,18 @@ use comm_value::{Dict, Text};
 use std::alloc::{AllocError, Global};
 use uuid::Uuid;
 
-/// The first of a call's tests that holds, or else what the call does.
+/// The first of a call's tests that holds, or else what the call does. What the call has in it goes on to the target, or out.
 pub fn judge<T: Target>(
     boxes: &Boxes<T>,
     comms: &Comms,
     limit: usize,
     alloc: Global,
-    call: &Call,
+    call: Call,
 ) -> Result<Judged, AllocError>
-    requires call { HandsNothingIn call.now }
+    requires call { HandsNothingIn call }
     requires agrees { Agrees (bare boxes.now.all) comms.now.all }
-    ensures verdict { IfOk result (λ j. verdict_of (machine_of boxes.now.all comms.now.all) j ≡ judged limit (machine_of boxes.now.all comms.now.all) call.now) }
-    ensures stands { IfOk result (λ j. Stands boxes.now.all comms.now.all call.now j) }
+    ensures verdict { IfOk result (λ j. verdict_of (machine_of boxes.now.all comms.now.all) j ≡ judged limit (machine_of boxes.now.all comms.now.all) call) }
+    ensures stands { IfOk result (λ j. Stands boxes.now.all comms.now.all call j) }
 {
     match call {
         Call::Open {
@@ -43,11 +43,11 @@ pub fn judge<T: Target>(
             body,
         } => judge_open(boxes, comms, limit, alloc, id, target, version, body),
         Call::Msg { id, body } => judge_msg(boxes, comms, alloc, id, body),
-        Call::Close { id } => judge_close(comms, alloc, id),
+        Call::Close { id } => Ok(judge_close(comms, alloc, id)),
         Call::Unregister { name } => judge_unregister(boxes, comms, alloc, name),
         Call::Launch { id, target, state } => {
-            let id = comm_id(alloc, id)?;
-            judge_launch(boxes, comms, limit, alloc, id, target, state)
+            let id = comm_id(alloc, &id)?;
+            Ok(judge_launch(boxes, comms, limit, alloc, id, target, state))
         }
         Call::Push { id, state } => judge_push(boxes, comms, alloc, id, state),
         Call::Send { id, body } => judge_send(comms, alloc, id, body),
@@ -65,11 +65,11 @@ fn stays(alloc: Global, reply: Reply) -> Judged
 }
 
 /// The reply to an open that is refused before its target is asked.
-fn refused_open(alloc: Global, id: &Text, why: Refusal) -> Result<Judged, AllocError>
-    ensures verdict { IfOk result (λ j. (m : Machine) → verdict_of m j ≡ refused_open m id.now why) }
+fn refused_open(alloc: Global, id: Text, why: Refusal) -> Result<Judged, AllocError>
+    ensures verdict { IfOk result (λ j. (m : Machine) → verdict_of m j ≡ refused_open m id why) }
     ensures stands { IfOk result (λ j. (boxes : Targets) (comms : Opens) (c : Call) → ended_of boxes c ≡ None → Stands boxes comms c j) }
 {
-    let outgoing = closing(alloc, id)?;
+    let outgoing = one(alloc, Outgoing::Close { id })?;
     Ok(Judged::Done(Reply::OpenRefused(why), outgoing, Plan::Nothing))
 }
 
@@ -78,73 +78,50 @@ fn judge_open<T: Target>(
     comms: &Comms,
     limit: usize,
     alloc: Global,
-    id: &Text,
-    target: &Text,
-    version: &Option<Text>,
-    body: &Body,
+    id: Text,
+    target: Text,
+    version: Option<Text>,
+    body: Body,
 ) -> Result<Judged, AllocError>
-    ensures verdict { IfOk result (λ j. verdict_of (machine_of boxes.now.all comms.now.all) j ≡ judged limit (machine_of boxes.now.all comms.now.all) (call.Open id.now target.now version.now body.now)) }
-    ensures stands { IfOk result (λ j. Stands boxes.now.all comms.now.all (call.Open id.now target.now version.now body.now) j) }
+    ensures verdict { IfOk result (λ j. verdict_of (machine_of boxes.now.all comms.now.all) j ≡ judged limit (machine_of boxes.now.all comms.now.all) (call.Open id target version body)) }
+    ensures stands { IfOk result (λ j. Stands boxes.now.all comms.now.all (call.Open id target version body) j) }
 {
-    if comms.contains(id) {
+    if comms.contains(&id) {
         return Ok(stays(alloc, Reply::IdInUse));
     }
-    if !boxes.contains(target) {
+    if !boxes.contains(&target) {
         return refused_open(alloc, id, Refusal::NoTarget);
     }
     if comms.is_full(limit) {
         return refused_open(alloc, id, Refusal::TooManyComms);
     }
-    let name = target.copy()?;
-    let event = open_event(alloc, id, version, body)?;
     Ok(Judged::Asked(Question {
-        name,
+        name: target,
         state: None,
-        event,
+        event: Event::Open { id, version, body },
     }))
-}
-
-fn open_event(
-    alloc: Global,
-    id: &Text,
-    version: &Option<Text>,
-    body: &Body,
-) -> Result<Event, AllocError>
-    ensures { IfOk result (λ e. e ≡ event.Open id.now version.now body.now) }
-{
-    let id = id.copy()?;
-    let version = match version {
-        Some(version) => Some(version.copy()?),
-        None => None,
-    };
-    let body = body.copy(alloc)?;
-    Ok(Event::Open { id, version, body })
 }
 
 fn judge_msg<T: Target>(
     boxes: &Boxes<T>,
     comms: &Comms,
     alloc: Global,
-    id: &Text,
-    body: &Body,
+    id: Text,
+    body: Body,
 ) -> Result<Judged, AllocError>
     requires { Agrees (bare boxes.now.all) comms.now.all }
-    ensures verdict { (limit : ℕ) → IfOk result (λ j. verdict_of (machine_of boxes.now.all comms.now.all) j ≡ judged limit (machine_of boxes.now.all comms.now.all) (call.Msg id.now body.now)) }
-    ensures stands { IfOk result (λ j. Stands boxes.now.all comms.now.all (call.Msg id.now body.now) j) }
+    ensures verdict { (limit : ℕ) → IfOk result (λ j. verdict_of (machine_of boxes.now.all comms.now.all) j ≡ judged limit (machine_of boxes.now.all comms.now.all) (call.Msg id body)) }
+    ensures stands { IfOk result (λ j. Stands boxes.now.all comms.now.all (call.Msg id body) j) }
 {
-    let Some(comm) = comms.get(id) else {
+    let Some(comm) = comms.get(&id) else {
         return Ok(stays(alloc, Reply::NoComm));
     };
     let name = comm.target.copy()?;
     let state_now = state_copy(comm)?;
-    let event = Event::Msg {
-        id: id.copy()?,
-        body: body.copy(alloc)?,
-    };
     Ok(Judged::Asked(Question {
         name,
         state: state_now,
-        event,
+        event: Event::Msg { id, body },
     }))
 }
 
@@ -158,33 +135,35 @@ pub fn state_copy(comm: &Comm) -> Result<Option<Dict>, AllocError>
     }
 }
 
-fn judge_close(comms: &Comms, alloc: Global, id: &Text) -> Result<Judged, AllocError>
-    ensures verdict { (limit : ℕ) (boxes : Targets) → IfOk result (λ j. verdict_of (machine_of boxes comms.now.all) j ≡ judged limit (machine_of boxes comms.now.all) (call.Close id.now)) }
-    ensures stands { (boxes : Targets) → IfOk result (λ j. Stands boxes comms.now.all (call.Close id.now) j) }
+fn judge_close(comms: &Comms, alloc: Global, id: Text) -> Judged
+    ensures verdict { (limit : ℕ) (boxes : Targets) → verdict_of (machine_of boxes comms.now.all) result ≡ judged limit (machine_of boxes comms.now.all) (call.Close id) }
+    ensures stands { (boxes : Targets) → Stands boxes comms.now.all (call.Close id) result }
 {
-    if !comms.contains(id) {
-        return Ok(stays(alloc, Reply::NoComm));
+    if !comms.contains(&id) {
+        return stays(alloc, Reply::NoComm);
     }
-    let plan = Plan::Close { id: id.copy()? };
-    Ok(Judged::Done(Reply::Closed, Vec::new(alloc), plan))
+    Judged::Done(Reply::Closed, Vec::new(alloc), Plan::Close { id })
 }
 
 fn judge_unregister<T: Target>(
     boxes: &Boxes<T>,
     comms: &Comms,
     alloc: Global,
-    name: &Text,
+    name: Text,
 ) -> Result<Judged, AllocError>
-    ensures verdict { (limit : ℕ) → IfOk result (λ j. verdict_of (machine_of boxes.now.all comms.now.all) j ≡ judged limit (machine_of boxes.now.all comms.now.all) (call.Unregister name.now)) }
-    ensures stands { IfOk result (λ j. Stands boxes.now.all comms.now.all (call.Unregister name.now) j) }
+    ensures verdict { (limit : ℕ) → IfOk result (λ j. verdict_of (machine_of boxes.now.all comms.now.all) j ≡ judged limit (machine_of boxes.now.all comms.now.all) (call.Unregister name)) }
+    ensures stands { IfOk result (λ j. Stands boxes.now.all comms.now.all (call.Unregister name) j) }
 {
-    if !boxes.contains(name) {
+    if !boxes.contains(&name) {
         return Ok(stays(alloc, Reply::NoTarget));
     }
-    let ids = comms.ids_of(alloc, name)?;
+    let ids = comms.ids_of(alloc, &name)?;
     let outgoing = closings(alloc, ids.as_slice())?;
-    let plan = Plan::Unregister { name: name.copy()? };
-    Ok(Judged::Done(Reply::Unregistered(ids), outgoing, plan))
+    Ok(Judged::Done(
+        Reply::Unregistered(ids),
+        outgoing,
+        Plan::Unregister { name },
+    ))
 }
 
 fn judge_launch<T: Target>(
@@ -193,45 +172,43 @@ fn judge_launch<T: Target>(
     limit: usize,
     alloc: Global,
     id: Text,
-    target: &Text,
-    state: &Dict,
-) -> Result<Judged, AllocError>
-    ensures verdict { (uuid : List ℕ) → id ≡ comm_id uuid → IfOk result (λ j. verdict_of (machine_of boxes.now.all comms.now.all) j ≡ judged limit (machine_of boxes.now.all comms.now.all) (call.Launch uuid target.now state.now)) }
-    ensures stands { (uuid : List ℕ) → IfOk result (λ j. Stands boxes.now.all comms.now.all (call.Launch uuid target.now state.now) j) }
+    target: Text,
+    state: Dict,
+) -> Judged
+    ensures verdict { (uuid : List ℕ) → id ≡ comm_id uuid → verdict_of (machine_of boxes.now.all comms.now.all) result ≡ judged limit (machine_of boxes.now.all comms.now.all) (call.Launch uuid target state) }
+    ensures stands { (uuid : List ℕ) → Stands boxes.now.all comms.now.all (call.Launch uuid target state) result }
 {
     if comms.contains(&id) {
-        return Ok(stays(alloc, Reply::IdInUse));
+        return stays(alloc, Reply::IdInUse);
     }
-    if !boxes.contains(target) {
-        return Ok(stays(alloc, Reply::NoTarget));
+    if !boxes.contains(&target) {
+        return stays(alloc, Reply::NoTarget);
     }
-    if !boxes.has_widget(target) {
-        return Ok(stays(alloc, Reply::NotWidget));
+    if !boxes.has_widget(&target) {
+        return stays(alloc, Reply::NotWidget);
     }
     if comms.is_full(limit) {
-        return Ok(stays(alloc, Reply::OpenRefused(Refusal::TooManyComms)));
+        return stays(alloc, Reply::OpenRefused(Refusal::TooManyComms));
     }
-    let name = target.copy()?;
-    let state = state.copy()?;
-    Ok(Judged::Asked(Question {
-        name,
+    Judged::Asked(Question {
+        name: target,
         state: None,
         event: Event::Launch { id, state },
-    }))
+    })
 }
 
 fn judge_push<T: Target>(
     boxes: &Boxes<T>,
     comms: &Comms,
     alloc: Global,
-    id: &Text,
-    state: &Dict,
+    id: Text,
+    state: Dict,
 ) -> Result<Judged, AllocError>
     requires { Agrees (bare boxes.now.all) comms.now.all }
-    ensures verdict { (limit : ℕ) → IfOk result (λ j. verdict_of (machine_of boxes.now.all comms.now.all) j ≡ judged limit (machine_of boxes.now.all comms.now.all) (call.Push id.now state.now)) }
-    ensures stands { IfOk result (λ j. Stands boxes.now.all comms.now.all (call.Push id.now state.now) j) }
+    ensures verdict { (limit : ℕ) → IfOk result (λ j. verdict_of (machine_of boxes.now.all comms.now.all) j ≡ judged limit (machine_of boxes.now.all comms.now.all) (call.Push id state)) }
+    ensures stands { IfOk result (λ j. Stands boxes.now.all comms.now.all (call.Push id state) j) }
 {
-    let Some(comm) = comms.get(id) else {
+    let Some(comm) = comms.get(&id) else {
         return Ok(stays(alloc, Reply::NoComm));
     };
     if !boxes.has_widget(&comm.target) {
@@ -239,40 +216,31 @@ fn judge_push<T: Target>(
     }
     let name = comm.target.copy()?;
     let state_now = state_copy(comm)?;
-    let event = Event::Push {
-        id: id.copy()?,
-        state: state.copy()?,
-    };
     Ok(Judged::Asked(Question {
         name,
         state: state_now,
-        event,
+        event: Event::Push { id, state },
     }))
 }
 
-fn judge_send(comms: &Comms, alloc: Global, id: &Text, body: &Body) -> Result<Judged, AllocError>
-    ensures verdict { (limit : ℕ) (boxes : Targets) → IfOk result (λ j. verdict_of (machine_of boxes comms.now.all) j ≡ judged limit (machine_of boxes comms.now.all) (call.Send id.now body.now)) }
-    ensures stands { (boxes : Targets) → IfOk result (λ j. Stands boxes comms.now.all (call.Send id.now body.now) j) }
+fn judge_send(comms: &Comms, alloc: Global, id: Text, body: Body) -> Result<Judged, AllocError>
+    ensures verdict { (limit : ℕ) (boxes : Targets) → IfOk result (λ j. verdict_of (machine_of boxes comms.now.all) j ≡ judged limit (machine_of boxes comms.now.all) (call.Send id body)) }
+    ensures stands { (boxes : Targets) → IfOk result (λ j. Stands boxes comms.now.all (call.Send id body) j) }
 {
-    if !comms.contains(id) {
+    if !comms.contains(&id) {
         return Ok(stays(alloc, Reply::NoComm));
     }
-    let message = Outgoing::Msg {
-        id: id.copy()?,
-        body: body.copy(alloc)?,
-    };
-    let outgoing = one(alloc, message)?;
+    let outgoing = one(alloc, Outgoing::Msg { id, body })?;
     Ok(Judged::Done(Reply::Delivered(None), outgoing, Plan::Nothing))
 }
 
-fn judge_hang_up(comms: &Comms, alloc: Global, id: &Text) -> Result<Judged, AllocError>
-    ensures verdict { (limit : ℕ) (boxes : Targets) → IfOk result (λ j. verdict_of (machine_of boxes comms.now.all) j ≡ judged limit (machine_of boxes comms.now.all) (call.HangUp id.now)) }
-    ensures stands { (boxes : Targets) → IfOk result (λ j. Stands boxes comms.now.all (call.HangUp id.now) j) }
+fn judge_hang_up(comms: &Comms, alloc: Global, id: Text) -> Result<Judged, AllocError>
+    ensures verdict { (limit : ℕ) (boxes : Targets) → IfOk result (λ j. verdict_of (machine_of boxes comms.now.all) j ≡ judged limit (machine_of boxes comms.now.all) (call.HangUp id)) }
+    ensures stands { (boxes : Targets) → IfOk result (λ j. Stands boxes comms.now.all (call.HangUp id) j) }
 {
-    if !comms.contains(id) {
+    if !comms.contains(&id) {
         return Ok(stays(alloc, Reply::NoComm));
     }
-    let outgoing = closing(alloc, id)?;
-    let plan = Plan::Close { id: id.copy()? };
-    Ok(Judged::Done(Reply::Closed, outgoing, plan))
+    let outgoing = closing(alloc, &id)?;
+    Ok(Judged::Done(Reply::Closed, outgoing, Plan::Close { id }))
 }

@@ -8,6 +8,9 @@ use Rattle.comm_targets.specs.contracts.stage.Stage as stage
 use Rattle.comm_targets.specs.Meaning.{Meaning}
 use Rattle.comm_targets.specs.Book.{Page}
 
+abbrev pub stage_code : Coded Stage
+stage_code = stage.the_row.coded
+
 abbrev pub page_code : Coded Page
 page_code =
     code_by (List (List ℕ) × Option Stage) (coded× (coded_list (coded_list coded_ℕ)) (coded_option stage.the_row.coded))

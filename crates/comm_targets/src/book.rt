@@ -6,17 +6,17 @@ ghost use Rattle.comm_targets.specs.Meaning.{has_id, without, ids_after, stages_
 
 use crate::answer::Answer;
 use crate::event::Event;
-use crate::stage::Stage;
+use crate::staged::Staged;
 use comm_tables::Table;
 use comm_value::Text;
 use std::alloc::{AllocError, Global};
 use std::marker::Model;
 
-/// What each target keeps: the ids of its open comms in the order of opening, and the event that is staged, with its answer.
+/// What each target keeps: the ids of its open comms in the order of opening, and what is staged.
 #[derive(Drop)]
 pub struct Book {
     ids: Table<String, ()>,
-    staged: Option<Stage>,
+    staged: Option<Staged>,
     // The id that a staged opening adds.
     fresh: Option<String>,
 }
@@ -60,7 +60,7 @@ impl Book {
         ensures { result ≡ stages_message self.now.staged }
     {
         match &self.staged {
-            Some(Stage { event, .. }) => matches!(event, Event::Msg { .. }),
+            Some(staged) => staged.is_message(),
             None => false,
         }
     }
@@ -71,11 +71,8 @@ impl Book {
         ensures ok { OnOk result (self.new ≡ record { ids = self.old.ids; staged = Some (record { event = event.now; answer = answer.now }) }) }
         ensures err { OnErr result (self.new ≡ self.old) }
     {
-        let event = event.copy(alloc)?;
-        let answer = answer.copy(alloc)?;
-        let fresh = readied(&mut self.ids, alloc, &event)?;
-        self.fresh = fresh;
-        self.staged = Some(Stage { event, answer });
+        self.fresh = readied(&mut self.ids, alloc, event)?;
+        self.staged = Some(Staged::new(event, answer));
         Ok(())
     }
 

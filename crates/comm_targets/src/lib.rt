@@ -88,6 +88,7 @@ mod held;
 mod kind;
 mod latest;
 mod stage;
+mod staged;
 mod target;
 
 pub use answer::{Answer, Bodies, Custom};

@@ -1,7 +1,8 @@
 -- A text goes out in runs that need no escape, and escapes between them.
-use Rattle.std.proofs.Common.{◌≡◌, ℕ, suc, ◌+◌, ◌-◌, ◌<◌, ◌≤◌, List, [], ◌∷◌, ◌++◌, length, get_or, take, drop, sym, ap, ◌∙◌, arith, add-one, append_assoc, append-nil, length-drop, get_or-drop}
+use Rattle.std.proofs.Common.{◌≡◌, ℕ, suc, ◌+◌, ◌-◌, ◌<◌, ◌≤◌, Bool, true, false, ◌&&◌, not, IsTrue, List, [], ◌∷◌, ◌++◌, length, get_or, take, drop, refl, sym, ap, ◌∙◌, arith, add-one, append_assoc, append-nil, length-drop, get_or-drop}
 use Rattle.std.proofs.Math.Seq.{drop-cons}
 use Rattle.std.proofs.lemmas.List.{take_more}
+use Rattle.std.specs.Bool.{OnFalse}
 use Rattle.json.specs.Print.{escape_byte, escape}
 
 next : (bytes : List ℕ) (i : ℕ) → i < length bytes → escape (drop i bytes) ≡ escape_byte (get_or bytes i 0) ++ escape (drop (i + 1) bytes)
@@ -41,3 +42,17 @@ run_ends out run_out new bytes text start from i there below first second so =
       ap (λ n. (new ++ take n (drop from bytes)) ++ rest) none ∙ ap (λ l. l ++ rest) (append-nil new ∙ second ∙ ap (λ l. l ++ escape_byte (get_or bytes i 0)) first)
           ∙ append_assoc (out ++ run) (escape_byte (get_or bytes i 0)) rest ∙ ap (λ l. (out ++ run) ++ l) (sym (next bytes i below)) ∙ so,
     )
+
+escape_append : (xs ys : List ℕ) → escape (xs ++ ys) ≡ escape xs ++ escape ys
+escape_append [] ys = refl
+escape_append (x ∷ xs) ys = ap (λ l. escape_byte x ++ l) (escape_append xs ys) ∙ sym (append_assoc (escape_byte x) (escape xs) (escape ys))
+
+-- one more byte that needs none
+pub plain_so_far : (bytes : List ℕ) (i : ℕ) (plain odd : Bool) → i < length bytes → OnFalse odd (escape_byte (get_or bytes i 0) ≡ get_or bytes i 0 ∷ [])
+    → (IsTrue plain → escape (take i bytes) ≡ take i bytes) → IsTrue (plain && not odd) → escape (take (i + 1) bytes) ≡ take (i + 1) bytes
+plain_so_far bytes i false odd below one before so = absurd (cc)
+plain_so_far bytes i true true below one before so = absurd (cc)
+plain_so_far bytes i true false below one before so =
+    let x : ℕ = get_or bytes i 0 in
+    let more : take (i + 1) bytes ≡ take i bytes ++ x ∷ [] = take_more bytes i 0 below in
+    ap escape more ∙ escape_append (take i bytes) (x ∷ []) ∙ ap (λ l. l ++ escape (x ∷ [])) (before refl) ∙ ap (λ l. take i bytes ++ l) (append-nil (escape_byte x) ∙ one) ∙ sym more

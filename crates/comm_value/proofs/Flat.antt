@@ -82,9 +82,6 @@ not_empty xs h = omega (arith, not_zero (vec_len xs) h)
 
 -- ---- members let in at a place
 
-pub let_in_one : (ps new : List Piece) (i : ℕ) (p : Piece) (xs : List Member) → new ≡ take i ps ++ p ∷ drop i ps → (arc_value p).items ≡ xs → flat new ≡ flat (take i ps) ++ (xs ++ flat (drop i ps))
-let_in_one ps new i p xs put is = ap flat put ∙ flat_append (take i ps) (p ∷ drop i ps) ∙ ap (λ l. flat (take i ps) ++ (l ++ flat (drop i ps))) is
-
 pub filled_let_in : (ps new : List Piece) (i : ℕ) (p : Piece) (xs : List Member) → new ≡ take i ps ++ p ∷ drop i ps → (arc_value p).items ≡ xs → 0 < length xs → AllFilled ps → AllFilled new
 filled_let_in ps new i p xs put is some f =
     subst AllFilled (sym put) (filled_append (take i ps) (p ∷ drop i ps) (filled_take ps i f) (omega (arith, some, ap length is), filled_drop ps i f))
@@ -108,14 +105,34 @@ drop_put [] (suc i) q h = absurd (omega arith)
 drop_put (p ∷ ps) zero q h = refl
 drop_put (p ∷ ps) (suc i) q h = drop_put ps i q (omega arith)
 
-pub let_in_two : (ps mid new : List Piece) (i n : ℕ) (q p : Piece) (xs : List Member) → i ≤ length ps → mid ≡ take i ps ++ q ∷ drop i ps → new ≡ take i mid ++ p ∷ drop i mid
-    → (arc_value q).items ≡ drop n xs → (arc_value p).items ≡ take n xs → flat new ≡ flat (take i ps) ++ (xs ++ flat (drop i ps))
-let_in_two ps mid new i n q p xs h first second tail head =
-    let before : take i mid ≡ take i ps = ap (take i) first ∙ take_put ps i q h in
-    let after : drop i mid ≡ q ∷ drop i ps = ap (drop i) first ∙ drop_put ps i q h in
-    let_in_one mid new i p (take n xs) second head ∙ ap (λ l. flat l ++ (take n xs ++ flat (drop i mid))) before
-    ∙ ap (λ l. flat (take i ps) ++ (take n xs ++ flat l)) after ∙ ap (λ l. flat (take i ps) ++ (take n xs ++ (l ++ flat (drop i ps)))) tail
-    ∙ ap (λ l. flat (take i ps) ++ l) (sym (append_assoc (take n xs) (drop n xs) (flat (drop i ps))) ∙ ap (λ l. l ++ flat (drop i ps)) (take-append-drop n xs))
+-- the members of the pieces behind the place, once these are let in
+pub one_behind : (ps new : List Piece) (i : ℕ) (p : Piece) (xs : List Member) → i ≤ length ps → new ≡ take i ps ++ p ∷ drop i ps → (arc_value p).items ≡ xs → flat (drop i new) ≡ xs ++ flat (drop i ps)
+one_behind ps new i p xs h put is = ap (λ l. flat (drop i l)) put ∙ ap flat (drop_put ps i p h) ∙ ap (λ l. l ++ flat (drop i ps)) is
+
+length_put : (ps new : List Piece) (i : ℕ) (p : Piece) → i ≤ length ps → new ≡ take i ps ++ p ∷ drop i ps → i ≤ length new
+length_put ps new i p h put = omega (arith, ap length put, length-append (take i ps) (p ∷ drop i ps), length-take-le i ps h, length-drop i ps, h)
+
+pub two_behind : (ps mid new : List Piece) (i n : ℕ) (q p : Piece) (xs : List Member) → i ≤ length ps → mid ≡ take i ps ++ q ∷ drop i ps → new ≡ take i mid ++ p ∷ drop i mid
+    → (arc_value q).items ≡ drop n xs → (arc_value p).items ≡ take n xs → flat (drop i new) ≡ xs ++ flat (drop i ps)
+two_behind ps mid new i n q p xs h first second tail head =
+    one_behind mid new i p (take n xs) (length_put ps mid i q h first) second head ∙ ap (λ l. take n xs ++ l) (one_behind ps mid i q (drop n xs) h first tail)
+    ∙ sym (append_assoc (take n xs) (drop n xs) (flat (drop i ps))) ∙ ap (λ l. l ++ flat (drop i ps)) (take-append-drop n xs)
+
+-- let in at a place, with what stood before it and behind it
+pub let_in_flat : (ps new : List Piece) (i : ℕ) (xs : List Member) → take i new ≡ take i ps → flat (drop i new) ≡ xs ++ flat (drop i ps) → flat new ≡ flat (take i ps) ++ (xs ++ flat (drop i ps))
+let_in_flat ps new i xs before behind = flat_cut new i ∙ ap (λ l. flat l ++ flat (drop i new)) before ∙ ap (λ l. flat (take i ps) ++ l) behind
+
+pub slice_end : (xs : List Member) (n : ℕ) → take (length xs - n) (drop n xs) ≡ drop n xs
+slice_end xs n = take_all (length xs - n) (drop n xs) (omega (arith, length-drop n xs))
+
+-- let in one after the other at the same place
+pub three_flat : (ps one two new : List Piece) (i : ℕ) (xs before ys behind : List Member) (m : Member) (alone : List Member) → xs ≡ before → ys ≡ behind → take i one ≡ take i ps → flat (drop i one) ≡ ys ++ flat (drop i ps)
+    → take i two ≡ take i one → flat (drop i two) ≡ alone ++ flat (drop i one) → alone ≡ m ∷ [] → take i new ≡ take i two → flat (drop i new) ≡ xs ++ flat (drop i two)
+    → flat new ≡ flat (take i ps) ++ ((before ++ m ∷ behind) ++ flat (drop i ps))
+three_flat ps one two new i xs before ys behind m alone first last b1 d1 b2 d2 is b3 d3 =
+    flat_cut new i ∙ ap (λ l. flat l ++ flat (drop i new)) (b3 ∙ b2 ∙ b1)
+    ∙ ap (λ l. flat (take i ps) ++ l) (d3 ∙ ap (λ l. xs ++ l) (d2 ∙ ap (λ l. l ++ flat (drop i one)) is ∙ ap (λ l. m ∷ l) d1) ∙ sym (append_assoc xs (m ∷ ys) (flat (drop i ps))))
+    ∙ ap (λ l. flat (take i ps) ++ ((l ++ m ∷ ys) ++ flat (drop i ps))) first ∙ ap (λ l. flat (take i ps) ++ ((before ++ m ∷ l) ++ flat (drop i ps))) last
 
 pub filled_two : (ps mid new : List Piece) (i n : ℕ) (q p : Piece) (xs : List Member) → mid ≡ take i ps ++ q ∷ drop i ps → new ≡ take i mid ++ p ∷ drop i mid
     → (arc_value q).items ≡ drop n xs → (arc_value p).items ≡ take n xs → 0 < n → n < length xs → AllFilled ps → AllFilled new

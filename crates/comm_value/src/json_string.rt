@@ -1,5 +1,5 @@
 // Texts as JSON strings.
-ghost use Rattle.std.specs.Prelude.{◌≡◌, ◌<◌, [], ◌∷◌, ◌++◌, OnOk};
+ghost use Rattle.std.specs.Prelude.{◌≡◌, ◌<◌, [], ◌∷◌, ◌++◌, true, IsTrue, OnOk};
 ghost use Rattle.std.specs.Bool.{OnFalse};
 ghost use Rattle.std.specs.Char.{digit_char};
 ghost use Rattle.json.specs.Print.{escape_letter, escape_byte, escape, quoted};
@@ -10,9 +10,25 @@ use std::alloc::AllocError;
 pub fn write_text(text: &str, out: &mut Vec<u8>) -> Result<(), AllocError>
     ensures { OnOk result (out.new.items ≡ out.old.items ++ quoted text.now) }
 {
+    let bytes = text.as_bytes();
     out.push(b'"')?;
-    write_escaped(text.as_bytes(), out)?;
+    if is_plain(bytes) {
+        out.extend_from_slice(bytes)?;
+    } else {
+        write_escaped(bytes, out)?;
+    }
     Ok(out.push(b'"')?)
+}
+
+// Whether no byte needs an escape, as in nearly all texts. It looks at all of them, which compilers turn into many at a time.
+fn is_plain(bytes: &[u8]) -> bool
+    ensures { IsTrue result → escape bytes.now ≡ bytes.now }
+{
+    let mut plain = true;
+    for byte in bytes {
+        plain &= !needs_escape(*byte);
+    }
+    plain
 }
 
 // What needs no escape goes out in runs.

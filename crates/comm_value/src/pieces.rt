@@ -1,10 +1,10 @@
 // The members of a dict in pieces, which the dicts before and after a change share.
-ghost use Rattle.std.specs.Prelude.{◌≡◌, ◌+◌, ◌<◌, ◌≤◌, ◌++◌, true, IfOk, length, take, drop};
+ghost use Rattle.std.specs.Prelude.{◌≡◌, ◌+◌, ◌<◌, ◌≤◌, ◌++◌, ◌∷◌, List, true, IfOk, OnOk, length, take, drop};
 ghost use Rattle.comm_value.specs.Order.{members_ordered};
 ghost use Rattle.comm_value.specs.View.{members_of, tree, flat, AllFilled};
 ghost use Rattle.comm_value.specs.Search.{AllBelow, IsAbsent};
 ghost use Rattle.comm_value.specs.Put.{insert};
-ghost use Rattle.std.specs.Arc.{arc_value};
+ghost use Rattle.comm_value.specs.declared.val.Member.{Member};
 
 use crate::search::place_of;
 use crate::val::Member;
@@ -15,8 +15,9 @@ use std::sync::Arc;
 /// Members that follow one another in a dict. It has at least one.
 pub(crate) type Piece = Arc<Vec<Member, Global>, Global>;
 
-// A piece may be so long in any dict: of 4 to 64, eight took the fewest instructions for states of 15 and of 200 keys.
-const SHORT: usize = 8;
+// A piece may be so long in any dict. It is copied whole when one of its members changes for the first time, and that one gets a piece of
+// its own; so pieces are longer than they would be if each change copied one.
+const SHORT: usize = 16;
 
 // How long a piece may be beside so many others; a longer one is cut in two. An update copies the piece that it changes, and the pointers
 // to the others: a large dict has longer pieces, so that there are fewer of them. A pointer costs less to copy than a member.
@@ -143,12 +144,74 @@ pub(crate) fn put(
         return let_in(alloc, all, 0, first);
     }
     let place = piece_of(all.as_slice(), member.key.as_str());
-    let members = own_members(alloc, all.remove(place))?;
-    let changed = put_member(members, member)?;
-    let_in(alloc, all, place, changed)
+    match Arc::try_unwrap(all.remove(place)) {
+        Ok(members) => let_in(alloc, all, place, put_member(members, member)?),
+        Err(shared) => put_shared(alloc, all, place, shared.as_slice(), member),
+    }
 }
 
-// The pieces with these members between the first ones and the others.
+// The pieces with these shared members, and the new one among them, between the first ones and the others.
+fn put_shared(
+    alloc: Global,
+    pieces: Vec<Piece>,
+    place: usize,
+    members: &[Member],
+    member: Member,
+) -> Result<Vec<Piece>, AllocError>
+    requires within { place ≤ length pieces.items }
+    requires filled { AllFilled pieces.items }
+    requires ordered { members_ordered (members_of members.now) ≡ true }
+    ensures put { IfOk result (λ all. (changed : List Member) × (flat all.items ≡ flat (take place pieces.items) ++ (changed ++ flat (drop place pieces.items)))
+        × (members_of changed ≡ insert member.key (tree member.value) (members_of members.now))) }
+    ensures filled { IfOk result (λ all. AllFilled all.items) }
+{
+    match place_of(members, member.key.as_str()) {
+        Ok(i) => {
+            if stands_apart(members.len(), pieces.len()) {
+                cut_out(alloc, pieces, place, members, i, member)
+            } else {
+                let changed = spliced(alloc, members, i, i + 1, member)?;
+                let_in(alloc, pieces, place, changed)
+            }
+        }
+        Err(i) => {
+            let changed = spliced(alloc, members, i, i, member)?;
+            let_in(alloc, pieces, place, changed)
+        }
+    }
+}
+
+// Whether a member that changes in a piece of this length, beside so many others, gets a piece of its own. What changed once is likely to
+// change again, as a slider's value does; then it is copied alone. The pieces may become as many as their members are worth pointers.
+fn stands_apart(length: usize, others: usize) -> bool {
+    length == 1 || (3 < length && others / 6 < length)
+}
+
+// The pieces with these members between the first ones and the others, the new one in place of the i-th and in a piece of its own.
+fn cut_out(
+    alloc: Global,
+    pieces: Vec<Piece>,
+    place: usize,
+    members: &[Member],
+    i: usize,
+    member: Member,
+) -> Result<Vec<Piece>, AllocError>
+    requires within { place ≤ length pieces.items }
+    requires there { i < length members.now }
+    requires filled { AllFilled pieces.items }
+    ensures flat { IfOk result (λ all. flat all.items ≡ flat (take place pieces.items) ++ ((take i members.now ++ member ∷ drop (i + 1) members.now) ++ flat (drop place pieces.items))) }
+    ensures filled { IfOk result (λ all. AllFilled all.items) }
+{
+    let behind = copies_of(alloc, &members[i + 1..])?;
+    let all = let_in(alloc, pieces, place, behind)?;
+    let mut alone = Vec::with_capacity(alloc, 1)?;
+    alone.push(member)?;
+    let all = let_in(alloc, all, place, alone)?;
+    let before = copies_of(alloc, &members[..i])?;
+    let_in(alloc, all, place, before)
+}
+
+// The pieces with these members, if any, between the first ones and the others.
 fn let_in(
     alloc: Global,
     pieces: Vec<Piece>,
@@ -156,13 +219,17 @@ fn let_in(
     members: Vec<Member>,
 ) -> Result<Vec<Piece>, AllocError>
     requires within { place ≤ length pieces.items }
-    requires some { 0 < length members.items }
     requires filled { AllFilled pieces.items }
-    ensures flat { IfOk result (λ all. flat all.items ≡ flat (take place pieces.items) ++ (members.items ++ flat (drop place pieces.items))) }
+    ensures before { IfOk result (λ all. take place all.items ≡ take place pieces.items) }
+    ensures behind { IfOk result (λ all. flat (drop place all.items) ≡ members.items ++ flat (drop place pieces.items)) }
+    ensures longer { IfOk result (λ all. length pieces.items ≤ length all.items) }
     ensures filled { IfOk result (λ all. AllFilled all.items) }
 {
     let mut all = pieces;
     let mut head = members;
+    if head.is_empty() {
+        return Ok(all);
+    }
     if head.len() > longest(all.len()) {
         let tail = head.split_off(head.len() / 2)?;
         all.insert(place, Arc::new(alloc, tail)?)?;
@@ -171,24 +238,40 @@ fn let_in(
     Ok(all)
 }
 
-// The members of a piece by themselves: copied only where something else shares them.
-fn own_members(alloc: Global, piece: Piece) -> Result<Vec<Member>, AllocError>
-    ensures { IfOk result (λ all. all.items ≡ (arc_value piece).items) }
+// Copies of the members, and the new one in place of those from one index to the other.
+fn spliced(
+    alloc: Global,
+    members: &[Member],
+    from: usize,
+    to: usize,
+    member: Member,
+) -> Result<Vec<Member>, AllocError>
+    requires ordered { from ≤ to }
+    requires within { to ≤ length members.now }
+    ensures { IfOk result (λ all. all.items ≡ take from members.now ++ member ∷ drop to members.now) }
 {
-    match Arc::try_unwrap(piece) {
-        Ok(all) => Ok(all),
-        Err(shared) => copies_of(alloc, shared.as_slice()),
-    }
+    let mut all = Vec::with_capacity(alloc, members.len() + 1)?;
+    copy_all(&members[..from], &mut all)?;
+    all.push(member)?;
+    copy_all(&members[to..], &mut all)?;
+    Ok(all)
 }
 
 fn copies_of(alloc: Global, members: &[Member]) -> Result<Vec<Member>, AllocError>
     ensures { IfOk result (λ all. all.items ≡ members.now) }
 {
     let mut all = Vec::with_capacity(alloc, members.len())?;
+    copy_all(members, &mut all)?;
+    Ok(all)
+}
+
+fn copy_all(members: &[Member], all: &mut Vec<Member>) -> Result<(), AllocError>
+    ensures { OnOk result (all.new.items ≡ all.old.items ++ members.now) }
+{
     for member in members {
         all.push(member.copy()?)?;
     }
-    Ok(all)
+    Ok(())
 }
 
 fn put_member(members: Vec<Member>, member: Member) -> Result<Vec<Member>, AllocError>

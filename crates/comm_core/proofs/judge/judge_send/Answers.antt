@@ -3,4 +3,4 @@ use Rattle.comm_core.specs.declared.call.Call.TheVariants as call
 use Rattle.comm_core.proofs.judge.judge_send.Goals as goal
 
 pub returns-then-not-contains-clause-stands : goal.returns-then-not-contains-clause-stands
-returns-then-not-contains-clause-stands c = λ boxes. c.stays.ensures.stands boxes c.args.comms.now.all (call.Send c.args.id.now c.args.body.now) refl
+returns-then-not-contains-clause-stands c = λ boxes. c.stays.ensures.stands boxes c.args.comms.now.all (call.Send c.args.id c.args.body) refl

@@ -4,4 +4,4 @@ use Rattle.std.proofs.Common.{sym, ◌∙◌}
 use Rattle.comm_core.proofs.Asking.{nobody_ends}
 
 pub returns-then-not-contains-clause-stands : goal.returns-then-not-contains-clause-stands
-returns-then-not-contains-clause-stands g c = c.stays.ensures.stands c.args.boxes.now.all c.args.comms.now.all (call.Unregister c.args.name.now) (nobody_ends c.args.boxes.now.all c.args.name.now (sym c.contains.ensures ∙ c.if-not-contains.true))
+returns-then-not-contains-clause-stands g c = c.stays.ensures.stands c.args.boxes.now.all c.args.comms.now.all (call.Unregister c.args.name) (nobody_ends c.args.boxes.now.all c.args.name (sym c.contains.ensures ∙ c.if-not-contains.true))

@@ -1,18 +1,18 @@
-use Rattle.std.proofs.Common.{ℕ, ◌/◌, ap, ◌∙◌, arith}
+use Rattle.std.proofs.Common.{ℕ, ◌/◌, ap, sym, ◌∙◌, arith}
 use Rattle.std.specs.List.{insert as list_insert}
-use Rattle.comm_value.proofs.Flat.{let_in_one, let_in_two, filled_let_in, filled_two}
+use Rattle.comm_value.proofs.Flat.{one_behind, two_behind, filled_let_in, filled_two, not_empty}
 use Rattle.comm_value.proofs.pieces.let_in.Goals as goal
 use Rattle.comm_value.proofs.pieces.let_in.Goals.{then-len-longest+in_ok-tail+in_ok-new+in_ok-insert, else-len-longest}
 
-pub returns-clause-flat : goal.returns-clause-flat
-returns-clause-flat c = elim c.if-len-longest.branch [
+pub returns-clause-behind : goal.returns-clause-behind
+returns-clause-behind c = elim c.if-len-longest.branch [
   | then-len-longest+in_ok-tail+in_ok-new+in_ok-insert w ↦
-      let_in_two c.args.pieces.items c.if-len-longest.all.items _ c.args.place (w.len-then-len-longest.result / 2) w.in_ok-new.field-0 c.in_ok-new-2.field-0 c.args.members.items c.requires.within
+      two_behind c.args.pieces.items c.if-len-longest.all.items _ c.args.place (w.len-then-len-longest.result / 2) w.in_ok-new.field-0 c.in_ok-new-2.field-0 c.args.members.items c.requires.within
       (ap (λ v. v.items) w.all-is ∙ w.in_ok-insert.ensures.items) c.in_ok-insert-2.ensures.items (ap (λ v. v.items) w.in_ok-new.ensures.ok ∙ w.in_ok-tail.ensures.tail)
       (ap (λ v. v.items) (c.in_ok-new-2.ensures.ok ∙ w.head-is) ∙ w.in_ok-tail.ensures.items)
   | else-len-longest w ↦
-      let_in_one c.args.pieces.items _ c.args.place c.in_ok-new-2.field-0 c.args.members.items (c.in_ok-insert-2.ensures.items ∙ ap (λ v. list_insert v.items c.args.place c.in_ok-new-2.field-0) w.all-is)
-      (ap (λ v. v.items) (c.in_ok-new-2.ensures.ok ∙ w.head-is))
+      one_behind c.args.pieces.items _ c.args.place c.in_ok-new-2.field-0 c.args.members.items c.requires.within
+      (c.in_ok-insert-2.ensures.items ∙ ap (λ v. list_insert v.items c.args.place c.in_ok-new-2.field-0) w.all-is) (ap (λ v. v.items) (c.in_ok-new-2.ensures.ok ∙ w.head-is))
 ]
 
 pub returns-clause-filled : goal.returns-clause-filled
@@ -24,5 +24,5 @@ returns-clause-filled c = elim c.if-len-longest.branch [
       (omega (arith, w.if-len-longest.true, w.len-then-len-longest.ensures, c.len.ensures)) (omega (arith, w.if-len-longest.true, w.len-then-len-longest.ensures, c.len.ensures)) c.requires.filled
   | else-len-longest w ↦
       filled_let_in c.args.pieces.items _ c.args.place c.in_ok-new-2.field-0 c.args.members.items (c.in_ok-insert-2.ensures.items ∙ ap (λ v. list_insert v.items c.args.place c.in_ok-new-2.field-0) w.all-is)
-      (ap (λ v. v.items) (c.in_ok-new-2.ensures.ok ∙ w.head-is)) c.requires.some c.requires.filled
+      (ap (λ v. v.items) (c.in_ok-new-2.ensures.ok ∙ w.head-is)) (not_empty c.args.members (sym c.if-is_empty.false ∙ c.is_empty.ensures)) c.requires.filled
 ]

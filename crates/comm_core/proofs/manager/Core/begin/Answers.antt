@@ -13,7 +13,7 @@ pub invariant_of-self-in_err-came : goal.invariant_of-self-in_err-came
 invariant_of-self-in_err-came g c = sound-settled _ _ _ _ _ _ _ _ _ c.self.invariant (c.in_err-came.ensures.err ∙ c.reserve.ensures.all) c.reserve-2.ensures.all (ap (λ (s : State). s.settled) c.self.view_is ∙ c.requires.settled)
 
 pub returns-clause-ready : goal.returns-clause-ready
-returns-clause-ready g c = call_ready _ _ _ _ _ _ _ _ _ c.in_ok-came.ensures.came
+returns-clause-ready g c = rw c.of-seen.ensures (call_ready _ _ _ _ _ _ _ _ _ c.in_ok-came.ensures.came)
 
 pub returns-clause-allowed : goal.returns-clause-allowed
 returns-clause-allowed g c = came_allowed _ _ _ _ _ _ _ _ c.self.view_is c.reserve.ensures.all c.reserve-2.ensures.all _ _ _ _ _ c.in_ok-came.ensures.came

@@ -18,6 +18,8 @@ invariant_of-self-in_default g c = sound-settled _ _ _ _ _ _ _ _ _ c.self.invari
 
 pub returns-clause-ready : goal.returns-clause-ready
 returns-clause-ready g c =
+    rw c.of.ensures (
     register_ready _ _ _ _ _ _ _ (rw c.reserve.ensures.all (c.self.invariant.unstaged (ap (λ (s : State). s.settled) c.self.view_is ∙ c.requires.settled))) (sym c.kind-kind.ensures) (sym c.notes-notes.ensures) c.requires.idle
     c.contains-taken.result _ _ _ c.contains-taken.ensures c.registering-reply.ensures.reply c.new.ensures.items
     (c.registering-reply.ensures.plan ∙ ap (λ t. cond c.contains-taken.result Nothing (Register t c.kind-kind.result c.notes-notes.result)) c.in-Ok.ensures)
+    )

@@ -1,0 +1,48 @@
+ghost use Rattle.std.specs.Prelude.{◌≡◌};
+ghost use Rattle.comm_targets.specs.Meaning.{is_message};
+
+use crate::answer::Answer;
+use crate::event::Event;
+use std::marker::Model;
+use std::snapshot::Snapshot;
+
+/// That an event is staged, with its answer: contracts see both, and only whether it is a message is kept.
+#[derive(Drop)]
+pub(crate) struct Staged {
+    event: Snapshot<Event>,
+    answer: Snapshot<Answer>,
+    of_message: bool,
+}
+
+impl Model for Staged {
+    ghost use Rattle.std.specs.Prelude.{◌≡◌};
+    ghost use Rattle.comm_targets.specs.Meaning.{is_message};
+    ghost use Rattle.comm_targets.specs.declared.stage.Stage.{Stage};
+    ghost use Rattle.comm_targets.specs.Code.{stage_code};
+
+    ghost Value = { Stage };
+
+    ghost coded = { stage_code };
+
+    ghost view = { λ s. record { event = s.event.value; answer = s.answer.value } };
+
+    ghost invariant = { λ s. s.of_message ≡ is_message s.event.value };
+}
+
+impl Staged {
+    pub fn new(event: &Event, answer: &Answer) -> Staged
+        ensures { result ≡ record { event = event.now; answer = answer.now } }
+    {
+        Staged {
+            event: Snapshot::of(event),
+            answer: Snapshot::of(answer),
+            of_message: matches!(event, Event::Msg { .. }),
+        }
+    }
+
+    pub fn is_message(&self) -> bool
+        ensures { result ≡ is_message self.now.event }
+    {
+        self.of_message
+    }
+}
