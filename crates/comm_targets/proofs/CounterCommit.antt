@@ -1,5 +1,5 @@
 -- What the commit of a counter leaves.
-use Rattle.std.proofs.Common.{◌≡◌, ℕ, Bool, cond, Option, None, Some, refl, sym, ap, ◌∙◌}
+use Rattle.std.proofs.Common.{◌≡◌, ℕ, cond, None, Some, refl, ap, ◌∙◌}
 use Rattle.comm_targets.specs.Book.{Page}
 use Rattle.comm_targets.specs.Meaning.{Meaning, commits, one_more, ids_after, stages_message, is_message}
 use Rattle.comm_targets.specs.declared.stage.Stage.{Stage}

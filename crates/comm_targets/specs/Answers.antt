@@ -1,5 +1,5 @@
 -- What a target of each kind may answer.
-use Rattle.std.specs.Prelude.{◌≡◌, ℕ, pos, List, [], ◌∷◌, Option, None, Some, unwrap_or, Result, Ok, Err, codes}
+use Rattle.std.specs.Prelude.{◌≡◌, ℕ, pos, [], Option, None, unwrap_or, Result, Ok, Err, codes}
 use Rattle.comm_messages.specs.Content.{Content}
 use Rattle.comm_value.specs.Tree.{whole, Members, no_members, member}
 use Rattle.comm_targets.specs.Meaning.{one_more}
@@ -8,10 +8,10 @@ use Rattle.comm_targets.specs.Widget.{nothing, one_message}
 use Rattle.comm_targets.specs.declared.kind.Kind.{Kind}
 use Rattle.comm_targets.specs.declared.kind.Kind.TheVariants.{Echo, Counter, Widget, Free}
 use Rattle.comm_targets.specs.declared.event.Event.{Event}
-use Rattle.comm_targets.specs.declared.event.Event.TheVariants.{Open, Msg, Launch, Push}
+use Rattle.comm_targets.specs.declared.event.Event.TheVariants.{Open, Msg, Launch}
 use Rattle.comm_targets.specs.declared.answer.Answer.{Answer}
 use Rattle.comm_targets.specs.declared.fault.TargetFault.{TargetFault}
-use Rattle.comm_targets.specs.declared.fault.TargetFault.TheVariants.{WrongVersion, NoState, BadState, BadPath, BufferMissing, NoMethod, UnknownMethod, Other, Memory}
+use Rattle.comm_targets.specs.declared.fault.TargetFault.TheVariants.{Other}
 
 -- each message comes back
 abbrev pub echo_of : Event → Answer

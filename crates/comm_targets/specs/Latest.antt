@@ -1,5 +1,4 @@
 -- A target whose comms have the data that came last as their state.
-use Rattle.std.specs.Prelude.{[], Some, None}
 use Rattle.comm_targets.specs.Widget.{nothing, new_state}
 use Rattle.comm_targets.specs.declared.event.Event.{Event}
 use Rattle.comm_targets.specs.declared.event.Event.TheVariants.{Open, Msg, Launch, Push}

@@ -1,5 +1,5 @@
 -- What a widget answers ('Jupyter widgets messaging protocol' 2.0.0).
-use Rattle.std.specs.Prelude.{ℕ, List, [], ◌∷◌, Bool, ◌==◌, if◌then◌else◌, Option, None, Some, unwrap_or, option_map, Result, Ok, Err, codes}
+use Rattle.std.specs.Prelude.{ℕ, List, [], ◌∷◌, Bool, ◌==◌, if◌then◌else◌, Option, None, Some, unwrap_or, Result, Ok, Err, codes}
 use Rattle.std.specs.List.{before_first}
 use Rattle.std.specs.Str.{bytes_eq}
 use Rattle.comm_messages.specs.Content.{Content}

@@ -17,7 +17,7 @@ pub(crate) type Piece = Arc<Vec<Member, Global>, Global>;
 
 // A piece may be so long in any dict. It is copied whole when one of its members changes for the first time, and that one gets a piece of
 // its own; so pieces are longer than they would be if each change copied one.
-const SHORT: usize = 16;
+pub(crate) const SHORT: usize = 32;
 
 // How long a piece may be beside so many others; a longer one is cut in two. An update copies the piece that it changes, and the pointers
 // to the others: a large dict has longer pieces, so that there are fewer of them. A pointer costs less to copy than a member.
