@@ -182,7 +182,7 @@ fn put_shared(
 }
 
 // Whether a member that changes in a piece of this length, beside so many others, gets a piece of its own. What changed once is likely to
-// change again, as a slider's value does; then it is copied alone. The pieces may become as many as their members are worth pointers.
+// change again, as a slider's value does; then it is copied alone. Where there are many pieces already, their pointers cost more.
 fn stands_apart(length: usize, others: usize) -> bool {
     length == 1 || (3 < length && others / 6 < length)
 }
