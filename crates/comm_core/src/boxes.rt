@@ -77,6 +77,18 @@ impl<T: Target> Boxes<T> {
         self.place_of(name).is_some()
     }
 
+    /// The name, which shares the memory of its target's own where there is one: the comms of a target have its name once.
+    pub fn shared(&self, name: Text) -> Result<Text, AllocError>
+        ensures { IfOk result (λ t. t ≡ name) }
+    {
+        for named in &self.all {
+            if named.name == name {
+                return named.name.copy();
+            }
+        }
+        Ok(name)
+    }
+
     /// Whether a widget has the name.
     pub fn has_widget(&self, name: &Text) -> bool
         ensures { result ≡ holds_widget (at (targets_of self.now.all) name.now) }

@@ -47,6 +47,7 @@ pub fn judge<T: Target>(
         Call::Unregister { name } => judge_unregister(boxes, comms, alloc, name),
         Call::Launch { id, target, state } => {
             let id = comm_id(alloc, &id)?;
+            let target = boxes.shared(target)?;
             Ok(judge_launch(boxes, comms, limit, alloc, id, target, state))
         }
         Call::Push { id, state } => judge_push(boxes, comms, alloc, id, state),
@@ -95,8 +96,9 @@ fn judge_open<T: Target>(
     if comms.is_full(limit) {
         return refused_open(alloc, id, Refusal::TooManyComms);
     }
+    let name = boxes.shared(target)?;
     Ok(Judged::Asked(Question {
-        name: target,
+        name,
         state: None,
         event: Event::Open { id, version, body },
     }))

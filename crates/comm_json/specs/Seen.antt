@@ -8,7 +8,6 @@ use Rattle.std.specs.declared.cmp.Ordering.{Ordering}
 use Rattle.std.specs.Borrow.{Bor}
 use Rattle.json.specs.Json as json
 use Rattle.json.specs.Value.{value_view, items_view as borrowed_items, members_view as borrowed_members}
-use Rattle.json.specs.declared.value.Value.{Value}
 use Rattle.serde_json.specs.Data.{Num, Data, null, boolean, number, string, array, object, Items, no_items, item, Members, no_members, member, put}
 use Rattle.serde_json.specs.Read.{number_of, read}
 use Rattle.std.specs.Str.{is_utf8}
@@ -19,6 +18,8 @@ use Rattle.comm_json.specs.declared.json_ref.ItemsRef.{ItemsRef}
 use Rattle.comm_json.specs.declared.json_ref.ItemsRef.TheVariants as items_ref
 use Rattle.comm_json.specs.declared.json_ref.ObjectRef.{ObjectRef}
 use Rattle.comm_json.specs.declared.json_ref.ObjectRef.TheVariants as object_ref
+use Rattle.comm_json.specs.declared.in_order.MembersInOrder.{MembersInOrder}
+use Rattle.comm_json.specs.declared.in_order.MembersInOrder.TheVariants as in_order
 use Rattle.comm_json.specs.declared.json_ref.Shape.{Shape}
 use Rattle.comm_json.specs.declared.json_ref.Shape.TheVariants as shape
 
@@ -77,6 +78,10 @@ text_cmp a b = slice_cmp nat_cmp a.now b.now
 abbrev pub members_of : List (Bor (List ℕ) × JsonRef) → Members
 members_of [] = no_members
 members_of (m ∷ ms) = member m.0.now (seen m.1) (members_of ms)
+
+abbrev pub listed : MembersInOrder → List (Bor (List ℕ) × JsonRef)
+listed (in_order.Owned all) = all.items
+listed (in_order.Borrowed all) = all.items
 
 abbrev pub AreInOrder : List (Bor (List ℕ) × JsonRef) → Type 0
 AreInOrder ms = IsStrictlySortedBy text_cmp (keys_of ms)

@@ -3,9 +3,10 @@ ghost use Rattle.std.specs.BTreeMap.{insert_entry};
 ghost use Rattle.json.specs.Value.{members_view};
 ghost use Rattle.serde_json.specs.Data.{no_members};
 ghost use Rattle.serde_json.specs.View.{members_view as owned_view};
-ghost use Rattle.comm_json.specs.Seen.{seen, members, members_data, members_of, text_cmp, AreInOrder};
+ghost use Rattle.comm_json.specs.Seen.{seen, members, members_data, members_of, listed, text_cmp, AreInOrder};
 
 use crate::json_ref::{JsonRef, Members, ObjectRef};
+use bumpalo::Bump;
 use serde_json::{Map, Value};
 use std::alloc::{AllocError, Global};
 use std::cmp::Ordering;
@@ -14,18 +15,37 @@ use std::collections::BTreeMap;
 /// A member behind a reference: its key and its value.
 pub type MemberRef<'v, 'a> = (&'v str, JsonRef<'v, 'a>);
 
+/// Members in the order of their keys' bytes, each key once. The list stands where the lists of their object do.
+#[derive(Drop)]
+pub enum MembersInOrder<'v, 'a> {
+    Owned(Vec<MemberRef<'v, 'a>>),
+    Borrowed(Vec<MemberRef<'v, 'a>, &'a Bump>),
+}
+
+impl<'v, 'a> MembersInOrder<'v, 'a> {
+    /// The members, the lowest key first.
+    pub fn as_slice(&self) -> &[MemberRef<'v, 'a>]
+        ensures { result.now ≡ listed self.now }
+    {
+        match self {
+            MembersInOrder::Owned(all) => all,
+            MembersInOrder::Borrowed(all) => all,
+        }
+    }
+}
+
 // How many members are moved at most to let one in among them.
 const NEAR: usize = 64;
 
 impl<'v, 'a> ObjectRef<'v, 'a> {
     /// Its members in the order of their keys' bytes, each key once. It takes time as a sorting does, and less where they stand in order.
-    pub fn in_order(self, alloc: Global) -> Result<Vec<MemberRef<'v, 'a>>, AllocError>
-        ensures all { IfOk result (λ all. members_of all.items ≡ members self.entry) }
-        ensures ordered { IfOk result (λ all. AreInOrder all.items) }
+    pub fn in_order(self, alloc: Global) -> Result<MembersInOrder<'v, 'a>, AllocError>
+        ensures all { IfOk result (λ all. members_of (listed all) ≡ members self.entry) }
+        ensures ordered { IfOk result (λ all. AreInOrder (listed all)) }
     {
         match self {
-            ObjectRef::Owned(map) => all_of(alloc, map),
-            ObjectRef::Borrowed(list) => in_order(alloc, list),
+            ObjectRef::Owned(map) => Ok(MembersInOrder::Owned(all_of(alloc, map)?)),
+            ObjectRef::Borrowed(list) => Ok(MembersInOrder::Borrowed(in_order(alloc, list)?)),
         }
     }
 }
@@ -47,11 +67,11 @@ fn all_of<'v, 'a>(
 fn in_order<'v, 'a>(
     alloc: Global,
     list: &'v Members<'a>,
-) -> Result<Vec<MemberRef<'v, 'a>>, AllocError>
+) -> Result<Vec<MemberRef<'v, 'a>, &'a Bump>, AllocError>
     ensures all { IfOk result (λ all. members_of all.items ≡ members_data (members_view list.now.items) no_members) }
     ensures ordered { IfOk result (λ all. AreInOrder all.items) }
 {
-    let mut all = Vec::with_capacity(alloc, list.len())?;
+    let mut all = Vec::with_capacity(*list.allocator(), list.len())?;
     for member in list {
         if !let_in(&mut all, member.0, JsonRef::Borrowed(&member.1))? {
             return by_map(alloc, list);
@@ -62,7 +82,7 @@ fn in_order<'v, 'a>(
 
 // Puts a member at its place, or says that its place is too far from the end.
 fn let_in<'v, 'a>(
-    all: &mut Vec<MemberRef<'v, 'a>>,
+    all: &mut Vec<MemberRef<'v, 'a>, &'a Bump>,
     key: &'v str,
     value: JsonRef<'v, 'a>,
 ) -> Result<bool, AllocError>
@@ -94,7 +114,7 @@ fn let_in<'v, 'a>(
 fn by_map<'v, 'a>(
     alloc: Global,
     list: &'v Members<'a>,
-) -> Result<Vec<MemberRef<'v, 'a>>, AllocError>
+) -> Result<Vec<MemberRef<'v, 'a>, &'a Bump>, AllocError>
     ensures all { IfOk result (λ all. members_of all.items ≡ members_data (members_view list.now.items) no_members) }
     ensures ordered { IfOk result (λ all. AreInOrder all.items) }
 {
@@ -102,7 +122,7 @@ fn by_map<'v, 'a>(
     for member in list {
         map.insert(member.0, JsonRef::Borrowed(&member.1))?;
     }
-    let mut all = Vec::with_capacity(alloc, map.len())?;
+    let mut all = Vec::with_capacity(*list.allocator(), map.len())?;
     for (key, value) in map.iter() {
         all.push((*key, *value))?;
     }

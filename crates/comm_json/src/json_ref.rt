@@ -6,24 +6,28 @@ ghost use Rattle.serde_json.specs.Read.{of_json};
 ghost use Rattle.comm_json.specs.Seen.{seen, data_of, members_data, items, members, shown, count};
 
 use crate::json_number::number_in;
+use bumpalo::Bump;
 use serde_json::{Map, Number, Value};
+
+/// The JSON value of a line: its texts stand in the line, its lists in the room that it was read with.
+pub type LineValue<'a> = json::Value<'a, &'a Bump>;
 
 /// A JSON value behind a reference: `serde_json`'s, or one whose texts stand in the line that it was read from.
 #[derive(Clone, Copy)]
 pub enum JsonRef<'v, 'a> {
     Owned(&'v Value),
-    Borrowed(&'v json::Value<'a>),
+    Borrowed(&'v LineValue<'a>),
 }
 
 /// The items of a JSON list behind a reference.
 #[derive(Clone, Copy)]
 pub enum ItemsRef<'v, 'a> {
     Owned(&'v Vec<Value>),
-    Borrowed(&'v Vec<json::Value<'a>>),
+    Borrowed(&'v Vec<LineValue<'a>, &'a Bump>),
 }
 
 /// The members of an object as they stand in a line; of two with one key the last stands.
-pub type Members<'a> = Vec<(&'a str, json::Value<'a>)>;
+pub type Members<'a> = Vec<(&'a str, LineValue<'a>), &'a Bump>;
 
 /// A JSON object behind a reference.
 #[derive(Clone, Copy)]
@@ -68,7 +72,7 @@ fn shape_of_owned<'v, 'a>(value: &'v Value) -> Shape<'v, 'a>
     }
 }
 
-fn shape_of_borrowed<'v, 'a>(value: &'v json::Value<'a>) -> Shape<'v, 'a>
+fn shape_of_borrowed<'v, 'a>(value: &'v LineValue<'a>) -> Shape<'v, 'a>
     ensures { shown result ≡ seen (JsonRef.Borrowed value.entry) }
 {
     match value {
@@ -134,7 +138,7 @@ impl<'v, 'a> ObjectRef<'v, 'a> {
 }
 
 // The value of the last member with this key.
-fn last_of<'v, 'a>(list: &'v Members<'a>, key: &str) -> Option<&'v json::Value<'a>>
+fn last_of<'v, 'a>(list: &'v Members<'a>, key: &str) -> Option<&'v LineValue<'a>>
     ensures { option_map (λ v. data_of (value_view v.now)) result ≡ get_member key.now (members_data (members_view list.now.items) no_members) }
 {
     let mut left = list.len();

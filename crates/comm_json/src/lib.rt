@@ -11,7 +11,7 @@ mod json_ref;
 mod ranges;
 mod reading;
 
-pub use in_order::MemberRef;
-pub use json_ref::{ItemsRef, JsonRef, Members, ObjectRef, Shape};
+pub use in_order::{MemberRef, MembersInOrder};
+pub use json_ref::{ItemsRef, JsonRef, LineValue, Members, ObjectRef, Shape};
 pub use ranges::numbers_are_in_range;
-pub use reading::{LineFault, read_line};
+pub use reading::{LineFault, LineRoom, read_line};

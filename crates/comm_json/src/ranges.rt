@@ -5,11 +5,13 @@ ghost use Rattle.serde_json.specs.Read.{of_json, of_items, of_members};
 ghost use Rattle.comm_json.specs.Seen.{data_of, items_data, members_data};
 
 use crate::json_number::number_in;
+use crate::json_ref::{LineValue, Members};
+use bumpalo::Bump;
 use json::Value;
 
 /// Whether `serde_json` takes each number of the value, so that it reads the value at all.
 #[cycle(in_range)]
-pub fn numbers_are_in_range(value: &Value<'_>) -> bool
+pub fn numbers_are_in_range(value: &LineValue<'_>) -> bool
     ensures { MatchBool result (of_json (value_view value.now) ≡ Some (data_of (value_view value.now))) (of_json (value_view value.now) ≡ None) }
 {
     match value {
@@ -21,7 +23,7 @@ pub fn numbers_are_in_range(value: &Value<'_>) -> bool
 }
 
 #[cycle(in_range)]
-fn items_are_in_range(items: &Vec<Value<'_>>) -> bool
+fn items_are_in_range(items: &Vec<LineValue<'_>, &Bump>) -> bool
     ensures { MatchBool result (of_items (items_view items.now.items) ≡ Some (items_data (items_view items.now.items))) (of_items (items_view items.now.items) ≡ None) }
 {
     for item in items {
@@ -33,7 +35,7 @@ fn items_are_in_range(items: &Vec<Value<'_>>) -> bool
 }
 
 #[cycle(in_range)]
-fn members_are_in_range(members: &Vec<(&str, Value<'_>)>) -> bool
+fn members_are_in_range(members: &Members<'_>) -> bool
     ensures { MatchBool result (of_members (members_view members.now.items) no_members ≡ Some (members_data (members_view members.now.items) no_members)) (of_members (members_view members.now.items) no_members ≡ None) }
 {
     for member in members {

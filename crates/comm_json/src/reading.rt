@@ -4,9 +4,29 @@ ghost use Rattle.serde_json.specs.Read.{read};
 ghost use Rattle.comm_json.specs.declared.reading.LineFault.TheVariants.{NotJson};
 ghost use Rattle.comm_json.specs.Seen.{data_of, line_value};
 
+use crate::json_ref::LineValue;
 use crate::ranges::numbers_are_in_range;
+use bumpalo::Bump;
 use json::{Error, Reader, Scratch, Value};
 use std::alloc::Global;
+
+/// The memory that the reading of lines needs: keep one from line to line. It has room for the longest line, and for the lists of the
+/// largest tree, that were read.
+#[derive(Drop)]
+pub struct LineRoom {
+    texts: Scratch,
+    lists: Bump,
+}
+
+impl LineRoom {
+    /// A room that takes no memory yet.
+    pub fn new(alloc: Global) -> LineRoom {
+        LineRoom {
+            texts: Scratch::new(alloc),
+            lists: Bump::new(alloc),
+        }
+    }
+}
 
 /// Why a line has no JSON value.
 #[derive(Clone, Copy, Debug, PartialEq, Eq, Drop)]
@@ -20,33 +40,28 @@ pub enum LineFault {
 /// How many levels deep `serde_json` reads.
 const DEPTH: usize = 127;
 
-/// The JSON value that a line is. Its texts stand in the line, or in the scratch, which can be kept from line to line.
-pub fn read_line<'a>(
-    alloc: Global,
-    line: &'a [u8],
-    scratch: &'a mut Scratch,
-) -> Result<Value<'a>, LineFault>
+/// The JSON value that a line is. Its texts stand in the line or in the room, its lists in the room.
+pub fn read_line<'a>(line: &'a [u8], room: &'a mut LineRoom) -> Result<LineValue<'a>, LineFault>
     ensures value { IfOk result (λ v. line_value line.now ≡ Some (data_of (value_view v))) }
     ensures fault { IfErr result (λ e. e ≡ NotJson → line_value line.now ≡ None) }
 {
     match simdutf8::compat::from_utf8(line) {
-        Ok(text) => read_text(alloc, text, scratch),
+        Ok(text) => read_text(text, room),
         Err(_) => Err(LineFault::NotJson),
     }
 }
 
-fn read_text<'a>(
-    alloc: Global,
-    text: &'a str,
-    scratch: &'a mut Scratch,
-) -> Result<Value<'a>, LineFault>
+fn read_text<'a>(text: &'a str, room: &'a mut LineRoom) -> Result<LineValue<'a>, LineFault>
     ensures value { IfOk result (λ v. read text.now ≡ Some (data_of (value_view v))) }
     ensures fault { IfErr result (λ e. e ≡ NotJson → read text.now ≡ None) }
 {
-    let Ok(mut reader) = Reader::new(text, scratch) else {
+    let LineRoom { texts, lists } = room;
+    // The lists of the last line are gone. Were one left, the room would grow, and serve all the same.
+    let _ = lists.reset();
+    let Ok(mut reader) = Reader::new(text, texts) else {
         return Err(LineFault::Memory);
     };
-    match Value::read(alloc, &mut reader, DEPTH) {
+    match Value::read(&*lists, &mut reader, DEPTH) {
         Ok(value) => if reader.next().is_none() && numbers_are_in_range(&value) {
             Ok(value)
         } else {

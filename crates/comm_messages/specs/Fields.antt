@@ -1,7 +1,6 @@
 -- The fields of a line's object, and what may stand in them (RFC 8259, sections 2 to 8).
 use Rattle.std.specs.Prelude.{ℕ, List, Option, Some, None, option_map, option_and_then, Ok, Err, nat_lt, if◌then◌else◌}
 use Rattle.std.specs.Borrow.{Bor}
-use Rattle.std.specs.declared.alloc.Global.{Global}
 use Rattle.serde_json.specs.Data.{Data, null, string, object, Members, no_members}
 use Rattle.serde_json.specs.Find.{as_number, as_u64}
 use Rattle.json.specs.Value.{members_view}
@@ -23,7 +22,7 @@ fields None = no_members
 fields (Some o) = members o
 
 -- the members of a line's object that was read
-abbrev pub read_fields : List (Bor (List ℕ) × Value Global) → Members
+abbrev pub read_fields : {A : Type 0} → List (Bor (List ℕ) × Value A) → Members
 read_fields ms = members_data (members_view ms) no_members
 
 abbrev pub members_in : Data → Option Members

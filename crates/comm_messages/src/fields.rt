@@ -6,24 +6,20 @@ ghost use Rattle.comm_messages.specs.Fields.{seen, fields, read_fields, object_i
 ghost use Rattle.comm_messages.specs.Message.{whole_dict};
 
 use crate::fault::MessageFault;
-use comm_json::{JsonRef, LineFault, Members, ObjectRef, Shape, read_line};
+use comm_json::{JsonRef, LineFault, LineRoom, Members, ObjectRef, Shape, read_line};
 use comm_value::{Dict, ValueFault};
-use json::{Scratch, Value};
+use json::Value;
 use std::alloc::Global;
 
 /// The members of an object. None stands for an object without members.
 pub type Fields<'v, 'a> = Option<ObjectRef<'v, 'a>>;
 
 /// The members of the JSON object that a line is, read as `serde_json` reads it; else NotJson. Their texts stand in the line, or in the
-/// scratch, which can be kept from line to line.
-pub fn object_in<'a>(
-    alloc: Global,
-    line: &'a [u8],
-    scratch: &'a mut Scratch,
-) -> Result<Members<'a>, MessageFault>
+/// room, which can be kept from line to line.
+pub fn object_in<'a>(line: &'a [u8], room: &'a mut LineRoom) -> Result<Members<'a>, MessageFault>
     ensures { Gives (λ ms. read_fields ms.items) result (object_in line.now) }
 {
-    match read_line(alloc, line, scratch) {
+    match read_line(line, room) {
         Ok(Value::Object(members)) => Ok(members),
         Ok(_) => Err(MessageFault::NotJson),
         Err(LineFault::NotJson) => Err(MessageFault::NotJson),

@@ -12,9 +12,8 @@ use crate::fields::{
     whole_dict,
 };
 use crate::incoming::Incoming;
-use comm_json::{JsonRef, ObjectRef, Shape};
+use comm_json::{JsonRef, LineRoom, ObjectRef, Shape};
 use comm_value::{Buffers, Text};
-use json::Scratch;
 use serde_json::Value;
 use std::alloc::{AllocError, Global};
 
@@ -32,8 +31,8 @@ pub fn read_message(alloc: Global, line: &[u8], clients: u8) -> Result<(u8, Inco
     ensures message { Gives (λ r. (r.0, r.1)) result (message clients line.now) }
     ensures below { 0 < clients → IfOk result (λ r. r.0 < clients) }
 {
-    let mut scratch = Scratch::new(alloc);
-    let object = object_in(alloc, line, &mut scratch)?;
+    let mut room = LineRoom::new(alloc);
+    let object = object_in(line, &mut room)?;
     message_in(alloc, fields_of(&object), clients)
 }
 

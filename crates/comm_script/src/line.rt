@@ -6,8 +6,8 @@ ghost use Rattle.comm_script.specs.Command.{asked_by_message, asked_in, asked, H
 use crate::asked::{Asked, LineFault};
 use crate::command::command;
 use comm_core::Call;
+use comm_json::LineRoom;
 use comm_messages::{Fields, Incoming, client_of, fields_of, member, message_in, object_in};
-use json::Scratch;
 use std::alloc::Global;
 
 fn asked_by_message(incoming: Incoming) -> Asked
@@ -51,18 +51,18 @@ fn asked_in(alloc: Global, line: Fields<'_, '_>, clients: u8) -> Result<(u8, Ask
     }
 }
 
-/// The client, and what it asks for by a line. The scratch serves the reading, and can be kept from line to line.
+/// The client, and what it asks for by a line. The room serves the reading, and can be kept from line to line.
 pub fn asked(
     alloc: Global,
     line: &[u8],
     clients: u8,
-    scratch: &mut Scratch,
+    room: &mut LineRoom,
 ) -> Result<(u8, Asked), LineFault>
     requires { 0 < clients }
     ensures asked { Gives (λ r. (r.0, r.1)) result (asked clients line.now) }
     ensures below { IfOk result (λ r. r.0 < clients) }
     ensures handless { IfOk result (λ r. HandsNothing r.1) }
 {
-    let object = object_in(alloc, line, scratch)?;
+    let object = object_in(line, room)?;
     asked_in(alloc, fields_of(&object), clients)
 }

@@ -132,7 +132,7 @@ fn end<T: Target>(session: Session<T>)
         stock: _,
         changes: _,
         made: _,
-        scratch: _,
+        room: _,
     } = session;
     core.stop_all();
 }

@@ -21,10 +21,10 @@ use crate::words::{append_bad, append_out, append_outs, append_reply, append_sta
 use comm_core::{
     Call, Core, Limits, NewFault, Reply, exact_machines_leave_no_choice, steps_keep_machines_exact,
 };
+use comm_json::LineRoom;
 use comm_messages::{MessageFault, Outgoing, Parent};
 use comm_targets::Target;
 use comm_value::{Text, ValueFault};
-use json::Scratch;
 use std::alloc::{AllocError, Global};
 
 /// A manager, the stock of targets, how many changes were made, by each client too, and what the reading of a line needs.
@@ -34,7 +34,7 @@ pub struct Session<T: Target> {
     pub stock: Stock<T>,
     pub changes: u64,
     pub made: [u64; 4],
-    pub scratch: Scratch,
+    pub room: LineRoom,
 }
 
 ghost use Rattle.comm_script.specs.Session.{Stands, IsWithin};
@@ -56,7 +56,7 @@ impl<T: Target> Session<T> {
                 stock: Stock::new(targets),
                 changes: 0,
                 made: [0; 4],
-                scratch: Scratch::new(alloc),
+                room: LineRoom::new(alloc),
             }),
             Err(NewFault::BadLimits) => Err(RunFault::BadLimits),
             Err(NewFault::Memory) => Err(RunFault::Memory),
@@ -241,7 +241,7 @@ impl<T: Target> Session<T> {
         if is_blank(line) {
             return Ok(());
         }
-        match asked(alloc, line, self.limits.clients, &mut self.scratch) {
+        match asked(alloc, line, self.limits.clients, &mut self.room) {
             Ok((client, asked)) => {
                 self.obey(alloc, number, client, asked, text)?;
                 Ok(())

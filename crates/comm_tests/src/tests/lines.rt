@@ -1,5 +1,6 @@
-use comm_json::{ItemsRef, JsonRef, LineFault, ObjectRef, Shape, numbers_are_in_range, read_line};
-use json::Scratch;
+use comm_json::{
+    ItemsRef, JsonRef, LineFault, LineRoom, ObjectRef, Shape, numbers_are_in_range, read_line,
+};
 use serde_json::Value;
 use std::alloc::Global;
 use std::test::Fail;
@@ -7,7 +8,7 @@ use std::test::Fail;
 // The keys of an object with their values' texts, in the order that it tells.
 fn keys_of(alloc: Global, object: ObjectRef<'_, '_>) -> Result<String, Fail> {
     let mut out = String::new(alloc);
-    for member in &object.in_order(alloc)? {
+    for member in object.in_order(alloc)?.as_slice() {
         out.push_str(member.0)?;
         match member.1.shape() {
             Shape::Number(number) => match number.as_u64() {
@@ -21,8 +22,8 @@ fn keys_of(alloc: Global, object: ObjectRef<'_, '_>) -> Result<String, Fail> {
 }
 
 fn keys_in(alloc: Global, line: &[u8]) -> Result<String, Fail> {
-    let mut scratch = Scratch::new(alloc);
-    match read_line(alloc, line, &mut scratch) {
+    let mut room = LineRoom::new(alloc);
+    match read_line(line, &mut room) {
         Ok(value) => match JsonRef::Borrowed(&value).shape() {
             Shape::Object(object) => keys_of(alloc, object),
             _ => Err("no object")?,
@@ -107,8 +108,8 @@ fn refuses_what_is_no_json(rt: HostRuntime) -> Result<(), Fail> {
 #[test]
 fn looks_into_a_line(rt: HostRuntime) -> Result<(), Fail> {
     let alloc = rt.alloc();
-    let mut scratch = Scratch::new(alloc);
-    let Ok(value) = read_line(alloc, br#"{"l":[7,true],"l":[8,false]}"#, &mut scratch) else {
+    let mut room = LineRoom::new(alloc);
+    let Ok(value) = read_line(br#"{"l":[7,true],"l":[8,false]}"#, &mut room) else {
         return Err("not read")?;
     };
     assert!(rt; numbers_are_in_range(&value));

@@ -1,10 +1,9 @@
-use comm_json::JsonRef;
+use comm_json::{JsonRef, LineRoom};
 use comm_messages::{
     Body, Fields, Incoming, MessageFault, buffers_of, client_of, fields_of, member, message_of,
     object_in, object_or_empty, read_message, text, text_or_none, whole_dict,
 };
 use comm_value::{Buffers, Text};
-use json::Scratch;
 use serde_json::Value;
 use std::alloc::Global;
 use std::process::Abort;
@@ -369,8 +368,8 @@ fn read_value(alloc: Global, line: &[u8]) -> Result<String, Fail> {
 #[test]
 fn offers_its_readers(rt: HostRuntime) -> Result<(), Fail> {
     let alloc = rt.alloc();
-    let mut scratch = Scratch::new(alloc);
-    let object = object_in(alloc, COMMAND, &mut scratch)?;
+    let mut room = LineRoom::new(alloc);
+    let object = object_in(COMMAND, &mut room)?;
     let fields = fields_of(&object);
     texts_are_offered(&rt, fields)?;
     clients_are_offered(&rt, fields)?;

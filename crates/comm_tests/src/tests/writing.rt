@@ -2,18 +2,18 @@ ghost use Rattle.std.specs.Prelude.{◌≡◌, true};
 ghost use Rattle.comm_messages.specs.Text.{goes_with};
 
 use crate::tests::messages::read;
+use comm_json::LineRoom;
 use comm_messages::{
     Body, Info, Infos, Outgoing, Parent, fields_of, object_in, whole_dict, write_message,
 };
 use comm_value::{Buffers, Bytes, Dict, Text};
-use json::Scratch;
 use std::alloc::Global;
 use std::process::Abort;
 use std::test::Fail;
 
 fn body(alloc: Global, data: &str, buffers: Buffers) -> Result<Body, Fail> {
-    let mut scratch = Scratch::new(alloc);
-    let object = object_in(alloc, data.as_bytes(), &mut scratch)?;
+    let mut room = LineRoom::new(alloc);
+    let object = object_in(data.as_bytes(), &mut room)?;
     Ok(Body::new(whole_dict(alloc, fields_of(&object))?, buffers))
 }
 

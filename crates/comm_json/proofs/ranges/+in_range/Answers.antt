@@ -1,6 +1,4 @@
-use Rattle.std.proofs.Common.{◌≡◌, ap, ◌∙◌, sym, subst, arith}
-use Rattle.serde_json.specs.Data.{no_members}
-use Rattle.comm_json.proofs.ReadLists.{AreRead, MembersAreRead, items_read, members_read, item_not_read, member_not_read, taken_more, taken_more_member, all_taken, all_members_taken, item_out, member_out}
+use Rattle.comm_json.proofs.ReadLists.{taken_more, taken_more_member, all_taken, all_members_taken, item_out, member_out}
 use Rattle.comm_json.proofs.ranges.+in_range.Goals as goal
 
 pub items_are_in_range-returns-then-not-numbers_are_in_range : goal.items_are_in_range-returns-then-not-numbers_are_in_range
