@@ -16,20 +16,20 @@ use Rattle.comm_json.proofs.MemberOrder.{put_last}
 use Rattle.std.proofs.lemmas.List.{take_more}
 
 -- of a list's first members the last has the key, or hasn't
-pub here : {A : Type 0} → (ms : List (Member A)) (left : ℕ) (m : (Member A)) (name : List ℕ) → left < length ms → m ≡ get_or ms left m → m.0.now ≡ name
+pub here : {A : Type 0} → (ms : List (Member A)) (left : ℕ) (m : Member A) (name : List ℕ) → left < length ms → m ≡ get_or ms left m → m.0.now ≡ name
     → get_member name (members_data (members_view (take (left + 1) ms)) no_members) ≡ Some (data_of (value_view m.1))
 here ms left m name within is same =
     ap (λ l. get_member name (members_data (members_view l) no_members)) (take_more ms left m within ∙ ap (λ n. take left ms ++ n ∷ []) (sym is))
     ∙ ap (get_member name) (put_last (take left ms) m no_members) ∙ rw same (get_member-put name (data_of (value_view m.1)) (members_data (members_view (take left ms)) no_members))
 
-pub not_here : {A : Type 0} → (ms : List (Member A)) (left : ℕ) (m : (Member A)) (name : List ℕ) → left < length ms → m ≡ get_or ms left m → (m.0.now ≡ name → ⊥)
+pub not_here : {A : Type 0} → (ms : List (Member A)) (left : ℕ) (m : Member A) (name : List ℕ) → left < length ms → m ≡ get_or ms left m → (m.0.now ≡ name → ⊥)
     → get_member name (members_data (members_view (take (left + 1) ms)) no_members) ≡ get_member name (members_data (members_view (take left ms)) no_members)
 not_here ms left m name within is other =
     ap (λ l. get_member name (members_data (members_view l) no_members)) (take_more ms left m within ∙ ap (λ n. take left ms ++ n ∷ []) (sym is))
     ∙ ap (get_member name) (put_last (take left ms) m no_members)
     ∙ get_member-put_other name m.0.now (data_of (value_view m.1)) (members_data (members_view (take left ms)) no_members) (λ same. other (sym same))
 
-pub item_at : {A : Type 0} → (vs : List (Value A)) (i : ℕ) (d : (Value A)) → i < length vs → Some (data_of (value_view (get_or vs i d))) ≡ get_item i (items_data (items_view vs))
+pub item_at : {A : Type 0} → (vs : List (Value A)) (i : ℕ) (d : Value A) → i < length vs → Some (data_of (value_view (get_or vs i d))) ≡ get_item i (items_data (items_view vs))
 item_at [] i d h = absurd (omega arith)
 item_at (v ∷ vs) zero d h = refl
 item_at (v ∷ vs) (suc i) d h = item_at vs i d (omega arith)

@@ -32,7 +32,7 @@ members_of-insert_entry [] k v = refl
 members_of-insert_entry (e ∷ es) k v = members_of-match_ordering (text_cmp k e.0) _ _ _ ∙ rw (members_of-insert_entry es k v)
 
 -- the last member is put in last
-pub put_last : {A : Type 0} → (ms : List (Member A)) (m : (Member A)) (found : Members) → members_data (members_view (ms ++ m ∷ [])) found ≡ put m.0.now (data_of (value_view m.1)) (members_data (members_view ms) found)
+pub put_last : {A : Type 0} → (ms : List (Member A)) (m : Member A) (found : Members) → members_data (members_view (ms ++ m ∷ [])) found ≡ put m.0.now (data_of (value_view m.1)) (members_data (members_view ms) found)
 put_last [] m found = refl
 put_last (n ∷ ms) m found = put_last ms m (put n.0.now (data_of (value_view n.1)) found)
 
@@ -116,7 +116,7 @@ takes_place (e ∷ es) (suc i) k v d s h is =
     rw more (ap (λ l. e ∷ l) (takes_place es i k v d s.1 (omega arith) is))
 
 -- one more member of a list is put in
-pub put_next : {A : Type 0} → (ms : List (Member A)) (i : ℕ) (m : (Member A)) (es new : List Ref) (k : Key) (v : JsonRef) → i < length ms → m ≡ get_or ms i m → members_of es ≡ members_data (members_view (take i ms)) no_members
+pub put_next : {A : Type 0} → (ms : List (Member A)) (i : ℕ) (m : Member A) (es new : List Ref) (k : Key) (v : JsonRef) → i < length ms → m ≡ get_or ms i m → members_of es ≡ members_data (members_view (take i ms)) no_members
     → new ≡ insert_entry text_cmp es k v → k.now ≡ m.0.now → seen v ≡ data_of (value_view m.1) → members_of new ≡ members_data (members_view (take (i + 1) ms)) no_members
 put_next ms i m es new k v within is h inserted key value =
     ap members_of inserted ∙ members_of-insert_entry es k v ∙ rw (key, value, h) (sym (put_last (take i ms) m no_members))

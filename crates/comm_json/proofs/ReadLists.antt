@@ -12,7 +12,7 @@ abbrev pub Member : Type 0 → Type 0
 Member A = Bor (List ℕ) × Value A
 
 -- it is read
-abbrev pub IsRead : {A : Type 0} → (Value A) → Type 0
+abbrev pub IsRead : {A : Type 0} → Value A → Type 0
 IsRead v = of_json (value_view v) ≡ Some (data_of (value_view v))
 
 abbrev pub AreRead : {A : Type 0} → List (Value A) → Type 0
@@ -23,11 +23,11 @@ abbrev pub MembersAreRead : {A : Type 0} → List (Member A) → Type 0
 MembersAreRead [] = Unit {0}
 MembersAreRead (m ∷ ms) = IsRead m.1 × MembersAreRead ms
 
-pub one_more : {A : Type 0} → (vs : List (Value A)) (v : (Value A)) → AreRead vs → IsRead v → AreRead (vs ++ v ∷ [])
+pub one_more : {A : Type 0} → (vs : List (Value A)) (v : Value A) → AreRead vs → IsRead v → AreRead (vs ++ v ∷ [])
 one_more [] v h is = (is, tt)
 one_more (w ∷ vs) v h is = (h.0, one_more vs v h.1 is)
 
-pub one_more_member : {A : Type 0} → (ms : List (Member A)) (m : (Member A)) → MembersAreRead ms → IsRead m.1 → MembersAreRead (ms ++ m ∷ [])
+pub one_more_member : {A : Type 0} → (ms : List (Member A)) (m : Member A) → MembersAreRead ms → IsRead m.1 → MembersAreRead (ms ++ m ∷ [])
 one_more_member [] m h is = (is, tt)
 one_more_member (n ∷ ms) m h is = (h.0, one_more_member ms m h.1 is)
 
@@ -43,12 +43,12 @@ none_at_last : {A B : Type 0} (x : Option A) (f : A → Option B) → ((a : A) �
 none_at_last None f h = refl
 none_at_last (Some a) f h = h a
 
-pub item_not_read : {A : Type 0} → (vs : List (Value A)) (i : ℕ) (d : (Value A)) → i < length vs → of_json (value_view (get_or vs i d)) ≡ None → of_items (items_view vs) ≡ None
+pub item_not_read : {A : Type 0} → (vs : List (Value A)) (i : ℕ) (d : Value A) → i < length vs → of_json (value_view (get_or vs i d)) ≡ None → of_items (items_view vs) ≡ None
 item_not_read [] i d h e = absurd (omega arith)
 item_not_read (v ∷ vs) zero d h e = rw e refl
 item_not_read (v ∷ vs) (suc i) d h e = none_at_last (of_json (value_view v)) _ (λ t. rw (item_not_read vs i d (omega arith) e) refl)
 
-pub member_not_read : {A : Type 0} → (ms : List (Member A)) (found : Members) (i : ℕ) (d : (Member A)) → i < length ms → of_json (value_view (get_or ms i d).1) ≡ None → of_members (members_view ms) found ≡ None
+pub member_not_read : {A : Type 0} → (ms : List (Member A)) (found : Members) (i : ℕ) (d : Member A) → i < length ms → of_json (value_view (get_or ms i d).1) ≡ None → of_members (members_view ms) found ≡ None
 member_not_read [] found i d h e = absurd (omega arith)
 member_not_read (m ∷ ms) found zero d h e = rw e refl
 member_not_read (m ∷ ms) found (suc i) d h e =
@@ -56,18 +56,18 @@ member_not_read (m ∷ ms) found (suc i) d h e =
 
 -- ---- at the loops
 
-pub taken_more : {A : Type 0} → (vs : List (Value A)) (i : ℕ) (v : (Value A)) → i < length vs → v ≡ get_or vs i v → AreRead (take i vs) → IsRead v → AreRead (take (i + 1) vs)
+pub taken_more : {A : Type 0} → (vs : List (Value A)) (i : ℕ) (v : Value A) → i < length vs → v ≡ get_or vs i v → AreRead (take i vs) → IsRead v → AreRead (take (i + 1) vs)
 taken_more vs i v below is h read =
     subst AreRead (sym (take_more vs i v below ∙ ap (λ w. take i vs ++ w ∷ []) (sym is))) (one_more (take i vs) v h read)
 
-pub taken_more_member : {A : Type 0} → (ms : List (Member A)) (i : ℕ) (m : (Member A)) → i < length ms → m ≡ get_or ms i m → MembersAreRead (take i ms) → IsRead m.1 → MembersAreRead (take (i + 1) ms)
+pub taken_more_member : {A : Type 0} → (ms : List (Member A)) (i : ℕ) (m : Member A) → i < length ms → m ≡ get_or ms i m → MembersAreRead (take i ms) → IsRead m.1 → MembersAreRead (take (i + 1) ms)
 taken_more_member ms i m below is h read =
     subst MembersAreRead (sym (take_more ms i m below ∙ ap (λ n. take i ms ++ n ∷ []) (sym is))) (one_more_member (take i ms) m h read)
 
-pub item_out : {A : Type 0} → (xs ys : List (Value A)) (i : ℕ) (v : (Value A)) → ys ≡ xs → i < length ys → v ≡ get_or ys i v → of_json (value_view v) ≡ None → of_items (items_view xs) ≡ None
+pub item_out : {A : Type 0} → (xs ys : List (Value A)) (i : ℕ) (v : Value A) → ys ≡ xs → i < length ys → v ≡ get_or ys i v → of_json (value_view v) ≡ None → of_items (items_view xs) ≡ None
 item_out xs ys i v same below is none = rw (← same) (item_not_read ys i v below (ap (λ y. of_json (value_view y)) (sym is) ∙ none))
 
-pub member_out : {A : Type 0} → (xs ys : List (Member A)) (i : ℕ) (m : (Member A)) → ys ≡ xs → i < length ys → m ≡ get_or ys i m → of_json (value_view m.1) ≡ None → of_members (members_view xs) no_members ≡ None
+pub member_out : {A : Type 0} → (xs ys : List (Member A)) (i : ℕ) (m : Member A) → ys ≡ xs → i < length ys → m ≡ get_or ys i m → of_json (value_view m.1) ≡ None → of_members (members_view xs) no_members ≡ None
 member_out xs ys i m same below is none = rw (← same) (member_not_read ys no_members i m below (ap (λ (n : Member _). of_json (value_view n.1)) (sym is) ∙ none))
 
 pub all_taken : {A : Type 0} → (xs ys : List (Value A)) (n : ℕ) → ys ≡ xs → length ys ≤ n → AreRead (take n ys) → of_items (items_view xs) ≡ Some (items_data (items_view xs))
