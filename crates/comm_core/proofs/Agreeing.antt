@@ -3,10 +3,9 @@ use Rattle.std.proofs.Common.{◌≡◌, ℕ, true, false, cond, List, [], ◌�
 use Rattle.std.specs.Str.{bytes_eq}
 use Rattle.comm_value.specs.Tree.{Members}
 use Rattle.comm_targets.specs.Meaning.{Meaning, without as without_id}
-use Rattle.comm_core.specs.Machine.{at, with_at, without, ids_of, others}
+use Rattle.comm_core.specs.Machine.{at, with_at, without, ids_of, others, AreDistinct}
 use Rattle.comm_core.specs.Step.{stated}
-use Rattle.comm_core.specs.Tables.{Targets, Opens}
-use Rattle.comm_core.specs.Ready.{AreDistinct, Agrees}
+use Rattle.comm_core.specs.Tables.{Targets, Opens, Agrees}
 use Rattle.comm_core.specs.declared.comm.Comm.{Comm}
 use Rattle.comm_core.proofs.Closing.{ids_of-more}
 use Rattle.comm_core.proofs.Keys.{same_text, text_itself, at-with_at, at-with_at-other}

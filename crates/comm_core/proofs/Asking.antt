@@ -1,13 +1,15 @@
 -- What may be asked of a target, and what comes of it.
 use Rattle.std.proofs.Common.{◌≡◌, ℕ, true, false, cond, List, [], ◌∷◌, Option, None, Some, is_some, Result, Ok, Err, option_map, filter, refl, ap, sym, ◌∙◌, subst, true≢false, IfOk}
 use Rattle.std.specs.declared.alloc.AllocError.{AllocError}
+use Rattle.std.specs.Prelude.{unwrap_or}
 use Rattle.std.specs.Str.{bytes_eq}
 use Rattle.std.specs.Map.{keys_of}
-use Rattle.comm_value.specs.Tree.{Members}
+use Rattle.comm_value.specs.Tree.{Members, no_members}
 use Rattle.comm_messages.specs.Content.{Content}
 use Rattle.comm_messages.specs.declared.outgoing.Outgoing.{Outgoing}
-use Rattle.comm_targets.specs.Meaning.{Meaning, IsAskable, has_id, abandons, stages}
+use Rattle.comm_targets.specs.Meaning.{Meaning, IsAskable, has_id, is_widget, after_abandon, after_prepare}
 use Rattle.comm_targets.specs.Answers.{Answers, Refuses}
+use Rattle.comm_targets.specs.Widget as widget
 use Rattle.comm_targets.specs.declared.kind.Kind.{Kind}
 use Rattle.comm_targets.specs.declared.kind.Kind.TheVariants.{Echo, Counter, Widget, Free}
 use Rattle.comm_targets.specs.declared.event.Event.{Event}
@@ -15,9 +17,9 @@ use Rattle.comm_targets.specs.declared.event.Event.TheVariants as event
 use Rattle.comm_targets.specs.declared.answer.Answer.{Answer}
 use Rattle.comm_targets.specs.declared.fault.TargetFault.{TargetFault}
 use Rattle.comm_core.specs.Machine.{Name, Machine, at, has, with_at, ids_of}
-use Rattle.comm_core.specs.Step.{Outcome, Done, Asked, judged, stepped, answered, refused, holds_widget, is_widget, question_of, Gives, Allowed}
-use Rattle.comm_core.specs.Tables.{Targets, Opens, emptied, registered_of, targets_of, machine_of}
-use Rattle.comm_core.specs.Ready.{Agrees, HaveStaged, SuitsComms, SuitsKind, CanAsk, HasAnswered, HasCome, Suits, bare, planned, staged_by, ended_by, ended_of, verdict_of, Stands}
+use Rattle.comm_core.specs.Step.{Outcome, Done, Asked, judged, stepped, answered, refused, holds_widget, question_of, Gives, Allowed}
+use Rattle.comm_core.specs.Tables.{Targets, Opens, emptied, registered_of, targets_of, machine_of, Agrees, AnswerIsStaged, HaveStaged, unstaged, ended_of}
+use Rattle.comm_core.specs.Plans.{SuitsComms, SuitsKind, CanAsk, CanRefuse, HasAnswered, HasCome, Suits, planned, staged_by, ended_by, verdict_of, IsFeasible}
 use Rattle.comm_core.specs.declared.comm.Comm.{Comm}
 use Rattle.comm_core.specs.declared.call.Call.{Call}
 use Rattle.comm_core.specs.declared.question.Question.{Question}
@@ -27,7 +29,7 @@ use Rattle.comm_core.specs.declared.plan.Plan.{Plan}
 use Rattle.comm_core.specs.declared.plan.Plan.TheVariants.{Nothing, Register, Unregister, Close, Commit}
 use Rattle.comm_core.proofs.Keys.{text_itself}
 use Rattle.comm_core.proofs.Names.{target_at, has_target}
-use Rattle.comm_core.proofs.Staging.{none_of, bare-at, bare-there, bare-staged, one-staged}
+use Rattle.comm_core.proofs.Staging.{none_of, unstaged-at, unstaged-there, unstaged-staged, one-staged}
 
 -- an id that isn't open is an id of no target
 no_id : (name id : Name) (comms : Opens) → at comms id ≡ None → has_id (ids_of name comms) id ≡ false
@@ -57,17 +59,17 @@ open_id id (e ∷ es) o h =
           ]
     ]) refl h
 
-module _ (boxes : Targets) (comms : Opens) (agrees : Agrees (bare boxes) comms) where
+module _ (boxes : Targets) (comms : Opens) (agrees : Agrees (unstaged boxes) comms) where
   new_id : (t id : Name) (m : Meaning) → at boxes t ≡ Some m → at comms id ≡ None → has_id m.ids id ≡ false
-  new_id t id m is none = ap (λ l. has_id l id) (agrees.ids t (abandons m) (bare-at boxes t m is)) ∙ no_id t id comms none
+  new_id t id m is none = ap (λ l. has_id l id) (agrees.ids t (after_abandon m) (unstaged-at boxes t m is)) ∙ no_id t id comms none
 
   -- a comm's target is there
   pub comm_there : (id : Name) (o : Comm) → at comms id ≡ Some o → is_some (at boxes o.target) ≡ true
-  comm_there id o is = sym (bare-there boxes o.target) ∙ agrees.named id o is
+  comm_there id o is = sym (unstaged-there boxes o.target) ∙ agrees.named id o is
 
   -- and has the comm's id
   pub comm_open : (id : Name) (o : Comm) (m : Meaning) → at comms id ≡ Some o → at boxes o.target ≡ Some m → has_id m.ids id ≡ true
-  comm_open id o m is there = ap (λ l. has_id l id) (agrees.ids o.target (abandons m) (bare-at boxes o.target m there)) ∙ open_id id comms o is
+  comm_open id o m is there = ap (λ l. has_id l id) (agrees.ids o.target (after_abandon m) (unstaged-at boxes o.target m there)) ∙ open_id id comms o is
 
   widget_kind : (k : Kind) → is_widget k ≡ true → k ≡ Widget
   widget_kind Widget h = refl
@@ -75,8 +77,8 @@ module _ (boxes : Targets) (comms : Opens) (agrees : Agrees (bare boxes) comms) 
   widget_kind Counter h = absurd (true≢false (sym h))
   widget_kind Free h = absurd (true≢false (sym h))
 
-  widget_there : (t : Name) (m : Meaning) → at boxes t ≡ Some m → holds_widget (at (targets_of boxes) t) ≡ true → m.kind ≡ Widget
-  widget_there t m is w = widget_kind m.kind (sym (ap holds_widget (target_at boxes t ∙ ap (option_map registered_of) is)) ∙ w)
+  widget_there : (t : Name) (m : Meaning) → at boxes t ≡ Some m → holds_widget (at (targets_of boxes) t) ≡ true → is_widget m.kind ≡ true
+  widget_there t m is w = sym (ap holds_widget (target_at boxes t ∙ ap (option_map registered_of) is)) ∙ w
 
   pub askable : (t : Name) (e : Event) → SuitsComms comms t e → SuitsKind boxes t e → (m : Meaning) → at boxes t ≡ Some m → IsAskable m e
   askable t (event.Open id version body) s k m is = new_id t id m is s
@@ -84,23 +86,34 @@ module _ (boxes : Targets) (comms : Opens) (agrees : Agrees (bare boxes) comms) 
   askable t (event.Launch id state) s k m is = (new_id t id m is s, widget_there t m is k)
   askable t (event.Push id state) s k m is = (comm_open id s.0 m s.1 (ap (at boxes) s.2 ∙ is), widget_there t m is k)
 
+  never_refused : {P : Type 0} (k : Kind) (n : ℕ) (now : Option Members) (e : Event) (f : TargetFault) → k ≡ Widget → (a : Answer) → widget.answer_of (unwrap_or now no_members) e ≡ Ok a
+      → Refuses k n now e f → P
+  never_refused k n now e f is a ok refuses = let r : Refuses Widget n now e f = subst (λ x. Refuses x n now e f) is refuses in let q : Ok a ≡ Err f = sym ok ∙ r in cc
+
+  pub can_refuse : (t : Name) (e : Event) → SuitsKind boxes t e → (m : Meaning) → at boxes t ≡ Some m → (now : Option Members) (f : TargetFault) → Refuses m.kind m.notes now e f → CanRefuse e
+  can_refuse t (event.Open id version body) k m is now f r = tt
+  can_refuse t (event.Msg id body) k m is now f r = tt
+  can_refuse t (event.Launch id state) k m is now f r = never_refused m.kind m.notes now (event.Launch id state) f (widget_kind m.kind (widget_there t m is k)) _ refl r
+  can_refuse t (event.Push id state) k m is now f r = never_refused m.kind m.notes now (event.Push id state) f (widget_kind m.kind (widget_there t m is k)) _ refl r
+
 -- ---- what comes of a question
 
 module _ (b : Targets) (c : Opens) (q : Question) (can : CanAsk b c q) (none : HaveStaged b (λ _. None)) (m : Meaning) (is : at b q.name ≡ Some m) where
   known : at (targets_of b) q.name ≡ Some (registered_of m)
   known = target_at b q.name ∙ ap (option_map registered_of) is
 
-  pub answered_well : (a : Answer) (after : Targets) (r : Reply) (out : List Outgoing) → Answers m.kind m.notes q.state q.event a → after ≡ with_at b q.name (stages m q.event a)
+  pub answered_well : (a : Answer) (after : Targets) (r : Reply) (out : List Outgoing) → Answers m.kind m.notes q.state q.event a → after ≡ with_at b q.name (after_prepare m q.event a)
       → ((M : Machine) → answered M q.name q.event a ≡ record { reply = r; outgoing = out; next = (answered M q.name q.event a).next })
       → HasAnswered b c q (Some (Ok a)) r out (Commit q) after
   answered_well a after r out answers is_after replied =
-      let bare_is : bare after ≡ bare b = ap bare is_after ∙ bare-staged b q.name m q.event a is in
+      let unstaged_is : unstaged after ≡ unstaged b = ap unstaged is_after ∙ unstaged-staged b q.name m q.event a is in
       record {
         step_is = ap Some (replied (machine_of b c));
         allowed = subst (λ k. Gives k q (Ok a)) (sym known) answers;
         staged = rw is_after (one-staged b q.name m q.event a is none);
-        bare_is = bare_is;
-        suits = (ap (λ l. is_some (at l q.name)) bare_is ∙ bare-there b q.name ∙ ap is_some is, can.comms_suit);
+        stages = rw is_after (one-staged b q.name m q.event a is none);
+        unstaged_is = unstaged_is;
+        suits = (ap (λ l. is_some (at l q.name)) unstaged_is ∙ unstaged-there b q.name ∙ ap is_some is, can.comms_suit);
         ended = refl;
       }
 
@@ -112,7 +125,8 @@ module _ (b : Targets) (c : Opens) (q : Question) (can : CanAsk b c q) (none : H
         step_is = replied (machine_of b c);
         allowed = subst (λ k. Gives k q (Err f)) (sym known) refuses;
         staged = rw is_after none;
-        bare_is = ap bare is_after;
+        stages = rw is_after none;
+        unstaged_is = ap unstaged is_after;
         suits = tt;
         ended = refl;
       }
@@ -128,13 +142,14 @@ nothing_staged (Commit q) name = refl
 
 module _ (l : ℕ) (b : Targets) (c : Opens) (k : Call) where
   pub came_done : (r : Reply) (out : List Outgoing) (plan : Plan) → Done r out (planned (machine_of b c) plan None) ≡ judged l (machine_of b c) k → HaveStaged b (λ _. None)
-      → Suits (bare b) c None plan None → ended_by b plan ≡ ended_of b k → HasCome l b c k None r out plan b
+      → Suits (unstaged b) c None plan None → ended_by b plan ≡ ended_of b k → HasCome l b c k None r out plan b
   came_done r out plan e none suits ended =
       record {
         step_is = ap (λ v. stepped (machine_of b c) v None) (sym e);
         allowed = subst (λ v. Allowed (machine_of b c) (question_of v) None) e tt;
-        staged = λ name m there. none name m there ∙ sym (nothing_staged plan name);
-        bare_is = refl;
+        staged = none;
+        stages = λ name m there. none name m there ∙ sym (nothing_staged plan name);
+        unstaged_is = refl;
         suits = suits;
         ended = ended;
       }
@@ -145,8 +160,9 @@ module _ (l : ℕ) (b : Targets) (c : Opens) (k : Call) where
       record {
         step_is = ap (λ v. stepped (machine_of b c) v o) (sym e) ∙ h.step_is;
         allowed = subst (λ v. Allowed (machine_of b c) (question_of v) o) e h.allowed;
-        staged = h.staged;
-        bare_is = h.bare_is;
+        staged = subst (λ v. AnswerIsStaged after (question_of v) o) e h.staged;
+        stages = h.stages;
+        unstaged_is = h.unstaged_is;
         suits = h.suits;
         ended = h.ended ∙ sym (nobody after);
       }
@@ -156,7 +172,7 @@ module _ (l : ℕ) (b : Targets) (c : Opens) (k : Call) where
 pub nobody_ends : (b : Targets) (name : Name) → has (targets_of b) name ≡ false → option_map emptied (at b name) ≡ None
 nobody_ends b name h = ap (option_map emptied) (none_of (at b name) (sym (has_target b name) ∙ h))
 
-pub msg_asked : (b : Targets) (c : Opens) → Agrees (bare b) c → (id copy : Name) (x : Comm) (name : Name) (now : Option Members) (body : Content) → at c id ≡ Some x → name ≡ x.target → copy ≡ id
+pub msg_asked : (b : Targets) (c : Opens) → Agrees (unstaged b) c → (id copy : Name) (x : Comm) (name : Name) (now : Option Members) (body : Content) → at c id ≡ Some x → name ≡ x.target → copy ≡ id
     → CanAsk b c (record { name = name; state = now; event = event.Msg copy body })
 msg_asked b c h id copy x name now body is same copied =
     record {
@@ -168,5 +184,5 @@ msg_asked b c h id copy x name now body is same copied =
 pub verdict_at : (r : Result Judged AllocError) (l : ℕ) (m : Machine) (k k' : Call) → k ≡ k' → IfOk r (λ j. verdict_of m j ≡ judged l m k') → IfOk r (λ j. verdict_of m j ≡ judged l m k)
 verdict_at r l m k k' e h = subst (λ x. IfOk r (λ j. verdict_of m j ≡ judged l m x)) (sym e) h
 
-pub stands_at : (r : Result Judged AllocError) (b : Targets) (c : Opens) (k k' : Call) → k ≡ k' → IfOk r (λ j. Stands b c k' j) → IfOk r (λ j. Stands b c k j)
-stands_at r b c k k' e h = subst (λ x. IfOk r (λ j. Stands b c x j)) (sym e) h
+pub feasible_at : (r : Result Judged AllocError) (b : Targets) (c : Opens) (k k' : Call) → k ≡ k' → IfOk r (λ j. IsFeasible b c k' j) → IfOk r (λ j. IsFeasible b c k j)
+feasible_at r b c k k' e h = subst (λ x. IfOk r (λ j. IsFeasible b c x j)) (sym e) h

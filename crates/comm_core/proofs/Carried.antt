@@ -2,25 +2,25 @@
 use Rattle.std.proofs.Common.{◌≡◌, ℕ, true, false, cond, List, [], ◌∷◌, ◌++◌, Option, None, Some, option_map, refl, ap, sym, ◌∙◌, subst}
 use Rattle.std.specs.Str.{bytes_eq}
 use Rattle.comm_value.specs.Tree.{Members}
-use Rattle.comm_targets.specs.Meaning.{Meaning, IsIdle, abandons, commits, closes, ids_after, notes_after}
+use Rattle.comm_targets.specs.Meaning.{Meaning, IsIdle, after_abandon, after_commit, after_close, ids_after, notes_after}
 use Rattle.comm_targets.specs.declared.kind.Kind.{Kind}
 use Rattle.comm_targets.specs.declared.kind.Kind.TheVariants.{Echo, Counter, Widget, Free}
-use Rattle.comm_targets.specs.declared.stage.Stage.{Stage}
+use Rattle.comm_targets.specs.declared.staged_event.StagedEvent.{StagedEvent}
 use Rattle.comm_targets.specs.declared.event.Event.{Event}
 use Rattle.comm_targets.specs.declared.event.Event.TheVariants as event
 use Rattle.comm_targets.specs.declared.answer.Answer.{Answer}
 use Rattle.comm_messages.specs.Content.{Content}
 use Rattle.comm_core.specs.Machine.{Name, Registered, Machine, at, with_at, without, others}
-use Rattle.comm_core.specs.Step.{stated, noted, told, opened, closed, registered, unregistered}
-use Rattle.comm_core.specs.Tables.{Targets, Opens, registered_of, targets_of, machine_of}
-use Rattle.comm_core.specs.Ready.{Agrees, HaveStaged, Carried, bare}
+use Rattle.comm_core.specs.Step.{stated, noted, with_answer, with_comm, without_comm, with_target, without_target}
+use Rattle.comm_core.specs.Tables.{Targets, Opens, registered_of, targets_of, machine_of, Agrees, HaveStaged, unstaged}
+use Rattle.comm_core.specs.Plans.{Carried}
 use Rattle.comm_core.specs.declared.comm.Comm.{Comm}
 use Rattle.comm_core.proofs.Entries.{set-map, remove-map, remove-absent, map-append}
 use Rattle.comm_core.proofs.Keys.{same_text, text_itself, at-with_at, at-with_at-other, with_at-same}
 use Rattle.comm_core.proofs.Names.{target_at}
 use Rattle.comm_core.proofs.Gone.{at-without}
 use Rattle.comm_core.proofs.Agreeing.{at-more, at-newest, agrees-opened, agrees-told, agrees-stated, agrees-closed, agrees-unregistered, agrees-registered}
-use Rattle.comm_core.proofs.Staging.{bare-at, distinct-bare}
+use Rattle.comm_core.proofs.Staging.{unstaged-at, distinct-unstaged}
 
 abbrev whole : List (Name × Registered) → Opens → Machine
 whole n k = record { targets = n; comms = k }
@@ -37,8 +37,8 @@ written-unstaged b t m n is none others name k there =
       | false ↦ λ p. others name k p (sym (at-with_at-other t b n name p) ∙ there)
     ]) refl
 
-bare-written : (b : Targets) (t : Name) (n : Meaning) → bare (with_at b t n) ≡ with_at (bare b) t (abandons n)
-bare-written b t n = sym (set-map (λ k. k) abandons (bytes_eq t) b n)
+unstaged-written : (b : Targets) (t : Name) (n : Meaning) → unstaged (with_at b t n) ≡ with_at (unstaged b) t (after_abandon n)
+unstaged-written b t n = sym (set-map (λ k. k) after_abandon (bytes_eq t) b n)
 
 targets-written : (b : Targets) (t : Name) (n : Meaning) → targets_of (with_at b t n) ≡ with_at (targets_of b) t (registered_of n)
 targets-written b t n = sym (set-map (λ k. k) registered_of (bytes_eq t) b n)
@@ -49,9 +49,9 @@ targets-kept b t m n is kept =
 
 -- ---- a change that a target staged
 
-module _ (b : Targets) (c : Opens) (h : Agrees (bare b) c) (t : Name) (e : Event) (a : Answer)
+module _ (b : Targets) (c : Opens) (h : Agrees (unstaged b) c) (t : Name) (e : Event) (a : Answer)
     (staged : HaveStaged b (λ name. cond (bytes_eq name t) (Some (record { event = e; answer = a })) None)) (m : Meaning) (is : at b t ≡ Some m) where
-  abbrev pub stage : Stage
+  abbrev pub stage : StagedEvent
   stage = record { event = e; answer = a }
 
   pub is_stage : m.staged ≡ Some stage
@@ -60,67 +60,67 @@ module _ (b : Targets) (c : Opens) (h : Agrees (bare b) c) (t : Name) (e : Event
   others_none : (name : Name) (k : Meaning) → bytes_eq name t ≡ false → at b name ≡ Some k → k.staged ≡ None
   others_none name k p at_k = rw p at (staged name k at_k)
 
-  module _ (b2 : Targets) (c2 : Opens) (eb : b2 ≡ with_at b t (commits m stage)) where
-    bare2 : bare b2 ≡ with_at (bare b) t (abandons (commits m stage))
-    bare2 = ap bare eb ∙ bare-written b t (commits m stage)
+  module _ (b2 : Targets) (c2 : Opens) (eb : b2 ≡ with_at b t (after_commit m stage)) where
+    unstaged2 : unstaged b2 ≡ with_at (unstaged b) t (after_abandon (after_commit m stage))
+    unstaged2 = ap unstaged eb ∙ unstaged-written b t (after_commit m stage)
 
     none2 : HaveStaged b2 (λ _. None)
-    none2 = rw eb (written-unstaged b t m (commits m stage) is refl others_none)
+    none2 = rw eb (written-unstaged b t m (after_commit m stage) is refl others_none)
 
     pub opened_carried : (id : Name) → ids_after m.ids e ≡ m.ids ++ id ∷ [] → notes_after m.kind m.notes e ≡ m.notes → at c id ≡ None
-        → c2 ≡ c ++ (id, record { target = t; state = a.state }) ∷ [] → Carried b2 c2 (opened (machine_of b c) id t a.state)
+        → c2 ≡ c ++ (id, record { target = t; state = a.state }) ∷ [] → Carried b2 c2 (with_comm (machine_of b c) id t a.state)
     opened_carried id ids notes fresh ec =
-        let kept : registered_of (commits m stage) ≡ registered_of m = ap (λ (n : ℕ). record { kind = m.kind; notes = n }) notes in
-        let names : targets_of b2 ≡ targets_of b = ap targets_of eb ∙ targets-kept b t m (commits m stage) is kept in (
-          rw (bare2, ec) (agrees-opened (bare b) c t id (abandons m) (abandons (commits m stage)) (record { target = t; state = a.state }) h (bare-at b t m is) fresh ids refl),
+        let kept : registered_of (after_commit m stage) ≡ registered_of m = ap (λ (n : ℕ). record { kind = m.kind; notes = n }) notes in
+        let names : targets_of b2 ≡ targets_of b = ap targets_of eb ∙ targets-kept b t m (after_commit m stage) is kept in (
+          rw (unstaged2, ec) (agrees-opened (unstaged b) c t id (after_abandon m) (after_abandon (after_commit m stage)) (record { target = t; state = a.state }) h (unstaged-at b t m is) fresh ids refl),
           none2,
           ap (λ n. whole n c2) names ∙ ap (whole (targets_of b)) ec,
         )
 
-    pub told_carried : (id : Name) (x : Comm) → ids_after m.ids e ≡ m.ids → at c id ≡ Some x → x.target ≡ t → c2 ≡ stated c id t a.state → Carried b2 c2 (told (machine_of b c) id t e a)
+    pub told_carried : (id : Name) (x : Comm) → ids_after m.ids e ≡ m.ids → at c id ≡ Some x → x.target ≡ t → c2 ≡ stated c id t a.state → Carried b2 c2 (with_answer (machine_of b c) id t e a)
     told_carried id x ids there same ec =
         let names : targets_of b2 ≡ noted (targets_of b) t e (at (targets_of b) t) =
-        ap targets_of eb ∙ targets-written b t (commits m stage) ∙ sym (ap (noted (targets_of b) t e) (target_at b t ∙ ap (option_map registered_of) is)) in
+        ap targets_of eb ∙ targets-written b t (after_commit m stage) ∙ sym (ap (noted (targets_of b) t e) (target_at b t ∙ ap (option_map registered_of) is)) in
         let ec' : c2 ≡ stated c id x.target a.state = ec ∙ ap (λ z. stated c id z a.state) (sym same) in (
-          rw (bare2, ec') (agrees-stated (with_at (bare b) t (abandons (commits m stage))) c id x a.state (agrees-told (bare b) c t (abandons m) (abandons (commits m stage)) h (bare-at b t m is) ids) there),
+          rw (unstaged2, ec') (agrees-stated (with_at (unstaged b) t (after_abandon (after_commit m stage))) c id x a.state (agrees-told (unstaged b) c t (after_abandon m) (after_abandon (after_commit m stage)) h (unstaged-at b t m is) ids) there),
           none2,
           ap (λ n. whole n c2) names ∙ ap (whole (noted (targets_of b) t e (at (targets_of b) t))) ec,
         )
 
 -- ---- changes for which no target is asked
 
-module _ (b : Targets) (c : Opens) (h : Agrees (bare b) c) (none : HaveStaged b (λ _. None)) (b2 : Targets) (c2 : Opens) where
+module _ (b : Targets) (c : Opens) (h : Agrees (unstaged b) c) (none : HaveStaged b (λ _. None)) (b2 : Targets) (c2 : Opens) where
   pub still_carried : b2 ≡ b → c2 ≡ c → Carried b2 c2 (machine_of b c)
   still_carried eb ec = (rw (eb, ec) h, rw eb none, rw (eb, ec))
 
-  pub closed_carried : (id : Name) (x : Comm) (m : Meaning) → at c id ≡ Some x → at b x.target ≡ Some m → b2 ≡ with_at b x.target (closes m id) → c2 ≡ without c id
-      → Carried b2 c2 (closed (machine_of b c) id)
+  pub closed_carried : (id : Name) (x : Comm) (m : Meaning) → at c id ≡ Some x → at b x.target ≡ Some m → b2 ≡ with_at b x.target (after_close m id) → c2 ≡ without c id
+      → Carried b2 c2 (without_comm (machine_of b c) id)
   closed_carried id x m u is eb ec =
       let t = x.target in
-      let bare2 : bare b2 ≡ with_at (bare b) t (abandons (closes m id)) = ap bare eb ∙ bare-written b t (closes m id) in
-      let names : targets_of b2 ≡ targets_of b = ap targets_of eb ∙ targets-kept b t m (closes m id) is refl in (
-        rw (bare2, ec) (agrees-closed (bare b) c id x (abandons m) (abandons (closes m id)) h u (bare-at b t m is) refl),
-        rw eb (written-unstaged b t m (closes m id) is (none t m is) (λ name k p at_k. none name k at_k)),
+      let unstaged2 : unstaged b2 ≡ with_at (unstaged b) t (after_abandon (after_close m id)) = ap unstaged eb ∙ unstaged-written b t (after_close m id) in
+      let names : targets_of b2 ≡ targets_of b = ap targets_of eb ∙ targets-kept b t m (after_close m id) is refl in (
+        rw (unstaged2, ec) (agrees-closed (unstaged b) c id x (after_abandon m) (after_abandon (after_close m id)) h u (unstaged-at b t m is) refl),
+        rw eb (written-unstaged b t m (after_close m id) is (none t m is) (λ name k p at_k. none name k at_k)),
         ap (λ n. whole n c2) names ∙ ap (whole (targets_of b)) ec,
       )
 
-  pub unregistered_carried : (name : Name) → b2 ≡ without b name → c2 ≡ others name c → Carried b2 c2 (unregistered (machine_of b c) name)
+  pub unregistered_carried : (name : Name) → b2 ≡ without b name → c2 ≡ others name c → Carried b2 c2 (without_target (machine_of b c) name)
   unregistered_carried name eb ec =
-      let bare2 : bare b2 ≡ without (bare b) name = ap bare eb ∙ sym (remove-map (λ k. k) abandons (bytes_eq name) b) in
+      let unstaged2 : unstaged b2 ≡ without (unstaged b) name = ap unstaged eb ∙ sym (remove-map (λ k. k) after_abandon (bytes_eq name) b) in
       let names : targets_of b2 ≡ without (targets_of b) name = ap targets_of eb ∙ sym (remove-map (λ k. k) registered_of (bytes_eq name) b) in (
-        rw (bare2, ec) (agrees-unregistered (bare b) c name h),
-        rw eb (λ q k at_k. none q k (at-without b name q k (distinct-bare b h.names) at_k).0),
+        rw (unstaged2, ec) (agrees-unregistered (unstaged b) c name h),
+        rw eb (λ q k at_k. none q k (at-without b name q k (distinct-unstaged b h.names) at_k).0),
         ap (λ n. whole n c2) names ∙ ap (whole (without (targets_of b) name)) ec,
       )
 
-  pub registered_carried : (name : Name) (m : Meaning) (k : Kind) (n : ℕ) → m.kind ≡ k → m.notes ≡ n → IsIdle m → at (bare b) name ≡ None → at b name ≡ None
-      → b2 ≡ b ++ (name, m) ∷ [] → c2 ≡ c → Carried b2 c2 (registered (machine_of b c) name k n)
+  pub registered_carried : (name : Name) (m : Meaning) (k : Kind) (n : ℕ) → m.kind ≡ k → m.notes ≡ n → IsIdle m → at (unstaged b) name ≡ None → at b name ≡ None
+      → b2 ≡ b ++ (name, m) ∷ [] → c2 ≡ c → Carried b2 c2 (with_target (machine_of b c) name k n)
   registered_carried name m k n kind notes idle fresh new eb ec =
-      let bare2 : bare b2 ≡ bare b ++ (name, abandons m) ∷ [] = ap bare eb ∙ map-append (λ e. (e.0, abandons e.1)) b ((name, m) ∷ []) in
+      let unstaged2 : unstaged b2 ≡ unstaged b ++ (name, after_abandon m) ∷ [] = ap unstaged eb ∙ map-append (λ e. (e.0, after_abandon e.1)) b ((name, m) ∷ []) in
       let r : registered_of m ≡ record { kind = k; notes = n } = ap (λ x. record { kind = x; notes = m.notes }) kind ∙ ap (λ x. record { kind = k; notes = x }) notes in
       let names : targets_of b2 ≡ targets_of b ++ (name, record { kind = k; notes = n }) ∷ [] =
       ap targets_of eb ∙ map-append (λ e. (e.0, registered_of e.1)) b ((name, m) ∷ []) ∙ ap (λ x. targets_of b ++ (name, x) ∷ []) r in (
-        rw (bare2, ec) (agrees-registered (bare b) c name (abandons m) h fresh idle.0),
+        rw (unstaged2, ec) (agrees-registered (unstaged b) c name (after_abandon m) h fresh idle.0),
         rw eb (λ q j at_j.
             (elim (bytes_eq q name) as (λ z. bytes_eq q name ≡ z → j.staged ≡ None) [
               | true ↦ λ p.
@@ -145,8 +145,8 @@ launch_notes Counter n id state = refl
 launch_notes Widget n id state = refl
 launch_notes Free n id state = refl
 
-pub gone_carried : (b : Targets) (c : Opens) → Agrees (bare b) c → HaveStaged b (λ _. None) → (b2 : Targets) (c2 : Opens) (id : Name) → at c id ≡ None → b2 ≡ b → c2 ≡ without c id
-    → Carried b2 c2 (closed (machine_of b c) id)
+pub gone_carried : (b : Targets) (c : Opens) → Agrees (unstaged b) c → HaveStaged b (λ _. None) → (b2 : Targets) (c2 : Opens) (id : Name) → at c id ≡ None → b2 ≡ b → c2 ≡ without c id
+    → Carried b2 c2 (without_comm (machine_of b c) id)
 gone_carried b c h none b2 c2 id gone eb ec =
     let same : without c id ≡ c = remove-absent (bytes_eq id) c gone in
     (rw (eb, ec, same) h, rw eb none, ap (λ l. machine_of l c2) eb ∙ ap (whole (targets_of b)) ec)

@@ -3,15 +3,14 @@ use Rattle.std.proofs.Common.{◌≡◌, Bool, true, false, cond, not, [], ◌�
 use mathlib.Core.Logic.{◌⊎◌, inl, inr}
 use Rattle.std.specs.Str.{bytes_eq}
 use Rattle.comm_value.specs.Tree.{Members}
-use Rattle.comm_core.specs.Machine.{Name, at, with_at, others}
-use Rattle.comm_core.specs.Reads.{Pair}
+use Rattle.comm_core.specs.Machine.{Name, at, with_at, others, AreDistinct}
+use Rattle.comm_core.specs.Runs.{Pair}
 use Rattle.comm_core.specs.Tables.{Opens}
-use Rattle.comm_core.specs.Ready.{AreDistinct}
 use Rattle.comm_core.specs.declared.comm.Comm.{Comm}
 use Rattle.comm_core.proofs.Keys.{same_text, text_itself, at-with_at, at-with_at-other}
 use Rattle.comm_core.proofs.Gone.{none≢some, distinct-without, at-without, at-without-other, at-longer, distinct-others, at-others}
 use Rattle.comm_core.proofs.Agreeing.{distinct-with_at, distinct-more, at-more, at-newest}
-use Rattle.comm_core.proofs.Stepping.{Change, stays_so, begins, closes, empties, tells, changed, opening_of, ending_of, given_of, Fits}
+use Rattle.comm_core.proofs.Stepping.{Change, stays_so, begins, after_close, empties, tells, changed, opening_of, ending_of, given_of, Fits}
 
 -- the newer state, where there is one
 abbrev pub newer : Option Members → Option Members → Option Members
@@ -56,7 +55,7 @@ at-others-kept name (e ∷ es) q x h n =
 pub distinct-changed : (k : Change) (c : Opens) → Fits k c → AreDistinct c → AreDistinct (changed k c)
 distinct-changed stays_so c f d = d
 distinct-changed (begins id target state) c f d = distinct-more c id _ f d
-distinct-changed (closes id) c f d = distinct-without c id d
+distinct-changed (after_close id) c f d = distinct-without c id d
 distinct-changed (empties name) c f d = distinct-others name c d
 distinct-changed (tells id target None) c f d = d
 distinct-changed (tells id target (Some s)) c f d = distinct-with_at c id _ d
@@ -82,7 +81,7 @@ kept (begins opened target state) c id x h f e =
       | true ↦ λ p. absurd (none≢some x (sym f ∙ subst (λ z. at c z ≡ Some x) (same_text id opened p) h))
       | false ↦ λ p. at-longer c opened _ id x h
     ]) refl
-kept (closes closed) c id x h f e = at-without-other c closed id e ∙ h
+kept (after_close closed) c id x h f e = at-without-other c closed id e ∙ h
 kept (empties name) c id x h f e = at-others-kept name c id x h e
 kept (tells told target None) c id x h f e =
     elim (bytes_eq id told) as (λ b. at c id ≡ Some (record { target = x.target; state = newer (cond b None None) x.state })) [ true ↦ h | false ↦ h ]
@@ -115,7 +114,7 @@ came (begins opened target state) c id y d f h =
           inl (ap (λ z. some_pair z target) (sym is) ∙ ap (λ z. some_pair id z) t)
       | false ↦ λ p. inr (y, sym (at-more c opened _ id p) ∙ h, refl, refl)
     ]) refl
-came (closes closed) c id y d f h = let was = at-without c closed id y d h in inr (y, was.0, refl, was.1)
+came (after_close closed) c id y d f h = let was = at-without c closed id y d h in inr (y, was.0, refl, was.1)
 came (empties name) c id y d f h = let was = at-others name c id y d h in inr (y, was.0, refl, was.1)
 came (tells told target None) c id y d f h = inr (y, h, refl, refl)
 came (tells told target (Some v)) c id y d f h = let was = told_came c told target v id y f.0 f.1 f.2 h in inr (was.0, was.1, was.2, refl)
@@ -135,6 +134,6 @@ opened (begins i t state) c id target f h =
     subst (λ z. at (changed (begins i t state) c) z ≡ Some (record { target = target; state = given_of (begins i t state) z })) same.0
     (begun c i t state f ∙ ap (λ z. Some (record { target = z; state = cond (bytes_eq i i) state None })) same.1)
 opened stays_so c id target f h = none_opens id target h
-opened (closes closed) c id target f h = none_opens id target h
+opened (after_close closed) c id target f h = none_opens id target h
 opened (empties name) c id target f h = none_opens id target h
 opened (tells told t state) c id target f h = none_opens id target h

@@ -1,14 +1,16 @@
 -- The comms of a target, one after the other, and a state that is written.
-use Rattle.std.proofs.Common.{◌≡◌, true, false, cond, List, [], ◌∷◌, ◌++◌, None, filter, fold, refl, ap, sym, ◌∙◌}
+use Rattle.std.proofs.Common.{◌≡◌, true, false, cond, List, [], ◌∷◌, ◌++◌, filter, fold, refl, ap, sym, ◌∙◌}
 use Rattle.std.specs.Str.{bytes_eq}
 use Rattle.std.specs.Map.{keys_of}
 use Rattle.std.specs.BTreeMap.{insert_entry}
 use Rattle.std.specs.Ordering.{nat_cmp}
 use Rattle.std.specs.Cmp.Lexicographic.{slice_cmp}
 use Rattle.std.proofs.lemmas.Slice.Eq.{bytes_eq-Decides}
-use Rattle.comm_targets.specs.Meaning.{Meaning, has_id, without, closes}
+use Rattle.comm_targets.specs.Meaning.{Meaning, has_id, without, after_close}
 use Rattle.comm_core.specs.Machine.{Name, ids_of}
-use Rattle.comm_core.specs.Reads.{Pair, in_order, pairs_in}
+use Rattle.comm_core.specs.Kept.{pairs_of}
+use Rattle.comm_core.specs.Reads.{in_order}
+use Rattle.comm_core.specs.Runs.{Pair}
 use Rattle.comm_core.specs.Tables.{Opens}
 use Rattle.comm_core.specs.declared.comm.Comm.{Comm}
 
@@ -22,9 +24,9 @@ ids_of-more name (e ∷ es) k o =
       | false ↦ more
     ]
 
-pairs_in-more : (es : Opens) (k : Name) (o : Comm) → pairs_in (es ++ (k, o) ∷ []) None ≡ pairs_in es None ++ (k, o.target) ∷ []
-pairs_in-more [] k o = refl
-pairs_in-more (e ∷ es) k o = ap (λ (l : List Pair). (e.0, e.1.target) ∷ l) (pairs_in-more es k o)
+pairs_of-more : (es : Opens) (k : Name) (o : Comm) → pairs_of (es ++ (k, o) ∷ []) ≡ pairs_of es ++ (k, o.target) ∷ []
+pairs_of-more [] k o = refl
+pairs_of-more (e ∷ es) k o = ap (λ (l : List Pair). (e.0, e.1.target) ∷ l) (pairs_of-more es k o)
 
 append-nil : {X : Type 0} (xs : List X) → xs ++ [] ≡ xs
 append-nil [] = refl
@@ -35,14 +37,14 @@ fold-more [] x so_far = refl
 fold-more (y ∷ ys) x so_far = fold-more ys x (insert_entry (slice_cmp nat_cmp) so_far y.0 y.1)
 
 module _ (name : Name) (e : Name × Comm) (before more : Opens) (step : more ≡ before ++ e ∷ []) where
-  pub listed_one : (k t : Name) (so_far : List Pair) → so_far ≡ in_order (pairs_in before None) → k ≡ e.0 → t ≡ e.1.target
-      → insert_entry (slice_cmp nat_cmp) so_far k t ≡ in_order (pairs_in more None)
+  pub listed_one : (k t : Name) (so_far : List Pair) → so_far ≡ in_order (pairs_of before) → k ≡ e.0 → t ≡ e.1.target
+      → insert_entry (slice_cmp nat_cmp) so_far k t ≡ in_order (pairs_of more)
   listed_one k t so_far is_so ek et =
-      let whole : pairs_in more None ≡ pairs_in before None ++ (e.0, e.1.target) ∷ [] = ap (λ l. pairs_in l None) step ∙ pairs_in-more before e.0 e.1 in
+      let whole : pairs_of more ≡ pairs_of before ++ (e.0, e.1.target) ∷ [] = ap pairs_of step ∙ pairs_of-more before e.0 e.1 in
       ap (λ l. insert_entry (slice_cmp nat_cmp) l k t) is_so
-      ∙ ap (λ k. insert_entry (slice_cmp nat_cmp) (in_order (pairs_in before None)) k t) ek
-      ∙ ap (λ t. insert_entry (slice_cmp nat_cmp) (in_order (pairs_in before None)) e.0 t) et
-      ∙ sym (ap in_order whole ∙ fold-more (pairs_in before None) (e.0, e.1.target) [])
+      ∙ ap (λ k. insert_entry (slice_cmp nat_cmp) (in_order (pairs_of before)) k t) ek
+      ∙ ap (λ t. insert_entry (slice_cmp nat_cmp) (in_order (pairs_of before)) e.0 t) et
+      ∙ sym (ap in_order whole ∙ fold-more (pairs_of before) (e.0, e.1.target) [])
 
   further : ids_of name more ≡ ids_of name before ++ cond (bytes_eq name e.1.target) (e.0 ∷ []) []
   further = ap (ids_of name) step ∙ ids_of-more name before e.0 e.1
@@ -70,10 +72,10 @@ module _ (name : Name) (e : Name × Comm) (rest after : Opens) (step : rest ≡ 
     first_is copy ids is_so same = ap (λ l. has_id l copy) (is_so ∙ ahead-own) ∙ ap (λ k. has_id (e.0 ∷ ids_of name after) k) same ∙ rw ((bytes_eq-Decides e.0 e.0).1 refl)
 
     pub one_less : (copy : Name) (m w : Meaning) → m ≡ record { kind = w.kind; notes = w.notes; ids = ids_of name rest; staged = w.staged } → copy ≡ e.0
-        → closes m copy ≡ record { kind = w.kind; notes = w.notes; ids = ids_of name after; staged = w.staged }
+        → after_close m copy ≡ record { kind = w.kind; notes = w.notes; ids = ids_of name after; staged = w.staged }
     one_less copy m w is_so same =
         let whole : List Name → Meaning = λ l. record { kind = w.kind; notes = w.notes; ids = l; staged = w.staged } in
-        ap (λ k. closes k copy) (is_so ∙ ap whole ahead-own) ∙ ap (λ k. closes (whole (e.0 ∷ ids_of name after)) k) same
+        ap (λ k. after_close k copy) (is_so ∙ ap whole ahead-own) ∙ ap (λ k. after_close (whole (e.0 ∷ ids_of name after)) k) same
         ∙ ap (λ b. whole (cond b (ids_of name after) (e.0 ∷ without e.0 (ids_of name after)))) ((bytes_eq-Decides e.0 e.0).1 refl)
 
   pub none_less : bytes_eq name e.1.target ≡ false → (m w : Meaning) → m ≡ record { kind = w.kind; notes = w.notes; ids = ids_of name rest; staged = w.staged }

@@ -2,35 +2,35 @@
 use Rattle.std.proofs.Common.{◌≡◌, ℕ, [], ◌∷◌, ◌++◌, Option, None, Some, is_some, Ok, Err, ap, sym, ◌∙◌, subst}
 use Rattle.comm_value.specs.Tree.{Members}
 use Rattle.comm_messages.specs.Content.{Content}
-use Rattle.comm_targets.specs.Meaning.{Meaning, IsIdle, commits, ids_after, notes_after}
+use Rattle.comm_targets.specs.Meaning.{Meaning, IsIdle, after_commit, ids_after, notes_after}
 use Rattle.comm_targets.specs.declared.kind.Kind.{Kind}
-use Rattle.comm_targets.specs.declared.stage.Stage.{Stage}
+use Rattle.comm_targets.specs.declared.staged_event.StagedEvent.{StagedEvent}
 use Rattle.comm_targets.specs.declared.event.Event.{Event}
 use Rattle.comm_targets.specs.declared.event.Event.TheVariants as event
 use Rattle.comm_targets.specs.declared.answer.Answer.{Answer}
 use Rattle.comm_core.specs.Machine.{Name, at, with_at}
 use Rattle.comm_targets.specs.declared.fault.TargetFault.{TargetFault}
-use Rattle.comm_core.specs.Step.{Outcome, answered, stated, told}
-use Rattle.comm_core.specs.Tables.{Targets, Opens, machine_of}
-use Rattle.comm_core.specs.Ready.{Agrees, Carried, HaveStaged, Suits, SuitsComms, bare, planned, staged_by}
+use Rattle.comm_core.specs.Step.{Outcome, answered, stated, with_answer}
+use Rattle.comm_core.specs.Tables.{Targets, Opens, machine_of, Agrees, HaveStaged, unstaged}
+use Rattle.comm_core.specs.Plans.{Carried, Suits, SuitsComms, planned, staged_by}
 use Rattle.comm_core.specs.declared.comm.Comm.{Comm}
 use Rattle.comm_core.specs.declared.question.Question.{Question}
 use Rattle.comm_core.specs.declared.plan.Plan.{Plan}
 use Rattle.comm_core.specs.declared.plan.Plan.TheVariants.{Register, Commit}
 use Rattle.comm_core.proofs.Agreeing.{some-at}
-use Rattle.comm_core.proofs.Staging.{bare-there, none_of}
+use Rattle.comm_core.proofs.Staging.{unstaged-there, none_of}
 use Rattle.comm_core.proofs.Carried.{is_stage, opened_carried, told_carried, registered_carried, open_notes, launch_notes}
 
-module _ (b : Targets) (c : Opens) (h : Agrees (bare b) c) (q : Question) (a : Answer) (staged : HaveStaged b (staged_by (Commit q) (Some (Ok a))))
-    (suits : Suits (bare b) c None (Commit q) (Some (Ok a))) (b2 : Targets) (c2 : Opens)
-    (written : (m : Meaning) (s : Stage) → at b q.name ≡ Some m → m.staged ≡ Some s → b2 ≡ with_at b q.name (commits m s)) where
+module _ (b : Targets) (c : Opens) (h : Agrees (unstaged b) c) (q : Question) (a : Answer) (staged : HaveStaged b (staged_by (Commit q) (Some (Ok a))))
+    (suits : Suits (unstaged b) c None (Commit q) (Some (Ok a))) (b2 : Targets) (c2 : Opens)
+    (written : (m : Meaning) (s : StagedEvent) → at b q.name ≡ Some m → m.staged ≡ Some s → b2 ≡ with_at b q.name (after_commit m s)) where
   abbrev Goal : Event → Type 0
   Goal e = Carried b2 c2 (answered (machine_of b c) q.name e a).next
 
   here : (m : Meaning) × (at b q.name ≡ Some m)
-  here = some-at (at b q.name) (sym (bare-there b q.name) ∙ suits.0)
+  here = some-at (at b q.name) (sym (unstaged-there b q.name) ∙ suits.0)
 
-  eb : b2 ≡ with_at b q.name (commits here.0 (record { event = q.event; answer = a }))
+  eb : b2 ≡ with_at b q.name (after_commit here.0 (record { event = q.event; answer = a }))
   eb = written here.0 (record { event = q.event; answer = a }) here.1 (is_stage b c h q.name q.event a staged here.0 here.1)
 
   pub commit_opened : (id : Name) (version : Option Name) (body : Content) → q.event ≡ event.Open id version body → c2 ≡ c ++ (id, record { target = q.name; state = a.state }) ∷ [] → Goal q.event
@@ -47,13 +47,13 @@ module _ (b : Targets) (c : Opens) (h : Agrees (bare b) c) (q : Question) (a : A
   commit_told id body e ec =
       let s : SuitsComms c q.name (event.Msg id body) = subst (SuitsComms c q.name) e suits.1 in
       let r = told_carried b c h q.name q.event a staged here.0 here.1 b2 c2 eb id s.0 (ap (ids_after here.0.ids) e) s.1 s.2 (ec s.0 s.1 ∙ ap (λ t. stated c id t a.state) s.2) in
-      subst Goal (sym e) (subst (λ k. Carried b2 c2 (told (machine_of b c) id q.name k a)) e r)
+      subst Goal (sym e) (subst (λ k. Carried b2 c2 (with_answer (machine_of b c) id q.name k a)) e r)
 
   pub commit_pushed : (id : Name) (state : Members) → q.event ≡ event.Push id state → ((x : Comm) → at c id ≡ Some x → c2 ≡ stated c id x.target a.state) → Goal q.event
   commit_pushed id state e ec =
       let s : SuitsComms c q.name (event.Push id state) = subst (SuitsComms c q.name) e suits.1 in
       let r = told_carried b c h q.name q.event a staged here.0 here.1 b2 c2 eb id s.0 (ap (ids_after here.0.ids) e) s.1 s.2 (ec s.0 s.1 ∙ ap (λ t. stated c id t a.state) s.2) in
-      subst Goal (sym e) (subst (λ k. Carried b2 c2 (told (machine_of b c) id q.name k a)) e r)
+      subst Goal (sym e) (subst (λ k. Carried b2 c2 (with_answer (machine_of b c) id q.name k a)) e r)
 
 -- ---- the plan of a register
 
@@ -63,42 +63,42 @@ none≢some x e = cc
 some_same : {X : Type 0} (x y : X) → Some x ≡ Some y → x ≡ y
 some_same x y e = cc
 
-module _ (b : Targets) (c : Opens) (h : Agrees (bare b) c) (plan : Plan) (o : Option Outcome) (name : Name) (kind : Kind) (notes : ℕ) (is : plan ≡ Register name kind notes)
+module _ (b : Targets) (c : Opens) (h : Agrees (unstaged b) c) (plan : Plan) (o : Option Outcome) (name : Name) (kind : Kind) (notes : ℕ) (is : plan ≡ Register name kind notes)
     (staged : HaveStaged b (staged_by plan o)) where
   none : HaveStaged b (λ _. None)
   none n m there = staged n m there ∙ ap (λ p. staged_by p o n) is
 
-  pub register_made : (boxed : Option Meaning) (m : Meaning) → Suits (bare b) c boxed plan o → boxed ≡ Some m → (b2 : Targets) (c2 : Opens) → b2 ≡ b ++ (name, m) ∷ [] → c2 ≡ c
+  pub register_made : (boxed : Option Meaning) (m : Meaning) → Suits (unstaged b) c boxed plan o → boxed ≡ Some m → (b2 : Targets) (c2 : Opens) → b2 ≡ b ++ (name, m) ∷ [] → c2 ≡ c
       → Carried b2 c2 (planned (machine_of b c) plan o)
   register_made boxed m suits there b2 c2 eb ec =
-      let s : Suits (bare b) c boxed (Register name kind notes) o = subst (λ p. Suits (bare b) c boxed p o) is suits in
+      let s : Suits (unstaged b) c boxed (Register name kind notes) o = subst (λ p. Suits (unstaged b) c boxed p o) is suits in
       let same : s.0 ≡ m = some_same s.0 m (sym s.1.0 ∙ there) in
-      let fresh : at b name ≡ None = none_of (at b name) (sym (bare-there b name) ∙ ap is_some s.1.1) in
+      let fresh : at b name ≡ None = none_of (at b name) (sym (unstaged-there b name) ∙ ap is_some s.1.1) in
       let made = registered_carried b c h none b2 c2 name m kind notes (ap (λ (k : Meaning). k.kind) (sym same) ∙ s.2) (ap (λ (k : Meaning). k.notes) (sym same) ∙ s.3) (subst IsIdle same s.1.2) s.1.1 fresh eb ec in
       subst (λ p. Carried b2 c2 (planned (machine_of b c) p o)) (sym is) made
 
   -- it hands a target in
-  pub register_hands : (boxed : Option Meaning) {P : Type 0} → Suits (bare b) c boxed plan o → boxed ≡ None → P
+  pub register_hands : (boxed : Option Meaning) {P : Type 0} → Suits (unstaged b) c boxed plan o → boxed ≡ None → P
   register_hands boxed suits nothing =
-      let s : Suits (bare b) c boxed (Register name kind notes) o = subst (λ p. Suits (bare b) c boxed p o) is suits in
+      let s : Suits (unstaged b) c boxed (Register name kind notes) o = subst (λ p. Suits (unstaged b) c boxed p o) is suits in
       none≢some s.0 (sym nothing ∙ s.1.0)
 
-  pub register_idle : (boxed : Option Meaning) (m : Meaning) → Suits (bare b) c boxed plan o → boxed ≡ Some m → IsIdle m
+  pub register_idle : (boxed : Option Meaning) (m : Meaning) → Suits (unstaged b) c boxed plan o → boxed ≡ Some m → IsIdle m
   register_idle boxed m suits there =
-      let s : Suits (bare b) c boxed (Register name kind notes) o = subst (λ p. Suits (bare b) c boxed p o) is suits in
+      let s : Suits (unstaged b) c boxed (Register name kind notes) o = subst (λ p. Suits (unstaged b) c boxed p o) is suits in
       subst IsIdle (some_same s.0 m (sym s.1.0 ∙ there)) s.1.2
 
 -- ---- a plan that makes what a target staged has its answer
 
-module _ (b : Targets) (c : Opens) (boxed : Option Meaning) (plan : Plan) (o : Option Outcome) (q : Question) (is : plan ≡ Commit q) (suits : Suits (bare b) c boxed plan o) where
-  abbrev suits' : Suits (bare b) c boxed (Commit q) o
-  suits' = subst (λ p. Suits (bare b) c boxed p o) is suits
+module _ (b : Targets) (c : Opens) (boxed : Option Meaning) (plan : Plan) (o : Option Outcome) (q : Question) (is : plan ≡ Commit q) (suits : Suits (unstaged b) c boxed plan o) where
+  abbrev suits' : Suits (unstaged b) c boxed (Commit q) o
+  suits' = subst (λ p. Suits (unstaged b) c boxed p o) is suits
 
-  pub commit_answers : (a : Answer) → o ≡ Some (Ok a) → Suits (bare b) c None (Commit q) (Some (Ok a))
-  commit_answers a e = let s : Suits (bare b) c boxed (Commit q) (Some (Ok a)) = subst (Suits (bare b) c boxed (Commit q)) e suits' in s
+  pub commit_answers : (a : Answer) → o ≡ Some (Ok a) → Suits (unstaged b) c None (Commit q) (Some (Ok a))
+  commit_answers a e = let s : Suits (unstaged b) c boxed (Commit q) (Some (Ok a)) = subst (Suits (unstaged b) c boxed (Commit q)) e suits' in s
 
   pub commit_fails : {P : Type 0} (f : TargetFault) → o ≡ Some (Err f) → P
-  commit_fails f e = absurd (subst (Suits (bare b) c boxed (Commit q)) e suits')
+  commit_fails f e = absurd (subst (Suits (unstaged b) c boxed (Commit q)) e suits')
 
   pub commit_lacks : {P : Type 0} → o ≡ None → P
-  commit_lacks e = absurd (subst (Suits (bare b) c boxed (Commit q)) e suits')
+  commit_lacks e = absurd (subst (Suits (unstaged b) c boxed (Commit q)) e suits')

@@ -3,9 +3,8 @@ use Rattle.std.proofs.Common.{◌≡◌, ℕ, true, false, cond, not, List, [], 
 use Rattle.std.specs.Str.{bytes_eq}
 use Rattle.std.specs.Map.{keys_of}
 use Rattle.comm_targets.specs.Meaning.{without as without_id}
-use Rattle.comm_core.specs.Machine.{at, without, with_at, ids_of, others}
+use Rattle.comm_core.specs.Machine.{at, without, with_at, ids_of, others, AreDistinct}
 use Rattle.comm_core.specs.Tables.{Opens}
-use Rattle.comm_core.specs.Ready.{AreDistinct}
 use Rattle.comm_core.specs.declared.comm.Comm.{Comm}
 use Rattle.comm_core.proofs.Keys.{same_text, text_itself}
 

@@ -4,11 +4,12 @@ use mathlib.Core.Logic.{◌⊎◌, inl, inr}
 use Rattle.std.specs.Prelude.{◌||◌}
 use Rattle.std.specs.List.{list_any, Contains, filter_map, last_or, cons_option}
 use Rattle.comm_value.specs.Tree.{Members}
-use Rattle.comm_core.specs.Machine.{Name, Machine, empty, at}
-use Rattle.comm_core.specs.History.{Entry, change, end, applied, replay_from, replay, IsLegal}
+use Rattle.comm_core.specs.Machine.{Name, Machine, empty, at, AreDistinct}
+use Rattle.comm_core.specs.History.{applied, replay_from, replay, IsLegal}
+use Rattle.comm_core.specs.declared.entry.Entry.{Entry}
+use Rattle.comm_core.specs.declared.entry.Entry.TheVariants.{Change, End}
 use Rattle.comm_core.specs.Reads.{infos}
 use Rattle.comm_core.specs.Runs.{HasOpened, has_ended, IsOpenSince, IsLeftOpen, AsksFor, given_by, last_given}
-use Rattle.comm_core.specs.Ready.{AreDistinct}
 use Rattle.comm_core.specs.declared.comm.Comm.{Comm}
 use Rattle.comm_core.proofs.Gone.{none≢some}
 use Rattle.comm_core.proofs.Stepping.{step_does}
@@ -36,16 +37,16 @@ module _ (limit : ℕ) where
 
   pub entry_keeps : (m : Machine) (e : Entry) (id : Name) (x : Comm) → Steps limit m e → at m.comms id ≡ Some x → has_ended id x.target e ≡ false
       → at (applied limit m e).comms id ≡ Some (record { target = x.target; state = newer (given_by id e) x.state })
-  entry_keeps m end id x s h going = absurd (true≢false going)
-  entry_keeps m (change client number call outcome reply outgoing) id x s h going =
+  entry_keeps m End id x s h going = absurd (true≢false going)
+  entry_keeps m (Change client number call outcome reply outgoing) id x s h going =
       let does = step_does limit m call outcome _ s.0 s.1 in
       ap (λ c. at c id) does.comms ∙ kept does.change m.comms id x h does.fits (sym (does.ends id x.target) ∙ going)
       ∙ ap (λ o. Some (record { target = x.target; state = newer o x.state })) (sym (does.gives id))
 
   pub entry_opens : (m : Machine) (e : Entry) (id target : Name) → Steps limit m e → HasOpened e id target
       → at (applied limit m e).comms id ≡ Some (record { target = target; state = given_by id e })
-  entry_opens m end id target s h = absurd h
-  entry_opens m (change client number call outcome reply outgoing) id target s h =
+  entry_opens m End id target s h = absurd h
+  entry_opens m (Change client number call outcome reply outgoing) id target s h =
       let does = step_does limit m call outcome _ s.0 s.1 in
       ap (λ c. at c id) does.comms ∙ opened does.change m.comms id target does.fits (sym does.opens ∙ h)
       ∙ ap (λ o. Some (record { target = target; state = o })) (sym (does.gives id))
@@ -55,8 +56,8 @@ module _ (limit : ℕ) where
 
   entry_came : (m : Machine) (e : Entry) (id : Name) (y : Comm) → Steps limit m e → AreDistinct m.comms → at (applied limit m e).comms id ≡ Some y
       → HasOpened e id y.target ⊎ StoodBefore m e id y
-  entry_came m end id y s d h = absurd (none≢some y h)
-  entry_came m (change client number call outcome reply outgoing) id y s d h =
+  entry_came m End id y s d h = absurd (none≢some y h)
+  entry_came m (Change client number call outcome reply outgoing) id y s d h =
       let does = step_does limit m call outcome _ s.0 s.1 in
       elim (came does.change m.comms id y d does.fits (sym (ap (λ c. at c id) does.comms) ∙ h)) [
         | inl opens ↦ inl (does.opens ∙ opens)

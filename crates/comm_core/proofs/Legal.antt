@@ -1,35 +1,47 @@
 -- Legal histories, as they grow.
-use Rattle.std.proofs.Common.{◌≡◌, ℕ, false, List, [], ◌∷◌, ◌++◌, refl, ap, sym, subst, true≢false, append_assoc}
-use Rattle.comm_core.specs.History.{Entry, change, end, has_end, Follows, IsLegalAfter, IsLegal}
-
-nothing_before : {X : Type 0} (xs ys : List X) → xs ++ ys ≡ [] → xs ≡ []
-nothing_before [] ys e = refl
-nothing_before (x ∷ xs) ys e = cc
+use Rattle.std.proofs.Common.{◌≡◌, ℕ, Bool, true, false, List, [], ◌∷◌, ◌++◌, refl, ap, sym, ◌∙◌, subst, true≢false, append_assoc}
+use Rattle.comm_core.specs.Machine.{empty}
+use Rattle.comm_core.specs.History.{applied, replay, has_end, Follows, IsLegalAfter, IsLegal}
+use Rattle.comm_core.specs.declared.entry.Entry.{Entry}
+use Rattle.comm_core.specs.declared.entry.Entry.TheVariants.{Change, End}
+use Rattle.comm_core.proofs.Running.{replay-append}
 
 append-nil : {X : Type 0} (xs : List X) → xs ++ [] ≡ xs
 append-nil [] = refl
 append-nil (x ∷ xs) = ap (λ l. x ∷ l) (append-nil xs)
 
-module _ (clients limit : ℕ) where
-  legal_prefix : (h es fs : List Entry) → IsLegalAfter clients limit h (es ++ fs) → IsLegalAfter clients limit h es
+pub replay_more : (comms : ℕ) (h : List Entry) (e : Entry) → replay comms (h ++ e ∷ []) ≡ applied comms (replay comms h) e
+replay_more comms h e = replay-append comms empty h (e ∷ [])
+
+module _ (clients comms : ℕ) where
+  -- ---- prefixes, and one entry more
+
+  legal_prefix : (h es fs : List Entry) → IsLegalAfter clients comms h (es ++ fs) → IsLegalAfter clients comms h es
   legal_prefix h [] fs p = tt
-  legal_prefix h (end ∷ es) fs p = nothing_before es fs p
-  legal_prefix h (change client number call outcome reply outgoing ∷ es) fs p =
-      (p.0, legal_prefix (h ++ change client number call outcome reply outgoing ∷ []) es fs p.1)
+  legal_prefix h (e ∷ es) fs p = (p.0, legal_prefix (h ++ e ∷ []) es fs p.1)
 
-  alone : (h : List Entry) (e : Entry) → Follows clients limit h e → IsLegalAfter clients limit h (e ∷ [])
-  alone h end f = refl
-  alone h (change client number call outcome reply outgoing) f = (f, tt)
+  legal_more : (h es : List Entry) (e : Entry) → IsLegalAfter clients comms h es → Follows clients comms (h ++ es) e → IsLegalAfter clients comms h (es ++ e ∷ [])
+  legal_more h [] e p f = (subst (λ l. Follows clients comms l e) (append-nil h) f, tt)
+  legal_more h (x ∷ es) e p f = (p.0, legal_more (h ++ x ∷ []) es e p.1 (subst (λ l. Follows clients comms l e) (sym (append_assoc h (x ∷ []) es)) f))
 
-  legal_more : (h es : List Entry) (e : Entry) → has_end es ≡ false → IsLegalAfter clients limit h es → Follows clients limit (h ++ es) e → IsLegalAfter clients limit h (es ++ e ∷ [])
-  legal_more h [] e going p f = alone h e (subst (λ l. Follows clients limit l e) (append-nil h) f)
-  legal_more h (end ∷ es) e going p f = absurd (true≢false going)
-  legal_more h (change client number call outcome reply outgoing ∷ es) e going p f =
-      let x : Entry = change client number call outcome reply outgoing in
-      (p.0, legal_more (h ++ x ∷ []) es e going p.1 (subst (λ l. Follows clients limit l e) (sym (append_assoc h (x ∷ []) es)) f))
-
-  pub prefix_legal : (es fs : List Entry) → IsLegal clients limit (es ++ fs) → IsLegal clients limit es
+  pub prefix_legal : (es fs : List Entry) → IsLegal clients comms (es ++ fs) → IsLegal clients comms es
   prefix_legal es fs p = legal_prefix [] es fs p
 
-  pub more_legal : (es : List Entry) (e : Entry) → IsLegal clients limit es → has_end es ≡ false → Follows clients limit es e → IsLegal clients limit (es ++ e ∷ [])
-  more_legal es e p going f = legal_more [] es e going p f
+  pub more_legal : (es : List Entry) (e : Entry) → IsLegal clients comms es → Follows clients comms es e → IsLegal clients comms (es ++ e ∷ [])
+  more_legal es e p f = legal_more [] es e p f
+
+  -- ---- the end comes last
+
+  goes_on : (h : List Entry) (e : Entry) → Follows clients comms h e → has_end h ≡ false
+  goes_on h End f = f
+  goes_on h (Change client number call outcome reply outgoing) f = f.0
+
+  pub nothing_after : (h : List Entry) (e : Entry) → has_end h ≡ true → Follows clients comms h e → ⊥
+  nothing_after h e ends f = true≢false (sym ends ∙ goes_on h e f)
+
+  no_end_before : (h es : List Entry) (e : Entry) (fs : List Entry) → IsLegalAfter clients comms h (es ++ e ∷ fs) → has_end (h ++ es) ≡ false
+  no_end_before h [] e fs p = ap has_end (append-nil h) ∙ goes_on h e p.0
+  no_end_before h (x ∷ es) e fs p = ap has_end (sym (append_assoc h (x ∷ []) es)) ∙ no_end_before (h ++ x ∷ []) es e fs p.1
+
+  pub no_end_yet : (es : List Entry) (e : Entry) (fs : List Entry) → IsLegal clients comms (es ++ e ∷ fs) → has_end es ≡ false
+  no_end_yet es e fs p = no_end_before [] es e fs p

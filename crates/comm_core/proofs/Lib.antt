@@ -5,6 +5,7 @@ pub mod Carried
 pub mod Changes
 pub mod Closing
 pub mod Committing
+pub mod Consistent
 pub mod Entries
 pub mod Exacting
 pub mod Gone
@@ -24,3 +25,4 @@ pub mod Stepping
 pub mod Stopping
 pub mod Unmaking
 pub mod Updating
+pub mod Crossing

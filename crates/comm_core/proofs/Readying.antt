@@ -5,8 +5,9 @@ use Rattle.comm_targets.specs.Meaning.{Meaning, IsIdle}
 use Rattle.comm_targets.specs.declared.kind.Kind.{Kind}
 use Rattle.comm_core.specs.Machine.{Name, Machine, at, has}
 use Rattle.comm_core.specs.Step.{Outcome, Stepped, Allowed, asks, step}
-use Rattle.comm_core.specs.Tables.{Targets, Opens, targets_of, machine_of}
-use Rattle.comm_core.specs.Ready.{State, Readied, IsReady, IsSound, Agrees, HaveStaged, HasCome, Carried, Suits, state, machine, bare, planned, readied, staged_by, back_by, back_of, ended_by, ended_of}
+use Rattle.comm_core.specs.Tables.{Targets, Opens, targets_of, machine_of, Agrees, AnswerIsStaged, HaveStaged, unstaged, ended_of}
+use Rattle.comm_core.specs.Ready.{CoreValue, Readied, IsReady, state, machine, readied, back_of}
+use Rattle.comm_core.specs.Plans.{IsSound, HasCome, Carried, Suits, planned, staged_by, back_by, ended_by}
 use Rattle.comm_core.specs.declared.call.Call.{Call}
 use Rattle.comm_core.specs.declared.call.Call.TheVariants as call
 use Rattle.comm_core.specs.declared.reply.Reply.{Reply}
@@ -14,7 +15,7 @@ use Rattle.comm_core.specs.declared.reply.Reply.TheVariants as reply
 use Rattle.comm_core.specs.declared.plan.Plan.{Plan}
 use Rattle.comm_core.specs.declared.plan.Plan.TheVariants.{Nothing, Register, Unregister, Close, Commit}
 use Rattle.comm_core.proofs.Names.{has_target}
-use Rattle.comm_core.proofs.Staging.{none_of, bare-there, machine-bare, bare-unstaged, bare-bare, distinct-bare, all_bare}
+use Rattle.comm_core.proofs.Staging.{none_of, unstaged-there, machine-unstaged, unstaged-same, unstaged-twice, distinct-unstaged, all_unstaged}
 
 -- ---- the tables stay sound
 
@@ -22,25 +23,25 @@ pub sound-settled : (b b' : Targets) (r r' : ℕ) (c c' : Opens) (s s' : ℕ) (t
 sound-settled b b' r r' c c' s s' t h eb ec et =
     record {
       agrees = rw (eb, ec) h.agrees;
-      unstaged = λ e. rw eb (h.unstaged e);
+      nothing_staged = λ e. rw eb (h.nothing_staged e);
       room = λ e. absurd (true≢false (sym et ∙ e));
       space = λ e. absurd (true≢false (sym et ∙ e));
     }
 
-pub sound_begun : (b b' : Targets) (r r' : ℕ) (c c' : Opens) (s s' : ℕ) (t : Bool) → IsSound b r c s t → bare b' ≡ bare b → c' ≡ c → 0 < r' → 0 < s' → IsSound b' r' c' s' false
+pub sound_begun : (b b' : Targets) (r r' : ℕ) (c c' : Opens) (s s' : ℕ) (t : Bool) → IsSound b r c s t → unstaged b' ≡ unstaged b → c' ≡ c → 0 < r' → 0 < s' → IsSound b' r' c' s' false
 sound_begun b b' r r' c c' s s' t h eb ec room space =
     record {
       agrees = rw (eb, ec) h.agrees;
-      unstaged = λ f. absurd (true≢false (sym f));
+      nothing_staged = λ f. absurd (true≢false (sym f));
       room = λ _. room;
       space = λ _. space;
     }
 
-pub sound_after : (b : Targets) (r : ℕ) (c : Opens) (s : ℕ) → Agrees (bare b) c → HaveStaged b (λ _. None) → IsSound b r c s true
-sound_after b r c s h none = record { agrees = h; unstaged = λ _. none; room = λ f. absurd (true≢false f); space = λ f. absurd (true≢false f) }
+pub sound_after : (b : Targets) (r : ℕ) (c : Opens) (s : ℕ) → Agrees (unstaged b) c → HaveStaged b (λ _. None) → IsSound b r c s true
+sound_after b r c s h none = record { agrees = h; nothing_staged = λ _. none; room = λ f. absurd (true≢false f); space = λ f. absurd (true≢false f) }
 
-pub sound_bare : (b b2 : Targets) (r : ℕ) (c : Opens) (s : ℕ) → Agrees (bare b) c → b2 ≡ bare b → IsSound b2 r c s true
-sound_bare b b2 r c s h e = sound_after b2 r c s (rw (e, bare-bare b) h) (rw e (all_bare b))
+pub sound_unstaged : (b b2 : Targets) (r : ℕ) (c : Opens) (s : ℕ) → Agrees (unstaged b) c → b2 ≡ unstaged b → IsSound b2 r c s true
+sound_unstaged b b2 r c s h e = sound_after b2 r c s (rw (e, unstaged-twice b) h) (rw e (all_unstaged b))
 
 -- ---- what stands ready
 
@@ -70,55 +71,50 @@ none_back reply.NotWidget = refl
 pub call_ready : (l : ℕ) (b b' : Targets) (c : Opens) (k : Call) (o : Option Outcome) (r : Reply) (out : List Outgoing) (plan : Plan)
     → HasCome l b c k o r out plan b' → IsReady (state l b' c false) (readied k o r out plan None)
 call_ready l b b' c k o r out plan h =
-    let same : machine_of b c ≡ machine_of b' c = sym (machine-bare b b' c h.bare_is) in
+    let same : machine_of b c ≡ machine_of b' c = sym (machine-unstaged b b' c h.unstaged_is) in
     record {
       begun = refl;
+      allowed = subst (λ (m : Machine). Allowed m (asks l m k) o) same h.allowed;
+      staged = subst (λ (m : Machine). AnswerIsStaged b' (asks l m k) o) same h.staged;
       step_is = subst (λ (m : Machine). step l m k o ≡ Some (record { reply = r; outgoing = out; next = planned m plan o })) same h.step_is;
-      staged = h.staged;
+      stages = h.stages;
       suits = h.suits;
       ended = h.ended;
       back = no_back plan ∙ sym (none_back r);
     }
 
 -- the state before a call, once what it staged is dropped
-pub undone_is : (S : State) (l : ℕ) (b b1 b' : Targets) (r : ℕ) (c c' : Opens) (s : ℕ) (z : Bool) → state l b c z ≡ S → S.settled ≡ true → IsSound b r c s z → b1 ≡ b → c' ≡ c → bare b' ≡ bare b1 → state l (bare b') c' true ≡ S
+pub undone_is : (S : CoreValue) (l : ℕ) (b b1 b' : Targets) (r : ℕ) (c c' : Opens) (s : ℕ) (z : Bool) → state l b c z ≡ S → S.settled ≡ true → IsSound b r c s z → b1 ≡ b → c' ≡ c → unstaged b' ≡ unstaged b1 → state l (unstaged b') c' true ≡ S
 undone_is S l b b1 b' r c c' s z es settled h e1 ec eb =
-    let t : z ≡ true = ap (λ (k : State). k.settled) es ∙ settled in
-    let b3 : bare b' ≡ b = eb ∙ ap bare e1 ∙ sym (bare-unstaged b (distinct-bare b h.agrees.names) (h.unstaged t)) in
+    let t : z ≡ true = ap (λ (k : CoreValue). k.settled) es ∙ settled in
+    let b3 : unstaged b' ≡ b = eb ∙ ap unstaged e1 ∙ sym (unstaged-same b (distinct-unstaged b h.agrees.names) (h.nothing_staged t)) in
     ap (λ x. state l x c' true) b3 ∙ ap (λ x. state l b x true) ec ∙ ap (λ x. state l b c x) (sym t) ∙ es
 
 -- what stands ready, by its parts
-pub ready_of : (S : State) (D : Readied) (l : ℕ) (b : Targets) (c : Opens) (z : Bool) (k : Call) (o : Option Outcome) (r : Reply) (out : List Outgoing) (plan : Plan) (m : Option Meaning)
+pub ready_of : (S : CoreValue) (D : Readied) (l : ℕ) (b : Targets) (c : Opens) (z : Bool) (k : Call) (o : Option Outcome) (r : Reply) (out : List Outgoing) (plan : Plan) (m : Option Meaning)
     → state l b c z ≡ S → readied k o r out plan m ≡ D → IsReady S D → IsReady (state l b c false) (readied k o r out plan m)
 ready_of S D l b c z k o r out plan m es ed R =
-    let e : z ≡ false = ap (λ (x : State). x.settled) es ∙ R.begun in
+    let e : z ≡ false = ap (λ (x : CoreValue). x.settled) es ∙ R.begun in
     let s1 : state l b c false ≡ S = ap (λ x. state l b c x) (sym e) ∙ es in
     subst (λ x. IsReady (state l b c false) x) (sym ed) (subst (λ x. IsReady x D) (sym s1) R)
 
 -- ---- what `begin` says
 
-module _ (S : State) (l : ℕ) (b b1 b' : Targets) (c c' : Opens) (z : Bool) (es : state l b c z ≡ S) (e1 : b1 ≡ b) (ec : c' ≡ c) (k : Call) (o : Option Outcome) (r : Reply) (out : List Outgoing) (plan : Plan)
-    (h : HasCome l b1 c' k o r out plan b') where
-  same_machine : machine_of b1 c' ≡ machine S
-  same_machine = ap (λ x. machine_of x c') e1 ∙ ap (machine_of b) ec ∙ ap machine es
+pub came_machine : (S : CoreValue) (l : ℕ) (b b1 b' : Targets) (c c' : Opens) (z : Bool) → state l b c z ≡ S → b1 ≡ b → c' ≡ c → unstaged b' ≡ unstaged b1 → machine_of b' c' ≡ machine S
+came_machine S l b b1 b' c c' z es e1 ec eb = machine-unstaged b1 b' c' eb ∙ ap (λ x. machine_of x c') e1 ∙ ap (machine_of b) ec ∙ ap machine es
 
-  same_limit : l ≡ S.limit
-  same_limit = ap (λ (x : State). x.limit) es
+-- what stands ready, at the state before: it has the same limit and machine
+module _ (S : CoreValue) (l : ℕ) (b : Targets) (c : Opens) (D : Readied) (R : IsReady (state l b c false) D) (limit : l ≡ S.limit) (same : machine_of b c ≡ machine S) where
+  pub ready_allowed : Allowed (machine S) (asks S.limit (machine S) D.call) D.outcome
+  ready_allowed = subst (λ m. Allowed m (asks S.limit m D.call) D.outcome) same (subst (λ n. Allowed (machine_of b c) (asks n (machine_of b c) D.call) D.outcome) limit R.allowed)
 
-  pub came_step : (s : Stepped) × (step S.limit (machine S) k o ≡ Some s) × (r ≡ s.reply) × (out ≡ s.outgoing)
-  came_step = (
-    record { reply = r; outgoing = out; next = planned (machine_of b1 c') plan o },
-    subst (λ m. step S.limit m k o ≡ Some (record { reply = r; outgoing = out; next = planned (machine_of b1 c') plan o })) same_machine
-        (subst (λ n. step n (machine_of b1 c') k o ≡ Some (record { reply = r; outgoing = out; next = planned (machine_of b1 c') plan o })) same_limit h.step_is),
-    refl,
-    refl,
-  )
+  pub ready_staged : AnswerIsStaged b (asks S.limit (machine S) D.call) D.outcome
+  ready_staged = subst (λ m. AnswerIsStaged b (asks S.limit m D.call) D.outcome) same (subst (λ n. AnswerIsStaged b (asks n (machine_of b c) D.call) D.outcome) limit R.staged)
 
-  pub came_allowed : Allowed (machine S) (asks S.limit (machine S) k) o
-  came_allowed = subst (λ m. Allowed m (asks S.limit m k) o) same_machine (subst (λ n. Allowed (machine_of b1 c') (asks n (machine_of b1 c') k) o) same_limit h.allowed)
-
-  pub came_machine : machine_of b' c' ≡ machine S
-  came_machine = machine-bare b1 b' c' h.bare_is ∙ same_machine
+  pub ready_step : (s : Stepped) × (step S.limit (machine S) D.call D.outcome ≡ Some s) × (D.reply ≡ s.reply) × (D.outgoing ≡ s.outgoing)
+  ready_step =
+      let s : Stepped = record { reply = D.reply; outgoing = D.outgoing; next = planned (machine_of b c) D.plan D.outcome } in
+      (s, subst (λ m. step S.limit m D.call D.outcome ≡ Some s) same (subst (λ n. step n (machine_of b c) D.call D.outcome ≡ Some s) limit R.step_is), refl, refl)
 
 -- ---- a register
 
@@ -126,10 +122,10 @@ module _ (l : ℕ) (b : Targets) (c : Opens) (name : Name) (k : Kind) (n : ℕ) 
   registers : (taken : Bool) → taken ≡ has (targets_of b) name
       → IsReady (state l b c false) (readied (call.Register name k n) None (cond taken reply.NameTaken reply.Registered) [] (cond taken Nothing (Register name k n)) (Some m))
   registers true e =
-      record { begun = refl; step_is = rw (sym e) refl; staged = none; suits = tt; ended = refl; back = refl }
+      record { begun = refl; allowed = rw (sym e) tt; staged = none; step_is = rw (sym e) refl; stages = none; suits = tt; ended = refl; back = refl }
   registers false e =
-      let fresh : at (bare b) name ≡ None = none_of (at (bare b) name) (bare-there b name ∙ sym (has_target b name) ∙ sym e) in
-      record { begun = refl; step_is = rw (sym e) refl; staged = none; suits = (m, (refl, fresh, idle), kind, notes); ended = refl; back = refl }
+      let fresh : at (unstaged b) name ≡ None = none_of (at (unstaged b) name) (unstaged-there b name ∙ sym (has_target b name) ∙ sym e) in
+      record { begun = refl; allowed = rw (sym e) tt; staged = none; step_is = rw (sym e) refl; stages = none; suits = (m, (refl, fresh, idle), kind, notes); ended = refl; back = refl }
 
   pub register_ready : (taken : Bool) (r : Reply) (out : List Outgoing) (plan : Plan) → taken ≡ has (targets_of b) name → r ≡ cond taken reply.NameTaken reply.Registered → out ≡ []
       → plan ≡ cond taken Nothing (Register name k n) → IsReady (state l b c false) (readied (call.Register name k n) None r out plan (Some m))
@@ -137,13 +133,13 @@ module _ (l : ℕ) (b : Targets) (c : Opens) (name : Name) (k : Kind) (n : ℕ) 
 
 -- ---- what `finish` says
 
-module _ (S : State) (D : Readied) (l : ℕ) (b : Targets) (c : Opens) (z : Bool) (k : Call) (o : Option Outcome) (r : Reply) (out : List Outgoing) (plan : Plan) (m : Option Meaning)
+module _ (S : CoreValue) (D : Readied) (l : ℕ) (b : Targets) (c : Opens) (z : Bool) (k : Call) (o : Option Outcome) (r : Reply) (out : List Outgoing) (plan : Plan) (m : Option Meaning)
     (es : state l b c z ≡ S) (ed : readied k o r out plan m ≡ D) (R : IsReady S D) where
   parts : IsReady (state l b c false) (readied k o r out plan m)
   parts = ready_of S D l b c z k o r out plan m es ed R
 
   whole_state : state l b c false ≡ S
-  whole_state = ap (λ x. state l b c x) (sym (ap (λ (x : State). x.settled) es ∙ R.begun)) ∙ es
+  whole_state = ap (λ x. state l b c x) (sym (ap (λ (x : CoreValue). x.settled) es ∙ R.begun)) ∙ es
 
   pub finished_step : (b2 : Targets) (c2 : Opens) → Carried b2 c2 (planned (machine_of b c) plan o)
       → step S.limit (machine S) D.call D.outcome ≡ Some (record { reply = r; outgoing = out; next = machine_of b2 c2 })
@@ -151,16 +147,16 @@ module _ (S : State) (D : Readied) (l : ℕ) (b : Targets) (c : Opens) (z : Bool
       let one : step l (machine_of b c) k o ≡ Some (record { reply = r; outgoing = out; next = machine_of b2 c2 }) =
       parts.step_is ∙ ap (λ x. Some (record { reply = r; outgoing = out; next = x })) (sym carried.2) in
       subst (λ (x : Readied). step S.limit (machine S) x.call x.outcome ≡ Some (record { reply = r; outgoing = out; next = machine_of b2 c2 })) ed
-      (subst (λ (x : State). step x.limit (machine x) k o ≡ Some (record { reply = r; outgoing = out; next = machine_of b2 c2 })) whole_state one)
+      (subst (λ (x : CoreValue). step x.limit (machine x) k o ≡ Some (record { reply = r; outgoing = out; next = machine_of b2 c2 })) whole_state one)
 
   pub finished_ended : (ended : Option Meaning) → ended ≡ ended_by b plan → ended ≡ ended_of S.boxes D.call
-  finished_ended ended e = e ∙ parts.ended ∙ ap (λ (x : State). ended_of x.boxes k) whole_state ∙ ap (λ (x : Readied). ended_of S.boxes x.call) ed
+  finished_ended ended e = e ∙ parts.ended ∙ ap (λ (x : CoreValue). ended_of x.boxes k) whole_state ∙ ap (λ (x : Readied). ended_of S.boxes x.call) ed
 
   pub finished_back : (back : Option Meaning) → back ≡ back_by plan m → back ≡ back_of D.reply D.boxed
   finished_back back e = e ∙ parts.back ∙ ap (λ (x : Readied). back_of x.reply x.boxed) ed
 
   pub staged_now : HaveStaged b (staged_by plan o)
-  staged_now = parts.staged
+  staged_now = parts.stages
 
-  pub suits_now : Suits (bare b) c m plan o
+  pub suits_now : Suits (unstaged b) c m plan o
   suits_now = parts.suits

@@ -8,7 +8,9 @@ use Rattle.comm_targets.specs.declared.event.Event.{Event}
 use Rattle.comm_targets.specs.declared.event.Event.TheVariants as event
 use Rattle.comm_core.specs.Machine.{Name, Registered, Machine, empty, at, has, with_at}
 use Rattle.comm_core.specs.Step.{Outcome, judged, noted, stated, is_full, holds_widget, comm_id}
-use Rattle.comm_core.specs.History.{Entry, change, end, applied, replay_from, replay}
+use Rattle.comm_core.specs.History.{applied, replay_from, replay}
+use Rattle.comm_core.specs.declared.entry.Entry.{Entry}
+use Rattle.comm_core.specs.declared.entry.Entry.TheVariants.{Change, End}
 use Rattle.comm_core.specs.Tables.{Opens}
 use Rattle.comm_core.specs.Runs.{has_ended, ending}
 use Rattle.comm_core.specs.Updates.{registering, unregistering, has_unregistered, HasRegistered, IsRegistered}
@@ -128,19 +130,19 @@ left_in (Unregister name) (reply.Unregistered ids) id target h = h
 left_in call r id target h = refl
 
 pub target_left : (e : Entry) (id target : Name) → has_ended id target e ≡ false → has_unregistered target e ≡ false
-target_left end id target h = h
-target_left (change client number call outcome r outgoing) id target h = left_in call r id target h
+target_left End id target h = h
+target_left (Change client number call outcome r outgoing) id target h = left_in call r id target h
 
 module _ (limit : ℕ) where
   pub entry_leaves : (m : Machine) (e : Entry) (name : Name) (k : Kind) → Steps limit m e → HasKind m name k → has_unregistered name e ≡ false
       → HasKind (applied limit m e) name k
-  entry_leaves m end name k s h u = absurd (true≢false u)
-  entry_leaves m (change client number call outcome r outgoing) name k s h u =
+  entry_leaves m End name k s h u = absurd (true≢false u)
+  entry_leaves m (Change client number call outcome r outgoing) name k s h u =
       (comes (Leaves call m) m (judged limit m call) outcome _ (judged_leaves limit m call) s.0 s.1).keeps name k h u
 
   entry_adds : (m : Machine) (e : Entry) (name : Name) (k : Kind) → Steps limit m e → HasRegistered e name k → HasKind (applied limit m e) name k
-  entry_adds m end name k s h = absurd h
-  entry_adds m (change client number call outcome r outgoing) name k s h =
+  entry_adds m End name k s h = absurd h
+  entry_adds m (Change client number call outcome r outgoing) name k s h =
       (comes (Leaves call m) m (judged limit m call) outcome _ (judged_leaves limit m call) s.0 s.1).adds name k h
 
   run_leaves : (m : Machine) (es : List Entry) (name : Name) (k : Kind) → Runs limit m es → HasKind m name k → list_any (has_unregistered name) es ≡ false

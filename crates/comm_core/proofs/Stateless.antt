@@ -11,7 +11,9 @@ use Rattle.comm_targets.specs.declared.event.Event.TheVariants as event
 use Rattle.comm_targets.specs.declared.answer.Answer.{Answer}
 use Rattle.comm_core.specs.Machine.{Name, Machine, empty, at, has}
 use Rattle.comm_core.specs.Step.{Outcome, Gives, judged, is_full, holds_widget, comm_id}
-use Rattle.comm_core.specs.History.{Entry, change, end, applied, replay_from, replay, IsLegal}
+use Rattle.comm_core.specs.History.{applied, replay_from, replay, IsLegal}
+use Rattle.comm_core.specs.declared.entry.Entry.{Entry}
+use Rattle.comm_core.specs.declared.entry.Entry.TheVariants.{Change, End}
 use Rattle.comm_core.specs.Reads.{state_of, state_at}
 use Rattle.comm_core.specs.Runs.{opening, HasOpened, has_ended, given, given_by, IsOpenSince}
 use Rattle.comm_core.specs.Updates.{IsRegistered, is_stateless}
@@ -146,10 +148,10 @@ module _ (limit : ℕ) (k : Kind) (stateless : is_stateless k ≡ true) where
   entry_stands : (m : Machine) (e : Entry) (id target : Name) → Steps limit m e → at m.comms id ≡ Some (record { target = target; state = None })
       → HasKind m target k → has_ended id target e ≡ false
       → at (applied limit m e).comms id ≡ Some (record { target = target; state = None })
-  entry_stands m end id target r there kind going = absurd (true≢false going)
-  entry_stands m (change client number call outcome reply outgoing) id target r there kind going =
+  entry_stands m End id target r there kind going = absurd (true≢false going)
+  entry_stands m (Change client number call outcome reply outgoing) id target r there kind going =
       let none = (comes (GivesNone call m) m (judged limit m call) outcome _ (judged_gives limit m call) r.0 r.1).standing id target k stateless kind there in
-      entry_keeps limit m (change client number call outcome reply outgoing) id (record { target = target; state = None }) r there going
+      entry_keeps limit m (Change client number call outcome reply outgoing) id (record { target = target; state = None }) r there going
       ∙ ap (λ o. Some (record { target = target; state = newer o None })) none
 
   run_stands : (m : Machine) (es : List Entry) (id target : Name) → Runs limit m es → at m.comms id ≡ Some (record { target = target; state = None })
@@ -161,8 +163,8 @@ module _ (limit : ℕ) (k : Kind) (stateless : is_stateless k ≡ true) where
       run_stands (applied limit m e) es id target r.1 (entry_stands m e id target r.0 there kind parts.0) (entry_leaves limit m e target k r.0 kind (target_left e id target parts.0)) parts.1
 
   entry_begins : (m : Machine) (e : Entry) (id target : Name) → Steps limit m e → HasOpened e id target → HasKind m target k → given_by id e ≡ None
-  entry_begins m end id target r h kind = absurd h
-  entry_begins m (change client number call outcome reply outgoing) id target r h kind =
+  entry_begins m End id target r h kind = absurd h
+  entry_begins m (Change client number call outcome reply outgoing) id target r h kind =
       (comes (GivesNone call m) m (judged limit m call) outcome _ (judged_gives limit m call) r.0 r.1).opening_it id target k stateless kind h
 
   pub stands : (clients : ℕ) (h before : List Entry) (opener : Entry) (after : List Entry) (id target : Name) → IsLegal clients limit h

@@ -8,8 +8,7 @@ use Rattle.comm_targets.specs.declared.fault.TargetFault.{TargetFault}
 use Rattle.comm_core.specs.Machine.{Name, Machine, at, has, without, others}
 use Rattle.comm_core.specs.Step.{Outcome, Stepped, Verdict, Done, Asked, Gives, Allowed, asks, judged, question_of, step, stepped, answered, refused, of_comm, stated, is_full, holds_widget, comm_id}
 use Rattle.comm_core.specs.Tables.{Opens}
-use Rattle.comm_core.specs.Reads.{Pair}
-use Rattle.comm_core.specs.Runs.{opening, ending, given}
+use Rattle.comm_core.specs.Runs.{Pair, opening, ending, given}
 use Rattle.comm_core.specs.declared.comm.Comm.{Comm}
 use Rattle.comm_core.specs.declared.call.Call.{Call}
 use Rattle.comm_core.specs.declared.call.Call.TheVariants.{Register, Open, Msg, Close, Unregister, Launch, Push, Send, HangUp}
@@ -56,7 +55,7 @@ none_stepped s e = cc
 pub data Change : Type 0 where
   stays_so : Change
   begins : (id target : Name) → Option Members → Change
-  closes : Name → Change
+  after_close : Name → Change
   -- those of a target
   empties : Name → Change
   tells : (id target : Name) → Option Members → Change
@@ -64,19 +63,19 @@ pub data Change : Type 0 where
 abbrev pub changed : Change → Opens → Opens
 changed stays_so c = c
 changed (begins id target state) c = c ++ (id, record { target = target; state = state }) ∷ []
-changed (closes id) c = without c id
+changed (after_close id) c = without c id
 changed (empties name) c = others name c
 changed (tells id target state) c = stated c id target state
 
 abbrev pub opening_of : Change → Option Pair
 opening_of (begins id target state) = Some (id, target)
 opening_of stays_so = None
-opening_of (closes id) = None
+opening_of (after_close id) = None
 opening_of (empties name) = None
 opening_of (tells id target state) = None
 
 abbrev pub ending_of : Change → Name → Name → Bool
-ending_of (closes closed) id target = bytes_eq id closed
+ending_of (after_close closed) id target = bytes_eq id closed
 ending_of (empties name) id target = bytes_eq name target
 ending_of stays_so id target = false
 ending_of (begins opened t state) id target = false
@@ -86,14 +85,14 @@ abbrev pub given_of : Change → Name → Option Members
 given_of (begins opened target state) id = cond (bytes_eq id opened) state None
 given_of (tells told target state) id = cond (bytes_eq id told) state None
 given_of stays_so id = None
-given_of (closes closed) id = None
+given_of (after_close closed) id = None
 given_of (empties name) id = None
 
 abbrev pub Fits : Change → Opens → Type 0
 Fits (begins id target state) c = at c id ≡ None
 Fits (tells id target state) c = (x : Comm) × (at c id ≡ Some x) × (x.target ≡ target)
 Fits stays_so c = Unit {0}
-Fits (closes id) c = Unit {0}
+Fits (after_close id) c = Unit {0}
 Fits (empties name) c = Unit {0}
 
 -- The step changes the comms so, and the call with its reply and outcome says it.
@@ -149,7 +148,7 @@ judged_does limit m (Msg id body) =
     (λ x there. does_msg m id body x there)
 judged_does limit m (Close id) =
     comes_of (Does (Close id) m) m (at m.comms id) _ (record { change = stays_so; comms = refl; opens = refl; ends = λ _ _. refl; gives = λ _. refl; fits = tt })
-    (λ x there. record { change = closes id; comms = refl; opens = refl; ends = λ _ _. refl; gives = λ _. refl; fits = tt })
+    (λ x there. record { change = after_close id; comms = refl; opens = refl; ends = λ _ _. refl; gives = λ _. refl; fits = tt })
 judged_does limit m (Unregister name) =
     comes_if (Does (Unregister name) m) m (has m.targets name) _ _
     (λ _. record { change = empties name; comms = refl; opens = refl; ends = λ _ _. refl; gives = λ _. refl; fits = tt })
@@ -170,7 +169,7 @@ judged_does limit m (Send id body) =
     (λ x there. record { change = stays_so; comms = refl; opens = refl; ends = λ _ _. refl; gives = λ _. refl; fits = tt })
 judged_does limit m (HangUp id) =
     comes_of (Does (HangUp id) m) m (at m.comms id) _ (record { change = stays_so; comms = refl; opens = refl; ends = λ _ _. refl; gives = λ _. refl; fits = tt })
-    (λ x there. record { change = closes id; comms = refl; opens = refl; ends = λ _ _. refl; gives = λ _. refl; fits = tt })
+    (λ x there. record { change = after_close id; comms = refl; opens = refl; ends = λ _ _. refl; gives = λ _. refl; fits = tt })
 
 pub step_does : (limit : ℕ) (m : Machine) (call : Call) (o : Option Outcome) (s : Stepped) → Allowed m (asks limit m call) o → step limit m call o ≡ Some s
     → Does call m o s.reply s.next

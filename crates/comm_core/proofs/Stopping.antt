@@ -1,12 +1,15 @@
 -- The targets of a settled manager, as they are ended.
-use Rattle.std.proofs.Common.{◌≡◌, ◌<◌, ℕ, Bool, true, false, List, [], ◌∷◌, ◌++◌, length, None, Some, refl, subst, arith}
+use Rattle.std.proofs.Common.{◌≡◌, ◌<◌, ℕ, true, false, List, [], ◌∷◌, ◌++◌, length, None, Some, refl, subst, arith}
 use Rattle.std.specs.Str.{bytes_eq}
 use Rattle.comm_targets.specs.Meaning.{Meaning}
-use Rattle.comm_core.specs.Machine.{at, ids_of}
-use Rattle.comm_core.specs.Tables.{Targets, Opens}
-use Rattle.comm_core.specs.Ready.{AreDistinct, HaveStaged, IsSound, AllAgree}
+use Rattle.comm_core.specs.Machine.{at, ids_of, AreDistinct}
+use Rattle.comm_core.specs.Tables.{Targets, Opens, BoxesMean, HaveStaged}
 use Rattle.comm_core.proofs.Keys.{same_text, text_itself}
-use Rattle.comm_core.proofs.Staging.{bare-at, distinct-bare}
+
+-- each target has the ids of its comms, and nothing staged
+abbrev pub AllAgree : Targets → Opens → Type 0
+AllAgree [] comms = Unit {0}
+AllAgree (e ∷ es) comms = (e.1.ids ≡ ids_of e.0 comms) × (e.1.staged ≡ None) × AllAgree es comms
 
 each : (b : Targets) (c : Opens) → AreDistinct b → ((name : List ℕ) (m : Meaning) → at b name ≡ Some m → m.ids ≡ ids_of name c) → HaveStaged b (λ _. None) → AllAgree b c
 each [] c d ids none = tt
@@ -19,8 +22,8 @@ each (e ∷ es) c d ids none =
     ]) refl in
     (ids e.0 e.1 one, none e.0 e.1 one, each es c d.1 (λ name m there. ids name m (later name m there)) (λ name m there. none name m (later name m there)))
 
-pub all_agree : (b : Targets) (r : ℕ) (c : Opens) (s : ℕ) (z : Bool) → IsSound b r c s z → z ≡ true → AllAgree b c
-all_agree b r c s z h e = each b c (distinct-bare b h.agrees.names) (λ name m there. h.agrees.ids name _ (bare-at b name m there)) (h.unstaged e)
+pub all_agree : (b : Targets) (c : Opens) → BoxesMean b c → AllAgree b c
+all_agree b c h = each b c h.agrees.names h.agrees.ids h.nothing_staged
 
 pub all_but : (b : Targets) (n : List ℕ) (m : Meaning) (c : Opens) → AllAgree (b ++ (n, m) ∷ []) c → AllAgree b c × (m.ids ≡ ids_of n c) × (m.staged ≡ None)
 all_but [] n m c h = (tt, h.0, h.1)

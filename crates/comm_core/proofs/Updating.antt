@@ -7,7 +7,8 @@ use Rattle.comm_value.specs.Tree.{Tree, text, Members}
 use Rattle.comm_value.specs.Node.{get}
 use Rattle.comm_value.specs.Merge.{merged}
 use Rattle.comm_messages.specs.Content.{Content}
-use Rattle.comm_targets.specs.Widget.{opened, state_of, told, told_by, updated, answer_with, new_state, handed, nothing, one_message, update_of}
+use Rattle.comm_targets.specs.Widget as widget
+use Rattle.comm_targets.specs.Widget.{state_of, message_answer, method_answer, update_answer, answer_with, new_state, custom_answer, nothing, one_message, update_of}
 use Rattle.comm_targets.specs.Answers.{Answers}
 use Rattle.comm_targets.specs.declared.kind.Kind.{Kind}
 use Rattle.comm_targets.specs.declared.kind.Kind.TheVariants.{Widget}
@@ -18,7 +19,9 @@ use Rattle.comm_targets.specs.declared.fault.TargetFault.{TargetFault}
 use Rattle.comm_targets.specs.declared.fault.TargetFault.TheVariants.{UnknownMethod, NoMethod}
 use Rattle.comm_core.specs.Machine.{Name, Machine, empty, at, has}
 use Rattle.comm_core.specs.Step.{Outcome, Gives, judged, is_full, holds_widget, comm_id}
-use Rattle.comm_core.specs.History.{Entry, change, end, applied, replay_from, replay, IsLegal}
+use Rattle.comm_core.specs.History.{applied, replay_from, replay, IsLegal}
+use Rattle.comm_core.specs.declared.entry.Entry.{Entry}
+use Rattle.comm_core.specs.declared.entry.Entry.TheVariants.{Change, End}
 use Rattle.comm_core.specs.Reads.{state_of as state_read, state_in, state_at}
 use Rattle.comm_core.specs.Runs.{opening, HasOpened, has_ended, given, given_by, last_given, IsOpenSince, IsLeftOpen}
 use Rattle.comm_core.specs.Updates.{IsRegistered, unregistering, when_ok, opening_state, OpensWith, is_update, told_state, update_in, update, update_by, updates}
@@ -48,7 +51,7 @@ state_is a b e = ap (λ (z : Answer). z.state) (sym (same_answer a b e))
 
 -- ---- what a widget answers
 
-updated_state : (s : Members) (body : Content) (t : Option Tree) (a : Answer) → updated t s body ≡ Ok a → a.state ≡ option_map (merged s) (told_state t body)
+updated_state : (s : Members) (body : Content) (t : Option Tree) (a : Answer) → update_answer t s body ≡ Ok a → a.state ≡ option_map (merged s) (told_state t body)
 updated_state s body None a h = state_is nothing a h
 updated_state s body (Some t) a h =
     (elim (state_of t body) as (λ r. answer_with (λ u. new_state (merged s u)) r ≡ Ok a → a.state ≡ option_map (merged s) (when_ok r)) [
@@ -56,7 +59,7 @@ updated_state s body (Some t) a h =
       | Err f ↦ λ l. no_answer f a l
     ]) h
 
-handed_state : (t : Option Tree) (bs : List (List ℕ)) → (handed t bs).state ≡ None
+handed_state : (t : Option Tree) (bs : List (List ℕ)) → (custom_answer t bs).state ≡ None
 handed_state None bs = refl
 handed_state (Some t) bs = refl
 
@@ -64,27 +67,27 @@ abbrev Gave : Type 0
 Gave = Result Answer TargetFault
 
 custom_state : (t : Option Tree) (bs : List (List ℕ)) (a : Answer) (b : Bool)
-    → ◌≡◌ {A = Gave} (cond {A = Gave} b (Ok (handed t bs)) (Err UnknownMethod)) (Ok a) → a.state ≡ None
-custom_state t bs a true h = state_is (handed t bs) a h ∙ handed_state t bs
+    → ◌≡◌ {A = Gave} (cond {A = Gave} b (Ok (custom_answer t bs)) (Err UnknownMethod)) (Ok a) → a.state ≡ None
+custom_state t bs a true h = state_is (custom_answer t bs) a h ∙ handed_state t bs
 custom_state t bs a false h = no_answer UnknownMethod a h
 
 other_state : (s : Members) (t : Option Tree) (bs : List (List ℕ)) (a : Answer) (b c : Bool)
-    → ◌≡◌ {A = Gave} (cond {A = Gave} b (Ok (one_message (update_of s))) (cond {A = Gave} c (Ok (handed t bs)) (Err UnknownMethod))) (Ok a) → a.state ≡ None
+    → ◌≡◌ {A = Gave} (cond {A = Gave} b (Ok (one_message (update_of s))) (cond {A = Gave} c (Ok (custom_answer t bs)) (Err UnknownMethod))) (Ok a) → a.state ≡ None
 other_state s t bs a true c h = state_is (one_message (update_of s)) a h
 other_state s t bs a false c h = custom_state t bs a c h
 
 method_state : (s : Members) (body : Content) (now t : Option Tree) (a : Answer) (b c d : Bool)
-    → ◌≡◌ {A = Gave} (cond {A = Gave} b (updated now s body) (cond {A = Gave} c (Ok (one_message (update_of s))) (cond {A = Gave} d (Ok (handed t body.buffers)) (Err UnknownMethod)))) (Ok a)
+    → ◌≡◌ {A = Gave} (cond {A = Gave} b (update_answer now s body) (cond {A = Gave} c (Ok (one_message (update_of s))) (cond {A = Gave} d (Ok (custom_answer t body.buffers)) (Err UnknownMethod)))) (Ok a)
     → a.state ≡ option_map (merged s) (cond b (told_state now body) None)
 method_state s body now t a true c d h = updated_state s body now a h
 method_state s body now t a false c d h = other_state s t body.buffers a c d h
 
-told_by_state : (s : Members) (body : Content) (method : List ℕ) (a : Answer) → told_by method s body ≡ Ok a
+told_by_state : (s : Members) (body : Content) (method : List ℕ) (a : Answer) → method_answer method s body ≡ Ok a
     → a.state ≡ option_map (merged s) (cond (bytes_eq method (codes "update")) (told_state (get (codes "state") body.content) body) None)
 told_by_state s body method a h =
     method_state s body (get (codes "state") body.content) (get (codes "content") body.content) a (bytes_eq method (codes "update")) (bytes_eq method (codes "request_state")) (bytes_eq method (codes "custom")) h
 
-told_update : (s : Members) (body : Content) (method : Option Tree) (a : Answer) → told method s body ≡ Ok a
+told_update : (s : Members) (body : Content) (method : Option Tree) (a : Answer) → message_answer method s body ≡ Ok a
     → a.state ≡ option_map (merged s) (cond (is_update method) (told_state (get (codes "state") body.content) body) None)
 told_update s body (Some (text method)) a h = told_by_state s body method a h
 told_update s body None a h = no_answer NoMethod a h
@@ -196,7 +199,7 @@ judged_opens limit m (Open id target version body) =
     (λ _. comes_if O m (not (has m.targets target)) _ _ (λ _ i t h k. none_opens i t h)
     (λ _. comes_if O m (is_full limit m) _ _ (λ _ i t h k. none_opens i t h)
     (λ _. (
-      (λ a g i t h k. opens_told m (Open id target version body) (event.Open id version body) id target a (when_ok (opened version body)) g (λ notes w. opened_state (opened version body) a w) i t h k),
+      (λ a g i t h k. opens_told m (Open id target version body) (event.Open id version body) id target a (when_ok (widget.opening_state version body)) g (λ notes w. opened_state (widget.opening_state version body) a w) i t h k),
       (λ f s e. comes_told O m f _ s (λ i t h k. none_opens i t h) e),
     ))))
 judged_opens limit m (Msg id body) =
@@ -240,10 +243,10 @@ module _ (limit : ℕ) where
   entry_merges : (m : Machine) (e : Entry) (id target : Name) (s : Members) → Steps limit m e
       → at m.comms id ≡ Some (record { target = target; state = Some s }) → HasKind m target Widget → has_ended id target e ≡ false
       → at (applied limit m e).comms id ≡ Some (record { target = target; state = Some (merged_with s (update_by id e)) })
-  entry_merges m end id target s r there kind going = absurd (true≢false going)
-  entry_merges m (change client number call outcome reply outgoing) id target s r there kind going =
+  entry_merges m End id target s r there kind going = absurd (true≢false going)
+  entry_merges m (Change client number call outcome reply outgoing) id target s r there kind going =
       let merges = comes (Merges call m) m (judged limit m call) outcome _ (judged_merges limit m call) r.0 r.1 id target s there kind in
-      entry_keeps limit m (change client number call outcome reply outgoing) id (record { target = target; state = Some s }) r there going
+      entry_keeps limit m (Change client number call outcome reply outgoing) id (record { target = target; state = Some s }) r there going
       ∙ ap (λ o. Some (record { target = target; state = o })) (ap (λ o. newer o (Some s)) merges ∙ newer-merged s (update id call reply))
 
   run_merges : (m : Machine) (es : List Entry) (id target : Name) (s : Members) → Runs limit m es
@@ -257,8 +260,8 @@ module _ (limit : ℕ) where
 
   entry_opening : (m : Machine) (e : Entry) (id target : Name) → Steps limit m e → HasOpened e id target → HasKind m target Widget
       → (s : Members) × OpensWith e s × (given_by id e ≡ Some s)
-  entry_opening m end id target r h kind = absurd h
-  entry_opening m (change client number call outcome reply outgoing) id target r h kind =
+  entry_opening m End id target r h kind = absurd h
+  entry_opening m (Change client number call outcome reply outgoing) id target r h kind =
       comes (OpensTold call m) m (judged limit m call) outcome _ (judged_opens limit m call) r.0 r.1 id target h kind
 
   -- The run from the opener on, and what stood before it.
@@ -271,9 +274,9 @@ module _ (limit : ℕ) where
 
   pub opener_leaves : (e : Entry) (m : Machine) (id target : Name) (k : Kind) → Steps limit m e → HasOpened e id target → HasKind m target k
       → HasKind (applied limit m e) target k
-  opener_leaves end m id target k r h kind = absurd h
-  opener_leaves (change client number call outcome reply outgoing) m id target k r h kind =
-      entry_leaves limit m (change client number call outcome reply outgoing) target k r kind (opening_leaves call reply id target h)
+  opener_leaves End m id target k r h kind = absurd h
+  opener_leaves (Change client number call outcome reply outgoing) m id target k r h kind =
+      entry_leaves limit m (Change client number call outcome reply outgoing) target k r kind (opening_leaves call reply id target h)
     where
       opening_leaves : (c : Call) (r : Reply) (i t : Name) → opening c r ≡ some_pair i t → unregistering c r t ≡ false
       opening_leaves (Unregister name) r i t h = none_opens i t h

@@ -3,18 +3,16 @@ use Rattle.std.specs.Prelude.{ℕ, Bool, not, true, false, Option, Some, None}
 use Rattle.std.specs.List.{list_all}
 use Rattle.comm_targets.specs.Answers.{answer_of}
 use Rattle.comm_targets.specs.declared.kind.Kind.{Kind}
-use Rattle.comm_targets.specs.declared.kind.Kind.TheVariants.{Echo, Counter, Widget, Free}
+use Rattle.comm_targets.specs.declared.kind.Kind.TheVariants.{Free}
 use Rattle.comm_core.specs.Machine.{Registered, Machine, at}
 use Rattle.comm_core.specs.Step.{Outcome, asks}
 use Rattle.comm_core.specs.declared.question.Question.{Question}
 use Rattle.comm_core.specs.declared.call.Call.{Call}
-use Rattle.comm_core.specs.declared.call.Call.TheVariants.{Register, Open, Msg, Close, Unregister, Launch, Push, Send, HangUp}
+use Rattle.comm_core.specs.declared.call.Call.TheVariants.{Register}
 
 abbrev pub is_free : Kind → Bool
 is_free Free = true
-is_free Echo = false
-is_free Counter = false
-is_free Widget = false
+is_free kind = false
 
 -- no target is Free
 abbrev pub is_exact : Machine → Bool
@@ -34,11 +32,4 @@ exact_outcome limit m call = outcome_at m (asks limit m call)
 
 abbrev pub registers_free : Call → Bool
 registers_free (Register name kind notes) = is_free kind
-registers_free (Open id target version body) = false
-registers_free (Msg id body) = false
-registers_free (Close id) = false
-registers_free (Unregister name) = false
-registers_free (Launch uuid target state) = false
-registers_free (Push id state) = false
-registers_free (Send id body) = false
-registers_free (HangUp id) = false
+registers_free call = false

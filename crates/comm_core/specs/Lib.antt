@@ -9,6 +9,7 @@ pub mod Updates
 pub mod RunLaws
 pub mod Tables
 pub mod Kept
+pub mod Plans
 pub mod Ready
 pub mod Code
 pub mod ReadyCode

@@ -1,5 +1,5 @@
 -- What a comm manager holds: 'comms by id and targets by name', as ipykernel's comm manager does.
-use Rattle.std.specs.Prelude.{ℕ, Bool, not, List, [], Option, is_some, filter}
+use Rattle.std.specs.Prelude.{◌≡◌, ℕ, Bool, true, not, List, [], ◌∷◌, Option, None, Some, is_some, filter}
 use Rattle.std.specs.Str.{bytes_eq}
 use Rattle.std.specs.Map.{lookup, remove_entry, set_value, keys_of}
 use Rattle.comm_targets.specs.declared.kind.Kind.{Kind}
@@ -14,7 +14,7 @@ pub record Registered : Type 0 where
   pub kind : Kind
   pub notes : ℕ
 
--- Two finite maps, each key once: the targets in the order of registration, the comms in the order of opening.
+-- Two finite maps (after a legal history each key stands once): the targets in the order of registration, the comms in the order of opening.
 pub record Machine : Type 0 where
   pub targets : List (Name × Registered)
   pub comms : List (Name × Comm)
@@ -36,6 +36,17 @@ without es key = remove_entry (bytes_eq key) es
 -- another value at a key that is there
 abbrev pub with_at : {X : Type 0} → List (Name × X) → Name → X → List (Name × X)
 with_at es key x = set_value (bytes_eq key) es x
+
+-- no two keys are equal
+abbrev pub AreDistinct : {X : Type 0} → List (Name × X) → Type 0
+AreDistinct [] = Unit {0}
+AreDistinct (e ∷ es) = (at es e.0 ≡ None) × AreDistinct es
+
+-- no name and no id stands twice, and each comm's target is there
+pub record IsConsistent (m : Machine) : Type 0 where
+  pub names : AreDistinct m.targets
+  pub ids : AreDistinct m.comms
+  pub registered : (id : Name) (c : Comm) → at m.comms id ≡ Some c → has m.targets c.target ≡ true
 
 -- ---- the comms of a target
 

@@ -11,28 +11,21 @@ use Rattle.comm_core.specs.declared.comm.Comm.{Comm}
 use Rattle.comm_core.specs.declared.reply.StateAnswer.{StateAnswer}
 use Rattle.comm_core.specs.declared.reply.StateAnswer.TheVariants.{NoComm, NoState, State}
 
--- the id of a comm and the name of its target
-abbrev pub Pair : Type 0
-Pair = Name × Name
+abbrev pub info_of : Name × Comm → Info
+info_of e = record { id = e.0; target = e.1.target }
 
-abbrev pub info_of : Pair → Info
-info_of p = record { id = p.0; target = p.1 }
+-- each entry put in its place in the byte order of the keys
+abbrev pub in_order : {X : Type 0} → List (Name × X) → List (Name × X)
+in_order es = fold (λ done e. insert_entry (slice_cmp nat_cmp) done e.0 e.1) [] es
 
--- each put in its place in the byte order of the ids
-abbrev pub in_order : List Pair → List Pair
-in_order pairs = fold (λ done p. insert_entry (slice_cmp nat_cmp) done p.0 p.1) [] pairs
-
--- a comm of this target is asked for
-abbrev pub passes : Option Name → Comm → Bool
-passes None c = true
-passes (Some name) c = bytes_eq name c.target
-
-abbrev pub pairs_in : List (Name × Comm) → Option Name → List Pair
-pairs_in comms target = map (λ e. (e.0, e.1.target)) (filter (λ e. passes target e.1) comms)
+-- comms of this target are asked for
+abbrev pub passes : Option Name → Name → Bool
+passes None target = true
+passes (Some name) target = bytes_eq name target
 
 -- the open comms, those of one target where a name is given, in the byte order of their ids
 abbrev pub infos : Machine → Option Name → List Info
-infos m target = map info_of (in_order (pairs_in m.comms target))
+infos m asked = map info_of (filter (λ e. passes asked e.1.target) (in_order m.comms))
 
 abbrev pub state_in : Option Members → StateAnswer
 state_in None = NoState

@@ -16,7 +16,7 @@ use Rattle.comm_core.specs.declared.plan.Plan.{Plan}
 use Rattle.comm_core.specs.contracts.plan.Plan as plan
 use Rattle.comm_core.specs.Step.{Outcome}
 use Rattle.comm_core.specs.Tables.{Targets, Opens}
-use Rattle.comm_core.specs.Ready.{State, Readied}
+use Rattle.comm_core.specs.Ready.{CoreValue, Readied}
 
 abbrev targets_code : Coded Targets
 targets_code = coded_list (coded× (coded_list coded_ℕ) meaning_code)
@@ -24,8 +24,8 @@ targets_code = coded_list (coded× (coded_list coded_ℕ) meaning_code)
 abbrev opens_code : Coded Opens
 opens_code = coded_list (coded× (coded_list coded_ℕ) comm.the_row.coded)
 
-abbrev pub state_code : Coded State
-state_code =
+abbrev pub core_code : Coded CoreValue
+core_code =
     code_by ((ℕ × Bool) × (Targets × Opens)) (coded× (coded× coded_ℕ coded_bool) (coded× targets_code opens_code)) (λ s. ((s.limit, s.settled), (s.boxes, s.comms)))
     (λ p. record { limit = p.0.0; boxes = p.1.0; comms = p.1.1; settled = p.0.1 }) (λ _. refl)
 

@@ -6,7 +6,7 @@ use Rattle.comm_value.specs.Merge.{merged}
 use Rattle.comm_targets.specs.declared.kind.Kind.{Kind}
 use Rattle.comm_targets.specs.declared.kind.Kind.TheVariants.{Widget}
 use Rattle.comm_core.specs.Machine.{Name, Machine}
-use Rattle.comm_core.specs.History.{Entry}
+use Rattle.comm_core.specs.declared.entry.Entry.{Entry}
 use Rattle.comm_core.specs.Reads.{infos, state_in, state_of}
 use Rattle.comm_core.specs.Runs.{AsksFor, IsLeftOpen, IsOpenSince, last_given}
 use Rattle.comm_core.specs.Updates.{IsRegistered, OpensWith, is_stateless, updates}

@@ -6,14 +6,18 @@ use Rattle.std.specs.Str.{bytes_eq}
 use Rattle.comm_value.specs.Tree.{Members}
 use Rattle.comm_core.specs.Machine.{Name}
 use Rattle.comm_core.specs.Step.{Outcome, comm_id}
-use Rattle.comm_core.specs.Reads.{Pair}
-use Rattle.comm_core.specs.History.{Entry, change, end}
+use Rattle.comm_core.specs.declared.entry.Entry.{Entry}
+use Rattle.comm_core.specs.declared.entry.Entry.TheVariants.{Change, End}
 use Rattle.comm_core.specs.declared.call.Call.{Call}
 use Rattle.comm_core.specs.declared.call.Call.TheVariants.{Open, Msg, Close, Unregister, Launch, Push, HangUp}
 use Rattle.comm_core.specs.declared.reply.Reply.{Reply}
 use Rattle.comm_core.specs.declared.reply.Reply.TheVariants as reply
 
 -- ---- which comms are open
+
+-- the id of a comm and the name of its target
+abbrev pub Pair : Type 0
+Pair = Name × Name
 
 -- the id of the comm that is opened, and the name of its target
 abbrev pub opening : Call → Reply → Option Pair
@@ -22,8 +26,8 @@ opening (Launch uuid target state) reply.Launched = Some (comm_id uuid, target)
 opening call r = None
 
 abbrev pub HasOpened : Entry → Name → Name → Type 0
-HasOpened (change client number call outcome r outgoing) id target = opening call r ≡ Some (id, target)
-HasOpened end id target = ⊥
+HasOpened (Change client number call outcome r outgoing) id target = opening call r ≡ Some (id, target)
+HasOpened End id target = ⊥
 
 -- the comm of this target is closed or hung up, or its target is taken out
 abbrev pub ending : Call → Reply → Name → Name → Bool
@@ -33,8 +37,8 @@ ending (Unregister name) (reply.Unregistered ids) id target = bytes_eq name targ
 ending call r id target = false
 
 abbrev pub has_ended : Name → Name → Entry → Bool
-has_ended id target (change client number call outcome r outgoing) = ending call r id target
-has_ended id target end = true
+has_ended id target (Change client number call outcome r outgoing) = ending call r id target
+has_ended id target End = true
 
 -- The opener opened the comm towards the target, and nothing after it ended the comm.
 pub record IsOpenSince (history before : List Entry) (opener : Entry) (after : List Entry) (id target : Name) : Type 0 where
@@ -62,8 +66,8 @@ given id (Push told state) (Some (Ok answer)) = if bytes_eq id told then answer.
 given id call outcome = None
 
 abbrev pub given_by : Name → Entry → Option Members
-given_by id (change client number call outcome r outgoing) = given id call outcome
-given_by id end = None
+given_by id (Change client number call outcome r outgoing) = given id call outcome
+given_by id End = None
 
 -- the state that the comm was given last, if any
 abbrev pub last_given : Name → List Entry → Option Members

@@ -13,10 +13,9 @@ use Rattle.comm_value.specs.Paths.{paths_tree}
 use Rattle.comm_messages.specs.Content.{Content}
 use Rattle.comm_messages.specs.declared.outgoing.Outgoing.{Outgoing}
 use Rattle.comm_messages.specs.declared.outgoing.Outgoing.TheVariants as out
-use Rattle.comm_targets.specs.Meaning.{notes_after}
+use Rattle.comm_targets.specs.Meaning.{is_widget, notes_after}
 use Rattle.comm_targets.specs.Answers.{Answers, Refuses}
 use Rattle.comm_targets.specs.declared.kind.Kind.{Kind}
-use Rattle.comm_targets.specs.declared.kind.Kind.TheVariants as kind
 use Rattle.comm_targets.specs.declared.event.Event.{Event}
 use Rattle.comm_targets.specs.declared.event.Event.TheVariants as event
 use Rattle.comm_targets.specs.declared.answer.Answer.{Answer}
@@ -33,17 +32,17 @@ use Rattle.comm_core.specs.declared.reply.Reply.TheVariants as reply
 
 -- ---- how a call changes the machine
 
-abbrev pub registered : Machine → Name → Kind → ℕ → Machine
-registered m name kind notes = record { targets = m.targets ++ (name, record { kind = kind; notes = notes }) ∷ []; comms = m.comms }
+abbrev pub with_target : Machine → Name → Kind → ℕ → Machine
+with_target m name kind notes = record { targets = m.targets ++ (name, record { kind = kind; notes = notes }) ∷ []; comms = m.comms }
 
-abbrev pub unregistered : Machine → Name → Machine
-unregistered m name = record { targets = without m.targets name; comms = others name m.comms }
+abbrev pub without_target : Machine → Name → Machine
+without_target m name = record { targets = without m.targets name; comms = others name m.comms }
 
-abbrev pub opened : Machine → Name → Name → Option Members → Machine
-opened m id target state = record { targets = m.targets; comms = m.comms ++ (id, record { target = target; state = state }) ∷ [] }
+abbrev pub with_comm : Machine → Name → Name → Option Members → Machine
+with_comm m id target state = record { targets = m.targets; comms = m.comms ++ (id, record { target = target; state = state }) ∷ [] }
 
-abbrev pub closed : Machine → Name → Machine
-closed m id = record { targets = m.targets; comms = without m.comms id }
+abbrev pub without_comm : Machine → Name → Machine
+without_comm m id = record { targets = m.targets; comms = without m.comms id }
 
 -- the comm's new state, where the answer has one
 abbrev pub stated : List (Name × Comm) → Name → Name → Option Members → List (Name × Comm)
@@ -55,8 +54,8 @@ abbrev pub noted : List (Name × Registered) → Name → Event → Option Regis
 noted targets name e None = targets
 noted targets name e (Some r) = with_at targets name (record { kind = r.kind; notes = notes_after r.kind r.notes e })
 
-abbrev pub told : Machine → Name → Name → Event → Answer → Machine
-told m id target e a = record { targets = noted m.targets target e (at m.targets target); comms = stated m.comms id target a.state }
+abbrev pub with_answer : Machine → Name → Name → Event → Answer → Machine
+with_answer m id target e a = record { targets = noted m.targets target e (at m.targets target); comms = stated m.comms id target a.state }
 
 -- ---- what a call comes to before a target is asked
 
@@ -81,12 +80,6 @@ abbrev pub of_comm : Machine → Option Comm → (Comm → Verdict) → Verdict
 of_comm m None of = stays m reply.NoComm
 of_comm m (Some c) of = of c
 
-abbrev pub is_widget : Kind → Bool
-is_widget kind.Widget = true
-is_widget kind.Echo = false
-is_widget kind.Counter = false
-is_widget kind.Free = false
-
 -- a widget is registered there
 abbrev pub holds_widget : Option Registered → Bool
 holds_widget None = false
@@ -100,7 +93,7 @@ comm_id uuid = hyphenated_text lower uuid
 abbrev pub judged : ℕ → Machine → Call → Verdict
 judged limit m (Register name kind notes) =
     if has m.targets name then stays m reply.NameTaken
-    else Done reply.Registered [] (registered m name kind notes)
+    else Done reply.Registered [] (with_target m name kind notes)
 judged limit m (Open id target version body) =
     if has m.comms id then stays m reply.IdInUse
     else if not (has m.targets target) then refused_open m id refusal.NoTarget
@@ -108,9 +101,9 @@ judged limit m (Open id target version body) =
     else Asked (record { name = target; state = None; event = event.Open id version body })
 judged limit m (Msg id body) =
     of_comm m (at m.comms id) (λ c. Asked (record { name = c.target; state = c.state; event = event.Msg id body }))
-judged limit m (Close id) = of_comm m (at m.comms id) (λ c. Done reply.Closed [] (closed m id))
+judged limit m (Close id) = of_comm m (at m.comms id) (λ c. Done reply.Closed [] (without_comm m id))
 judged limit m (Unregister name) =
-    if has m.targets name then Done (reply.Unregistered (ids_of name m.comms)) (map out.Close (ids_of name m.comms)) (unregistered m name)
+    if has m.targets name then Done (reply.Unregistered (ids_of name m.comms)) (map out.Close (ids_of name m.comms)) (without_target m name)
     else stays m reply.NoTarget
 judged limit m (Launch uuid target state) =
     if has m.comms (comm_id uuid) then stays m reply.IdInUse
@@ -123,7 +116,7 @@ judged limit m (Push id state) =
     (λ c. if holds_widget (at m.targets c.target) then Asked (record { name = c.target; state = c.state; event = event.Push id state })
     else stays m reply.NotWidget)
 judged limit m (Send id body) = of_comm m (at m.comms id) (λ c. Done (reply.Delivered None) (out.Msg id body ∷ []) m)
-judged limit m (HangUp id) = of_comm m (at m.comms id) (λ c. Done reply.Closed (out.Close id ∷ []) (closed m id))
+judged limit m (HangUp id) = of_comm m (at m.comms id) (λ c. Done reply.Closed (out.Close id ∷ []) (without_comm m id))
 
 -- ---- the step
 
@@ -147,21 +140,21 @@ opening_of s = record {
 }
 
 abbrev pub answered : Machine → Name → Event → Answer → Stepped
-answered m target (event.Open id version body) a = record { reply = reply.Opened; outgoing = sent id a.messages; next = opened m id target a.state }
+answered m target (event.Open id version body) a = record { reply = reply.Opened; outgoing = sent id a.messages; next = with_comm m id target a.state }
 answered m target (event.Msg id body) a = record {
   reply = reply.Delivered a.custom;
   outgoing = sent id a.messages;
-  next = told m id target (event.Msg id body) a;
+  next = with_answer m id target (event.Msg id body) a;
 }
 answered m target (event.Launch id state) a = record {
   reply = reply.Launched;
   outgoing = out.Open id target (codes "2.0.0") (opening_of state) ∷ [];
-  next = opened m id target a.state;
+  next = with_comm m id target a.state;
 }
 answered m target (event.Push id state) a = record {
   reply = reply.Delivered None;
   outgoing = sent id a.messages;
-  next = told m id target (event.Push id state) a;
+  next = with_answer m id target (event.Push id state) a;
 }
 
 -- a widget refuses neither of the kernel's own events

@@ -5,12 +5,14 @@ use Rattle.std.specs.Str.{bytes_eq}
 use Rattle.comm_value.specs.Tree.{Tree, text, Members}
 use Rattle.comm_value.specs.Node.{get}
 use Rattle.comm_messages.specs.Content.{Content}
-use Rattle.comm_targets.specs.Widget.{opened, state_of}
+use Rattle.comm_targets.specs.Widget as widget
+use Rattle.comm_targets.specs.Widget.{state_of}
 use Rattle.comm_targets.specs.declared.kind.Kind.{Kind}
-use Rattle.comm_targets.specs.declared.kind.Kind.TheVariants.{Echo, Counter, Widget, Free}
+use Rattle.comm_targets.specs.declared.kind.Kind.TheVariants.{Echo, Counter}
 use Rattle.comm_targets.specs.declared.fault.TargetFault.{TargetFault}
 use Rattle.comm_core.specs.Machine.{Name}
-use Rattle.comm_core.specs.History.{Entry, change, end}
+use Rattle.comm_core.specs.declared.entry.Entry.{Entry}
+use Rattle.comm_core.specs.declared.entry.Entry.TheVariants.{Change, End}
 use Rattle.comm_core.specs.declared.call.Call.{Call}
 use Rattle.comm_core.specs.declared.call.Call.TheVariants.{Register, Open, Msg, Unregister, Launch, Push}
 use Rattle.comm_core.specs.declared.reply.Reply.{Reply}
@@ -24,8 +26,8 @@ registering (Register name kind notes) reply.Registered = Some (name, kind)
 registering call r = None
 
 abbrev pub HasRegistered : Entry → Name → Kind → Type 0
-HasRegistered (change client number call outcome r outgoing) name kind = registering call r ≡ Some (name, kind)
-HasRegistered end name kind = ⊥
+HasRegistered (Change client number call outcome r outgoing) name kind = registering call r ≡ Some (name, kind)
+HasRegistered End name kind = ⊥
 
 -- the target is taken out
 abbrev pub unregistering : Call → Reply → Name → Bool
@@ -33,8 +35,8 @@ unregistering (Unregister taken) (reply.Unregistered ids) name = bytes_eq taken 
 unregistering call r name = false
 
 abbrev pub has_unregistered : Name → Entry → Bool
-has_unregistered name (change client number call outcome r outgoing) = unregistering call r name
-has_unregistered name end = true
+has_unregistered name (Change client number call outcome r outgoing) = unregistering call r name
+has_unregistered name End = true
 
 -- A target of this kind was registered under the name, and nothing has taken it out since.
 pub record IsRegistered (history : List Entry) (name : Name) (kind : Kind) : Type 0 where
@@ -49,8 +51,7 @@ pub record IsRegistered (history : List Entry) (name : Name) (kind : Kind) : Typ
 abbrev pub is_stateless : Kind → Bool
 is_stateless Echo = true
 is_stateless Counter = true
-is_stateless Widget = false
-is_stateless Free = false
+is_stateless kind = false
 
 -- ---- what a widget is told ('Jupyter widgets messaging protocol' 2.0.0)
 
@@ -60,13 +61,13 @@ when_ok (Err f) = None
 
 -- the state that the call opens a widget's comm with ("Instantiating a widget object")
 abbrev pub opening_state : Call → Option Members
-opening_state (Open id target version body) = when_ok (opened version body)
+opening_state (Open id target version body) = when_ok (widget.opening_state version body)
 opening_state (Launch uuid target state) = Some state
 opening_state call = None
 
 abbrev pub OpensWith : Entry → Members → Type 0
-OpensWith (change client number call outcome r outgoing) s = opening_state call ≡ Some s
-OpensWith end s = ⊥
+OpensWith (Change client number call outcome r outgoing) s = opening_state call ≡ Some s
+OpensWith End s = ⊥
 
 abbrev pub is_update : Option Tree → Bool
 is_update (Some (text method)) = bytes_eq method (codes "update")
@@ -87,8 +88,8 @@ update id (Push told state) (reply.Delivered custom) = if bytes_eq id told then 
 update id call r = None
 
 abbrev pub update_by : Name → Entry → Option Members
-update_by id (change client number call outcome r outgoing) = update id call r
-update_by id end = None
+update_by id (Change client number call outcome r outgoing) = update id call r
+update_by id End = None
 
 -- the updates of the comm, in order
 abbrev pub updates : Name → List Entry → List Members

@@ -3,8 +3,9 @@ ghost use Rattle.std.specs.Prelude.{◌≡◌, ℕ, Bool, IfOk, OnErr, None, Som
 ghost use Rattle.comm_targets.specs.declared.event.Event.{Event};
 ghost use Rattle.comm_core.specs.Machine.{Machine};
 ghost use Rattle.comm_core.specs.Step.{answered, refused};
-ghost use Rattle.comm_core.specs.Tables.{machine_of};
-ghost use Rattle.comm_core.specs.Ready.{Agrees, HaveStaged, CanAsk, HasAnswered, HasCome, HandsNothingIn, bare, is_memory};
+ghost use Rattle.comm_core.specs.Tables.{machine_of, Agrees, HaveStaged, unstaged};
+ghost use Rattle.comm_core.specs.Ready.{HandsNothingIn};
+ghost use Rattle.comm_core.specs.Plans.{CanAsk, CanRefuse, HasAnswered, HasCome, is_memory};
 
 use crate::boxes::Boxes;
 use crate::call::Call;
@@ -27,7 +28,7 @@ pub fn comes_of<T: Target>(
     call: Call,
 ) -> Result<Came, AllocError>
     requires none { HaveStaged boxes.old.all (λ _. None) }
-    requires agrees { Agrees (bare boxes.old.all) comms.now.all }
+    requires agrees { Agrees (unstaged boxes.old.all) comms.now.all }
     requires call { HandsNothingIn call }
     ensures came { IfOk result (λ r. HasCome limit boxes.old.all comms.now.all call r.outcome r.reply r.outgoing.items r.plan boxes.new.all) }
     ensures err { OnErr result (boxes.new.all ≡ boxes.old.all) }
@@ -52,7 +53,7 @@ fn ask<T: Target>(
     question: Question,
 ) -> Result<Came, AllocError>
     requires none { HaveStaged boxes.old.all (λ _. None) }
-    requires agrees { Agrees (bare boxes.old.all) comms.now.all }
+    requires agrees { Agrees (unstaged boxes.old.all) comms.now.all }
     requires asked { CanAsk boxes.old.all comms.now.all question }
     ensures came { IfOk result (λ r. HasAnswered boxes.old.all comms.now.all question r.outcome r.reply r.outgoing.items r.plan boxes.new.all) }
     ensures err { OnErr result (boxes.new.all ≡ boxes.old.all) }
@@ -126,6 +127,7 @@ fn refused(
     event: &Event,
     fault: TargetFault,
 ) -> Result<(Reply, Vec<Outgoing>), AllocError>
+    requires { CanRefuse event.now }
     ensures { IfOk result (λ r. (m : Machine) → refused m event.now fault ≡ Some (record { reply = r.0; outgoing = r.1.items; next = m })) }
 {
     match event {
@@ -134,8 +136,8 @@ fn refused(
             closing(alloc, id)?,
         )),
         Event::Msg { .. } => Ok((Reply::Fault(fault), Vec::new(alloc))),
-        Event::Launch { .. } => Err(AllocError),
-        Event::Push { .. } => Err(AllocError),
+        Event::Launch { .. } => unreachable!(),
+        Event::Push { .. } => unreachable!(),
     }
 }
 

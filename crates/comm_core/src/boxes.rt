@@ -1,13 +1,12 @@
 //! The targets by name.
 ghost use Rattle.std.specs.Prelude.{◌≡◌, ◌⊎◌, ◌<◌, ◌++◌, true, [], ◌∷◌, IfOk, IfErr, OnOk, OnErr, IsSome, None, Some, option_map, position, length};
 ghost use Rattle.std.specs.Str.{bytes_eq};
-ghost use Rattle.comm_targets.specs.Meaning.{Meaning, IsAskable, is_open, stages, commits, abandons, closes};
+ghost use Rattle.comm_targets.specs.Meaning.{Meaning, IsAskable, is_open, is_widget, after_prepare, after_commit, after_abandon, after_close};
 ghost use Rattle.comm_targets.specs.Answers.{Answers, Refuses};
-ghost use Rattle.comm_targets.specs.declared.stage.Stage.{Stage};
+ghost use Rattle.comm_targets.specs.declared.staged_event.StagedEvent.{StagedEvent};
 ghost use Rattle.comm_core.specs.Machine.{at, has, without, with_at};
-ghost use Rattle.comm_core.specs.Step.{holds_widget, is_widget};
-ghost use Rattle.comm_core.specs.Tables.{targets_of, entry_of};
-ghost use Rattle.comm_core.specs.Ready.{AllAgree};
+ghost use Rattle.comm_core.specs.Step.{holds_widget};
+ghost use Rattle.comm_core.specs.Tables.{targets_of, entry_of, BoxesMean};
 
 use crate::comms::Comms;
 use comm_targets::{Answer, Event, Held, Kind, Target, TargetFault};
@@ -109,7 +108,7 @@ impl<T: Target> Boxes<T> {
         requires here { IsSome (at self.old.all name.now) }
         requires unstaged { (m : Meaning) → at self.old.all name.now ≡ Some m → m.staged ≡ None }
         requires askable { (m : Meaning) → at self.old.all name.now ≡ Some m → IsAskable m event.now }
-        ensures staged { (m : Meaning) → at self.old.all name.now ≡ Some m → IfOk result (λ a. self.new.all ≡ with_at self.old.all name.now (stages m event.now a)) }
+        ensures staged { (m : Meaning) → at self.old.all name.now ≡ Some m → IfOk result (λ a. self.new.all ≡ with_at self.old.all name.now (after_prepare m event.now a)) }
         ensures answers { (m : Meaning) → at self.old.all name.now ≡ Some m → IfOk result (λ a. Answers m.kind m.notes (option_map (λ d. d.now) now.entry) event.now a) }
         ensures unchanged { OnErr result (self.new.all ≡ self.old.all) }
         ensures refuses { (m : Meaning) → at self.old.all name.now ≡ Some m → IfErr result (λ f. (f ≡ TargetFault.Memory) ⊎ Refuses m.kind m.notes (option_map (λ d. d.now) now.entry) event.now f) }
@@ -117,14 +116,14 @@ impl<T: Target> Boxes<T> {
     {
         match self.place_of(name) {
             Some(i) => self.all[i].held.prepare(event, now),
-            None => Err(TargetFault::Memory),
+            None => unreachable!(),
         }
     }
 
     /// Makes the staged change of the target of this name.
     pub fn commit(&mut self, name: &Text)
         requires staged { (m : Meaning) → at self.old.all name.now ≡ Some m → IsSome m.staged }
-        ensures all { (m : Meaning) (s : Stage) → at self.old.all name.now ≡ Some m → m.staged ≡ Some s → self.new.all ≡ with_at self.old.all name.now (commits m s) }
+        ensures all { (m : Meaning) (s : StagedEvent) → at self.old.all name.now ≡ Some m → m.staged ≡ Some s → self.new.all ≡ with_at self.old.all name.now (after_commit m s) }
         ensures room { self.new.room ≡ self.old.room }
     {
         if let Some(i) = self.place_of(name) {
@@ -135,7 +134,7 @@ impl<T: Target> Boxes<T> {
     /// Drops the staged change of the target of this name.
     pub fn abandon(&mut self, name: &Text)
         requires staged { (m : Meaning) → at self.old.all name.now ≡ Some m → IsSome m.staged }
-        ensures all { (m : Meaning) → at self.old.all name.now ≡ Some m → self.new.all ≡ with_at self.old.all name.now (abandons m) }
+        ensures all { (m : Meaning) → at self.old.all name.now ≡ Some m → self.new.all ≡ with_at self.old.all name.now (after_abandon m) }
         ensures room { self.new.room ≡ self.old.room }
     {
         if let Some(i) = self.place_of(name) {
@@ -147,7 +146,7 @@ impl<T: Target> Boxes<T> {
     pub fn close(&mut self, name: &Text, id: &Text)
         requires unstaged { (m : Meaning) → at self.old.all name.now ≡ Some m → m.staged ≡ None }
         requires opened { (m : Meaning) → at self.old.all name.now ≡ Some m → is_open m id.now ≡ true }
-        ensures all { (m : Meaning) → at self.old.all name.now ≡ Some m → self.new.all ≡ with_at self.old.all name.now (closes m id.now) }
+        ensures all { (m : Meaning) → at self.old.all name.now ≡ Some m → self.new.all ≡ with_at self.old.all name.now (after_close m id.now) }
         ensures room { self.new.room ≡ self.old.room }
     {
         if let Some(i) = self.place_of(name) {
@@ -189,7 +188,7 @@ impl<T: Target> Boxes<T> {
 
     /// Closes each comm in its target, then ends the target, and says how many targets it ended. It takes no memory.
     pub fn end_all(mut self, comms: &Comms) -> usize
-        requires { AllAgree self.all comms.now.all }
+        requires { BoxesMean self.all comms.now.all }
         ensures { result ≡ length self.all }
     {
         let ended = self.len();

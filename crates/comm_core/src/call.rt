@@ -1,6 +1,9 @@
+ghost use Rattle.std.specs.Prelude.{◌≡◌, IfOk};
+
 use comm_messages::Body;
 use comm_targets::Kind;
 use comm_value::{Dict, Text};
+use std::alloc::{AllocError, Global};
 use uuid::Uuid;
 
 /// A change that is asked of a manager.
@@ -56,4 +59,59 @@ pub enum Call {
     HangUp {
         id: Text,
     },
+}
+
+impl Call {
+    /// The same call. Its texts, states and buffers are shared.
+    pub fn copy(&self, alloc: Global) -> Result<Call, AllocError>
+        ensures { IfOk result (λ c. c ≡ self.now) }
+    {
+        match self {
+            Call::Register { name, kind, notes } => Ok(Call::Register {
+                name: name.copy()?,
+                kind: *kind,
+                notes: *notes,
+            }),
+            Call::Open {
+                id,
+                target,
+                version,
+                body,
+            } => Ok(Call::Open {
+                id: id.copy()?,
+                target: target.copy()?,
+                version: version_copy(version)?,
+                body: body.copy(alloc)?,
+            }),
+            Call::Msg { id, body } => Ok(Call::Msg {
+                id: id.copy()?,
+                body: body.copy(alloc)?,
+            }),
+            Call::Close { id } => Ok(Call::Close { id: id.copy()? }),
+            Call::Unregister { name } => Ok(Call::Unregister { name: name.copy()? }),
+            Call::Launch { id, target, state } => Ok(Call::Launch {
+                id: *id,
+                target: target.copy()?,
+                state: state.copy()?,
+            }),
+            Call::Push { id, state } => Ok(Call::Push {
+                id: id.copy()?,
+                state: state.copy()?,
+            }),
+            Call::Send { id, body } => Ok(Call::Send {
+                id: id.copy()?,
+                body: body.copy(alloc)?,
+            }),
+            Call::HangUp { id } => Ok(Call::HangUp { id: id.copy()? }),
+        }
+    }
+}
+
+fn version_copy(version: &Option<Text>) -> Result<Option<Text>, AllocError>
+    ensures { IfOk result (λ v. v ≡ version.now) }
+{
+    match version {
+        Some(version) => Ok(Some(version.copy()?)),
+        None => Ok(None),
+    }
 }

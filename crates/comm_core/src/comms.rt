@@ -3,8 +3,8 @@ ghost use Rattle.std.specs.Prelude.{◌≡◌, ◌<◌, ◌≤◌, ◌++◌, tru
 ghost use Rattle.std.specs.Str.{bytes_eq};
 ghost use Rattle.comm_targets.specs.Meaning.{Meaning, IsIdle};
 ghost use Rattle.comm_core.specs.Machine.{at, has, without, with_at, ids_of, others};
-ghost use Rattle.comm_core.specs.Reads.{in_order, pairs_in};
-ghost use Rattle.comm_core.specs.Kept.{listing};
+ghost use Rattle.comm_core.specs.Reads.{in_order};
+ghost use Rattle.comm_core.specs.Kept.{listing, pairs_of};
 ghost use Rattle.comm_core.specs.Tables.{emptied};
 ghost use Rattle.comm_core.specs.declared.comm.Comm.{Comm};
 
@@ -153,7 +153,7 @@ impl Comms {
 
     /// The ids with the names of their targets, in the byte order of the ids.
     fn in_order(&self, alloc: Global) -> Result<BTreeMap<Text, Text>, AllocError>
-        ensures { IfOk result (λ m. m.entries ≡ in_order (pairs_in self.now.all None)) }
+        ensures { IfOk result (λ m. m.entries ≡ in_order (pairs_of self.now.all)) }
     {
         let mut all = BTreeMap::new(alloc);
         for i in 0..self.all.places() {

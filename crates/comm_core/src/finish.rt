@@ -1,10 +1,10 @@
 //! How the plan of a call is carried out, and how it is taken back.
 ghost use Rattle.std.specs.Prelude.{◌≡◌, ◌<◌, Option, None, Some, Ok, option_map};
 ghost use Rattle.comm_targets.specs.Meaning.{Meaning};
-ghost use Rattle.comm_core.specs.Machine.{at};
-ghost use Rattle.comm_core.specs.Step.{Outcome, answered, closed, stated, unregistered};
-ghost use Rattle.comm_core.specs.Tables.{Opens, emptied, machine_of};
-ghost use Rattle.comm_core.specs.Ready.{AreDistinct, Agrees, Carried, HaveStaged, Suits, IdleWhere, bare, planned, staged_by, ended_by, back_by};
+ghost use Rattle.comm_core.specs.Machine.{at, AreDistinct};
+ghost use Rattle.comm_core.specs.Step.{Outcome, answered, without_comm, stated, without_target};
+ghost use Rattle.comm_core.specs.Tables.{Opens, emptied, machine_of, Agrees, HaveStaged, IdleWhere, unstaged};
+ghost use Rattle.comm_core.specs.Plans.{Carried, Suits, planned, staged_by, ended_by, back_by};
 ghost use Rattle.comm_core.specs.declared.comm.Comm.{Comm};
 ghost use Rattle.comm_core.specs.declared.plan.Plan.TheVariants.{Commit};
 
@@ -42,9 +42,9 @@ pub fn make<T: Target>(
 ) -> Made<T>
     requires room { 0 < boxes.old.room }
     requires space { 0 < comms.old.room }
-    requires agrees { Agrees (bare boxes.old.all) comms.old.all }
+    requires agrees { Agrees (unstaged boxes.old.all) comms.old.all }
     requires staged { HaveStaged boxes.old.all (staged_by plan outcome) }
-    requires suits { Suits (bare boxes.old.all) comms.old.all (option_map T.means boxed) plan outcome }
+    requires suits { Suits (unstaged boxes.old.all) comms.old.all (option_map T.means boxed) plan outcome }
     ensures carried { Carried boxes.new.all comms.new.all (planned (machine_of boxes.old.all comms.old.all) plan outcome) }
     ensures ended { result.ended ≡ ended_by boxes.old.all plan }
     ensures idle { IdleWhere result.ended }
@@ -81,9 +81,9 @@ pub fn make<T: Target>(
 /// Makes the change that the target staged, and notes its comm.
 fn commit<T: Target>(boxes: &mut Boxes<T>, comms: &mut Comms, question: Question, answer: Answer)
     requires space { 0 < comms.old.room }
-    requires agrees { Agrees (bare boxes.old.all) comms.old.all }
+    requires agrees { Agrees (unstaged boxes.old.all) comms.old.all }
     requires staged { HaveStaged boxes.old.all (staged_by (Commit question) (Some (Ok answer))) }
-    requires suits { Suits (bare boxes.old.all) comms.old.all None (Commit question) (Some (Ok answer)) }
+    requires suits { Suits (unstaged boxes.old.all) comms.old.all None (Commit question) (Some (Ok answer)) }
     ensures { Carried boxes.new.all comms.new.all (answered (machine_of boxes.old.all comms.old.all) question.name question.event answer).next }
 {
     boxes.commit(&question.name);
@@ -124,9 +124,9 @@ fn note_state(comms: &mut Comms, id: &Text, state: Option<Dict>)
 
 /// Takes a comm out, in its target first.
 fn close<T: Target>(boxes: &mut Boxes<T>, comms: &mut Comms, id: &Text)
-    requires agrees { Agrees (bare boxes.old.all) comms.old.all }
+    requires agrees { Agrees (unstaged boxes.old.all) comms.old.all }
     requires none { HaveStaged boxes.old.all (λ _. None) }
-    ensures { Carried boxes.new.all comms.new.all (closed (machine_of boxes.old.all comms.old.all) id.now) }
+    ensures { Carried boxes.new.all comms.new.all (without_comm (machine_of boxes.old.all comms.old.all) id.now) }
 {
     if let Some(comm) = comms.take(id) {
         boxes.close(&comm.target, id);
@@ -135,9 +135,9 @@ fn close<T: Target>(boxes: &mut Boxes<T>, comms: &mut Comms, id: &Text)
 
 /// Takes a target out with its comms, which are closed in it.
 fn unregister<T: Target>(boxes: &mut Boxes<T>, comms: &mut Comms, name: &Text) -> Option<Held<T>>
-    requires agrees { Agrees (bare boxes.old.all) comms.old.all }
+    requires agrees { Agrees (unstaged boxes.old.all) comms.old.all }
     requires none { HaveStaged boxes.old.all (λ _. None) }
-    ensures tables { Carried boxes.new.all comms.new.all (unregistered (machine_of boxes.old.all comms.old.all) name.now) }
+    ensures tables { Carried boxes.new.all comms.new.all (without_target (machine_of boxes.old.all comms.old.all) name.now) }
     ensures ended { result ≡ option_map emptied (at boxes.old.all name.now) }
     ensures idle { IdleWhere result }
 {
@@ -154,9 +154,9 @@ fn unregister<T: Target>(boxes: &mut Boxes<T>, comms: &mut Comms, name: &Text) -
 
 /// Takes back what the plan's target staged.
 pub fn unmake<T: Target>(boxes: &mut Boxes<T>, plan: &Plan)
-    requires distinct { AreDistinct (bare boxes.old.all) }
-    requires staged { (c : Opens) × (boxed : Option Meaning) × (o : Option Outcome) × Suits (bare boxes.old.all) c boxed plan.now o × HaveStaged boxes.old.all (staged_by plan.now o) }
-    ensures { boxes.new.all ≡ bare boxes.old.all }
+    requires distinct { AreDistinct (unstaged boxes.old.all) }
+    requires staged { (c : Opens) × (boxed : Option Meaning) × (o : Option Outcome) × Suits (unstaged boxes.old.all) c boxed plan.now o × HaveStaged boxes.old.all (staged_by plan.now o) }
+    ensures { boxes.new.all ≡ unstaged boxes.old.all }
 {
     match plan {
         Plan::Commit(question) => boxes.abandon(&question.name),

@@ -1,4 +1,4 @@
-ghost use Rattle.std.specs.Prelude.{◌≡◌, ◌++◌, [], ◌∷◌, OnOk, OnErr};
+ghost use Rattle.std.specs.Prelude.{◌≡◌, ◌++◌, [], ◌∷◌, IfOk, OnOk, OnErr};
 
 use comm_value::Text;
 use std::alloc::{AllocError, Global};
@@ -41,5 +41,16 @@ impl Ids {
         ensures { result.now ≡ self.now }
     {
         self.all.as_slice()
+    }
+
+    /// The same ids, shared.
+    pub fn copy(&self, alloc: Global) -> Result<Ids, AllocError>
+        ensures { IfOk result (λ i. i ≡ self.now) }
+    {
+        let mut all = Vec::with_capacity(alloc, self.all.len())?;
+        for id in &self.all {
+            all.push(id.copy()?)?;
+        }
+        Ok(Ids { all })
     }
 }

@@ -3,8 +3,9 @@ ghost use Rattle.std.specs.Prelude.{◌≡◌, ℕ, List, IfOk, None};
 ghost use Rattle.comm_targets.specs.declared.event.Event.TheVariants as event;
 ghost use Rattle.comm_core.specs.Machine.{Machine};
 ghost use Rattle.comm_core.specs.Step.{judged, stays, refused_open, comm_id};
-ghost use Rattle.comm_core.specs.Tables.{Targets, Opens, machine_of};
-ghost use Rattle.comm_core.specs.Ready.{Agrees, bare, verdict_of, ended_of, Stands, HandsNothingIn};
+ghost use Rattle.comm_core.specs.Tables.{Targets, Opens, machine_of, Agrees, unstaged, ended_of};
+ghost use Rattle.comm_core.specs.Ready.{HandsNothingIn};
+ghost use Rattle.comm_core.specs.Plans.{verdict_of, IsFeasible};
 ghost use Rattle.comm_core.specs.declared.call.Call.{Call};
 ghost use Rattle.comm_core.specs.declared.call.Call.TheVariants as call;
 
@@ -31,9 +32,9 @@ pub fn judge<T: Target>(
     call: Call,
 ) -> Result<Judged, AllocError>
     requires call { HandsNothingIn call }
-    requires agrees { Agrees (bare boxes.now.all) comms.now.all }
+    requires agrees { Agrees (unstaged boxes.now.all) comms.now.all }
     ensures verdict { IfOk result (λ j. verdict_of (machine_of boxes.now.all comms.now.all) j ≡ judged limit (machine_of boxes.now.all comms.now.all) call) }
-    ensures stands { IfOk result (λ j. Stands boxes.now.all comms.now.all call j) }
+    ensures feasible { IfOk result (λ j. IsFeasible boxes.now.all comms.now.all call j) }
 {
     match call {
         Call::Open {
@@ -53,14 +54,14 @@ pub fn judge<T: Target>(
         Call::Push { id, state } => judge_push(boxes, comms, alloc, id, state),
         Call::Send { id, body } => judge_send(comms, alloc, id, body),
         Call::HangUp { id } => judge_hang_up(comms, alloc, id),
-        Call::Register { .. } => Err(AllocError),
+        Call::Register { .. } => unreachable!(),
     }
 }
 
 /// The reply to a call that changes nothing and sends nothing.
 fn stays(alloc: Global, reply: Reply) -> Judged
     ensures verdict { (m : Machine) → verdict_of m result ≡ stays m reply }
-    ensures stands { (boxes : Targets) (comms : Opens) (c : Call) → ended_of boxes c ≡ None → Stands boxes comms c result }
+    ensures feasible { (boxes : Targets) (comms : Opens) (c : Call) → ended_of boxes c ≡ None → IsFeasible boxes comms c result }
 {
     Judged::Done(reply, Vec::new(alloc), Plan::Nothing)
 }
@@ -68,7 +69,7 @@ fn stays(alloc: Global, reply: Reply) -> Judged
 /// The reply to an open that is refused before its target is asked.
 fn refused_open(alloc: Global, id: Text, why: Refusal) -> Result<Judged, AllocError>
     ensures verdict { IfOk result (λ j. (m : Machine) → verdict_of m j ≡ refused_open m id why) }
-    ensures stands { IfOk result (λ j. (boxes : Targets) (comms : Opens) (c : Call) → ended_of boxes c ≡ None → Stands boxes comms c j) }
+    ensures feasible { IfOk result (λ j. (boxes : Targets) (comms : Opens) (c : Call) → ended_of boxes c ≡ None → IsFeasible boxes comms c j) }
 {
     let outgoing = one(alloc, Outgoing::Close { id })?;
     Ok(Judged::Done(Reply::OpenRefused(why), outgoing, Plan::Nothing))
@@ -85,7 +86,7 @@ fn judge_open<T: Target>(
     body: Body,
 ) -> Result<Judged, AllocError>
     ensures verdict { IfOk result (λ j. verdict_of (machine_of boxes.now.all comms.now.all) j ≡ judged limit (machine_of boxes.now.all comms.now.all) (call.Open id target version body)) }
-    ensures stands { IfOk result (λ j. Stands boxes.now.all comms.now.all (call.Open id target version body) j) }
+    ensures feasible { IfOk result (λ j. IsFeasible boxes.now.all comms.now.all (call.Open id target version body) j) }
 {
     if comms.contains(&id) {
         return Ok(stays(alloc, Reply::IdInUse));
@@ -111,9 +112,9 @@ fn judge_msg<T: Target>(
     id: Text,
     body: Body,
 ) -> Result<Judged, AllocError>
-    requires { Agrees (bare boxes.now.all) comms.now.all }
+    requires { Agrees (unstaged boxes.now.all) comms.now.all }
     ensures verdict { (limit : ℕ) → IfOk result (λ j. verdict_of (machine_of boxes.now.all comms.now.all) j ≡ judged limit (machine_of boxes.now.all comms.now.all) (call.Msg id body)) }
-    ensures stands { IfOk result (λ j. Stands boxes.now.all comms.now.all (call.Msg id body) j) }
+    ensures feasible { IfOk result (λ j. IsFeasible boxes.now.all comms.now.all (call.Msg id body) j) }
 {
     let Some(comm) = comms.get(&id) else {
         return Ok(stays(alloc, Reply::NoComm));
@@ -139,7 +140,7 @@ pub fn state_copy(comm: &Comm) -> Result<Option<Dict>, AllocError>
 
 fn judge_close(comms: &Comms, alloc: Global, id: Text) -> Judged
     ensures verdict { (limit : ℕ) (boxes : Targets) → verdict_of (machine_of boxes comms.now.all) result ≡ judged limit (machine_of boxes comms.now.all) (call.Close id) }
-    ensures stands { (boxes : Targets) → Stands boxes comms.now.all (call.Close id) result }
+    ensures feasible { (boxes : Targets) → IsFeasible boxes comms.now.all (call.Close id) result }
 {
     if !comms.contains(&id) {
         return stays(alloc, Reply::NoComm);
@@ -154,7 +155,7 @@ fn judge_unregister<T: Target>(
     name: Text,
 ) -> Result<Judged, AllocError>
     ensures verdict { (limit : ℕ) → IfOk result (λ j. verdict_of (machine_of boxes.now.all comms.now.all) j ≡ judged limit (machine_of boxes.now.all comms.now.all) (call.Unregister name)) }
-    ensures stands { IfOk result (λ j. Stands boxes.now.all comms.now.all (call.Unregister name) j) }
+    ensures feasible { IfOk result (λ j. IsFeasible boxes.now.all comms.now.all (call.Unregister name) j) }
 {
     if !boxes.contains(&name) {
         return Ok(stays(alloc, Reply::NoTarget));
@@ -178,7 +179,7 @@ fn judge_launch<T: Target>(
     state: Dict,
 ) -> Judged
     ensures verdict { (uuid : List ℕ) → id ≡ comm_id uuid → verdict_of (machine_of boxes.now.all comms.now.all) result ≡ judged limit (machine_of boxes.now.all comms.now.all) (call.Launch uuid target state) }
-    ensures stands { (uuid : List ℕ) → Stands boxes.now.all comms.now.all (call.Launch uuid target state) result }
+    ensures feasible { (uuid : List ℕ) → IsFeasible boxes.now.all comms.now.all (call.Launch uuid target state) result }
 {
     if comms.contains(&id) {
         return stays(alloc, Reply::IdInUse);
@@ -206,9 +207,9 @@ fn judge_push<T: Target>(
     id: Text,
     state: Dict,
 ) -> Result<Judged, AllocError>
-    requires { Agrees (bare boxes.now.all) comms.now.all }
+    requires { Agrees (unstaged boxes.now.all) comms.now.all }
     ensures verdict { (limit : ℕ) → IfOk result (λ j. verdict_of (machine_of boxes.now.all comms.now.all) j ≡ judged limit (machine_of boxes.now.all comms.now.all) (call.Push id state)) }
-    ensures stands { IfOk result (λ j. Stands boxes.now.all comms.now.all (call.Push id state) j) }
+    ensures feasible { IfOk result (λ j. IsFeasible boxes.now.all comms.now.all (call.Push id state) j) }
 {
     let Some(comm) = comms.get(&id) else {
         return Ok(stays(alloc, Reply::NoComm));
@@ -227,7 +228,7 @@ fn judge_push<T: Target>(
 
 fn judge_send(comms: &Comms, alloc: Global, id: Text, body: Body) -> Result<Judged, AllocError>
     ensures verdict { (limit : ℕ) (boxes : Targets) → IfOk result (λ j. verdict_of (machine_of boxes comms.now.all) j ≡ judged limit (machine_of boxes comms.now.all) (call.Send id body)) }
-    ensures stands { (boxes : Targets) → IfOk result (λ j. Stands boxes comms.now.all (call.Send id body) j) }
+    ensures feasible { (boxes : Targets) → IfOk result (λ j. IsFeasible boxes comms.now.all (call.Send id body) j) }
 {
     if !comms.contains(&id) {
         return Ok(stays(alloc, Reply::NoComm));
@@ -238,7 +239,7 @@ fn judge_send(comms: &Comms, alloc: Global, id: Text, body: Body) -> Result<Judg
 
 fn judge_hang_up(comms: &Comms, alloc: Global, id: Text) -> Result<Judged, AllocError>
     ensures verdict { (limit : ℕ) (boxes : Targets) → IfOk result (λ j. verdict_of (machine_of boxes comms.now.all) j ≡ judged limit (machine_of boxes comms.now.all) (call.HangUp id)) }
-    ensures stands { (boxes : Targets) → IfOk result (λ j. Stands boxes comms.now.all (call.HangUp id) j) }
+    ensures feasible { (boxes : Targets) → IfOk result (λ j. IsFeasible boxes comms.now.all (call.HangUp id) j) }
 {
     if !comms.contains(&id) {
         return Ok(stays(alloc, Reply::NoComm));

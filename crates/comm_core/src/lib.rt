@@ -11,6 +11,7 @@ mod boxes;
 mod call;
 mod comm;
 mod comms;
+mod entry;
 mod finish;
 mod ids;
 mod infos;
@@ -23,17 +24,22 @@ mod plan;
 mod question;
 mod reads;
 mod reply;
+mod unavailable;
 
 pub use call::Call;
 pub use comm::Comm;
+pub use entry::{Entry, Outgoings};
 pub use ids::Ids;
 pub use laws::{
-    comms_are_listed_in_the_order_of_ids, comms_have_the_state_that_they_were_given_last,
+    an_end_comes_last, comms_are_listed_in_the_order_of_ids,
+    comms_have_the_state_that_they_were_given_last, comms_in_order_are_the_comms,
     comms_that_are_listed_were_left_open, exact_machines_leave_no_choice, legal_histories_grow,
-    prefixes_of_legal_histories_are_legal, refused_calls_change_nothing, some_kinds_have_no_states,
-    steps_keep_machines_exact, widgets_have_their_opening_state_merged_with_their_updates,
+    nothing_follows_an_end, prefixes_of_legal_histories_are_legal, refused_calls_change_nothing,
+    replays_are_consistent, replays_grow, some_kinds_have_no_states, steps_keep_machines_exact,
+    widgets_have_their_opening_state_merged_with_their_updates,
 };
 pub use limits::{Limits, NewFault};
 pub use manager::{Core, Finished, Ready};
 pub use question::Question;
 pub use reply::{Refusal, Reply, StateAnswer};
+pub use unavailable::Unavailable;

@@ -1,6 +1,9 @@
+ghost use Rattle.std.specs.Prelude.{◌≡◌, IfOk};
+
 use crate::ids::Ids;
 use comm_targets::{Custom, TargetFault};
 use comm_value::Dict;
+use std::alloc::{AllocError, Global};
 
 /// Why a comm isn't opened.
 #[derive(Drop)]
@@ -47,4 +50,40 @@ pub enum StateAnswer {
     /// The comm has no state.
     NoState,
     State(Dict),
+}
+
+impl Refusal {
+    fn copy(&self) -> Refusal
+        ensures { result ≡ self.now }
+    {
+        match self {
+            Refusal::NoTarget => Refusal::NoTarget,
+            Refusal::TooManyComms => Refusal::TooManyComms,
+            Refusal::Fault(fault) => Refusal::Fault(*fault),
+        }
+    }
+}
+
+impl Reply {
+    /// The same reply. What it carries is shared.
+    pub fn copy(&self, alloc: Global) -> Result<Reply, AllocError>
+        ensures { IfOk result (λ r. r ≡ self.now) }
+    {
+        match self {
+            Reply::Registered => Ok(Reply::Registered),
+            Reply::NameTaken => Ok(Reply::NameTaken),
+            Reply::Opened => Ok(Reply::Opened),
+            Reply::IdInUse => Ok(Reply::IdInUse),
+            Reply::OpenRefused(why) => Ok(Reply::OpenRefused(why.copy())),
+            Reply::Delivered(None) => Ok(Reply::Delivered(None)),
+            Reply::Delivered(Some(custom)) => Ok(Reply::Delivered(Some(custom.copy(alloc)?))),
+            Reply::Fault(fault) => Ok(Reply::Fault(*fault)),
+            Reply::NoComm => Ok(Reply::NoComm),
+            Reply::Closed => Ok(Reply::Closed),
+            Reply::Unregistered(ids) => Ok(Reply::Unregistered(ids.copy(alloc)?)),
+            Reply::NoTarget => Ok(Reply::NoTarget),
+            Reply::Launched => Ok(Reply::Launched),
+            Reply::NotWidget => Ok(Reply::NotWidget),
+        }
+    }
 }

@@ -1,9 +1,16 @@
 // Plays a script of comm messages and commands.
 #![tactic(auto)]
 
+ghost use Rattle.std.specs.Prelude.{◌≡◌, OnOk, IfSome};
+ghost use Rattle.std.specs.Io.KnownBytes.{Appends};
+ghost use Rattle.comm_script.specs.Played.{played};
+ghost use Rattle.comm_driver.specs.Program.{program_limits, program_stock, status_of};
+
 use comm_core::Limits;
 use comm_script::{RunFault, add, run_with};
 use comm_targets::{Counter, Echo, Target};
+use std::alloc::Global;
+use std::io::{Read, Write};
 use std::process::ExitCode;
 use std::{env, io};
 use widget_target::WidgetTarget;
@@ -16,42 +23,53 @@ const LIMITS: Limits = Limits {
     outbox: 64,
 };
 
-/// Plays standard input to standard output, with two targets of each kind in stock.
-fn play(rt: &HostRuntime) -> Result<(), RunFault> {
-    let alloc = rt.alloc();
+/// Plays a script with two targets of each kind in stock.
+fn play<R: Read, W: Write>(alloc: Global, reader: &mut R, writer: &mut W) -> Result<(), RunFault>
+    ensures { OnOk result (IfSome (R.remaining reader.old) (λ input.
+        Appends (W.contents writer.old) (W.contents writer.new) (played program_limits program_stock input))) }
+{
     let mut stock = Vec::new(alloc);
     let echo: Box<dyn Target> = Box::new(alloc, Echo::new(alloc))?;
     add(&mut stock, echo)?;
-    let echo: Box<dyn Target> = Box::new(alloc, Echo::new(alloc))?;
-    add(&mut stock, echo)?;
+    let other_echo: Box<dyn Target> = Box::new(alloc, Echo::new(alloc))?;
+    add(&mut stock, other_echo)?;
     let counter: Box<dyn Target> = Box::new(alloc, Counter::new(alloc))?;
     add(&mut stock, counter)?;
-    let counter: Box<dyn Target> = Box::new(alloc, Counter::new(alloc))?;
-    add(&mut stock, counter)?;
+    let other_counter: Box<dyn Target> = Box::new(alloc, Counter::new(alloc))?;
+    add(&mut stock, other_counter)?;
     let widget: Box<dyn Target> = Box::new(alloc, WidgetTarget::new(alloc))?;
     add(&mut stock, widget)?;
-    let widget: Box<dyn Target> = Box::new(alloc, WidgetTarget::new(alloc))?;
-    add(&mut stock, widget)?;
-    run_with(alloc, &mut rt.reader(), &mut io::writer(rt), LIMITS, stock)
+    let other_widget: Box<dyn Target> = Box::new(alloc, WidgetTarget::new(alloc))?;
+    add(&mut stock, other_widget)?;
+    run_with(alloc, reader, writer, LIMITS, stock)
 }
 
-/// 0 where the whole script was played; 1 where it couldn't be read or the answers couldn't be written; 2 for want of memory; 3
-/// for any argument.
-fn status(rt: &HostRuntime) -> u8 {
-    let Ok(mut words) = env::args(rt) else {
-        return 3;
-    };
-    let _program = words.next();
-    if words.next().is_some() {
-        return 3;
-    }
-    match play(rt) {
+/// The exit status: 0 where the whole script was played, 1 where it couldn't be read or the answers couldn't be written, 2 for
+/// want of memory.
+fn status(end: Result<(), RunFault>) -> u8
+    ensures { result ≡ status_of end }
+{
+    match end {
         Ok(()) => 0,
         Err(RunFault::Read | RunFault::Write) => 1,
         Err(RunFault::Memory | RunFault::BadLimits) => 2,
     }
 }
 
+/// Whether the program was called without an argument.
+fn is_called_alone(rt: &HostRuntime) -> bool {
+    let Ok(mut words) = env::args(rt) else {
+        return false;
+    };
+    let _program = words.next();
+    words.next().is_none()
+}
+
+/// Plays standard input to standard output; the exit status is 3 for any argument.
 fn main(rt: HostRuntime) -> ExitCode {
-    ExitCode::from(status(&rt))
+    if !is_called_alone(&rt) {
+        return ExitCode::from(3);
+    }
+    let end = play(rt.alloc(), &mut rt.reader(), &mut io::writer(&rt));
+    ExitCode::from(status(end))
 }

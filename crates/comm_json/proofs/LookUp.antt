@@ -10,7 +10,7 @@ use Rattle.serde_json.specs.View.{items_view as owned_items}
 use Rattle.serde_json.specs.Find.{get_member, get_item}
 use Rattle.serde_json.specs.Read.{read}
 use Rattle.serde_json.proofs.Views.{get_member-put, get_member-put_other}
-use Rattle.comm_json.specs.Seen.{count, data_of, items_data, members_data, line_value}
+use Rattle.comm_json.specs.Behind.{items_count, data_of, items_data, members_data, line_value}
 use Rattle.comm_json.proofs.ReadLists.{Member}
 use Rattle.comm_json.proofs.MemberOrder.{put_last}
 use Rattle.std.proofs.lemmas.List.{take_more}
@@ -34,11 +34,11 @@ item_at [] i d h = absurd (omega arith)
 item_at (v ∷ vs) zero d h = refl
 item_at (v ∷ vs) (suc i) d h = item_at vs i d (omega arith)
 
-pub count_of : {A : Type 0} → (vs : List (Value A)) → length vs ≡ count (items_data (items_view vs))
+pub count_of : {A : Type 0} → (vs : List (Value A)) → length vs ≡ items_count (items_data (items_view vs))
 count_of [] = refl
 count_of (v ∷ vs) = ap suc (count_of vs)
 
-pub count_of_owned : (vs : List Owned) → length vs ≡ count (owned_items vs)
+pub count_of_owned : (vs : List Owned) → length vs ≡ items_count (owned_items vs)
 count_of_owned [] = refl
 count_of_owned (v ∷ vs) = ap suc (count_of_owned vs)
 

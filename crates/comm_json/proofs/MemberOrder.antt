@@ -11,7 +11,7 @@ use Rattle.std.specs.BTreeMap.{insert_entry}
 use Rattle.json.specs.Value.{value_view, members_view}
 use Rattle.serde_json.specs.Data.{Members, no_members, put}
 use Rattle.comm_json.specs.declared.json_ref.JsonRef.{JsonRef}
-use Rattle.comm_json.specs.Seen.{seen, data_of, members_data, members_of, text_cmp, AreInOrder}
+use Rattle.comm_json.specs.Behind.{behind, data_of, members_data, members_of, text_cmp, AreInOrder}
 use Rattle.comm_json.proofs.ReadLists.{Member}
 use Rattle.serde_json.specs.View.{view, members_view as owned_view}
 use Rattle.serde_json.specs.declared.value.Value.{Value}
@@ -27,7 +27,7 @@ members_of-match_ordering Less a b c = refl
 members_of-match_ordering Equal a b c = refl
 members_of-match_ordering Greater a b c = refl
 
-pub members_of-insert_entry : (es : List Ref) (k : Key) (v : JsonRef) → members_of (insert_entry text_cmp es k v) ≡ put k.now (seen v) (members_of es)
+pub members_of-insert_entry : (es : List Ref) (k : Key) (v : JsonRef) → members_of (insert_entry text_cmp es k v) ≡ put k.now (behind v) (members_of es)
 members_of-insert_entry [] k v = refl
 members_of-insert_entry (e ∷ es) k v = members_of-match_ordering (text_cmp k e.0) _ _ _ ∙ rw (members_of-insert_entry es k v)
 
@@ -117,7 +117,7 @@ takes_place (e ∷ es) (suc i) k v d s h is =
 
 -- one more member of a list is put in
 pub put_next : {A : Type 0} → (ms : List (Member A)) (i : ℕ) (m : Member A) (es new : List Ref) (k : Key) (v : JsonRef) → i < length ms → m ≡ get_or ms i m → members_of es ≡ members_data (members_view (take i ms)) no_members
-    → new ≡ insert_entry text_cmp es k v → k.now ≡ m.0.now → seen v ≡ data_of (value_view m.1) → members_of new ≡ members_data (members_view (take (i + 1) ms)) no_members
+    → new ≡ insert_entry text_cmp es k v → k.now ≡ m.0.now → behind v ≡ data_of (value_view m.1) → members_of new ≡ members_data (members_view (take (i + 1) ms)) no_members
 put_next ms i m es new k v within is h inserted key value =
     ap members_of inserted ∙ members_of-insert_entry es k v ∙ rw (key, value, h) (sym (put_last (take i ms) m no_members))
     ∙ ap (λ l. members_data (members_view l) no_members) (sym (take_more ms i m within ∙ ap (λ n. take i ms ++ n ∷ []) (sym is)))
@@ -160,9 +160,9 @@ abbrev pub AreOwned : List Ref → List Owned → Type 0
 AreOwned [] [] = Unit {0}
 AreOwned [] (x ∷ xs) = ⊥
 AreOwned (e ∷ es) [] = ⊥
-AreOwned (e ∷ es) (x ∷ xs) = (e.0.now ≡ string_bytes x.0) × (seen e.1 ≡ view x.1) × AreOwned es xs
+AreOwned (e ∷ es) (x ∷ xs) = (e.0.now ≡ string_bytes x.0) × (behind e.1 ≡ view x.1) × AreOwned es xs
 
-pub one_more_owned : (es : List Ref) (xs : List Owned) (e : Ref) (x : Owned) → AreOwned es xs → e.0.now ≡ string_bytes x.0 → seen e.1 ≡ view x.1 → AreOwned (es ++ e ∷ []) (xs ++ x ∷ [])
+pub one_more_owned : (es : List Ref) (xs : List Owned) (e : Ref) (x : Owned) → AreOwned es xs → e.0.now ≡ string_bytes x.0 → behind e.1 ≡ view x.1 → AreOwned (es ++ e ∷ []) (xs ++ x ∷ [])
 one_more_owned [] [] e x h key value = (key, value, tt)
 one_more_owned [] (y ∷ xs) e x h key value = absurd h
 one_more_owned (f ∷ es) [] e x h key value = absurd h

@@ -6,7 +6,7 @@ use Rattle.json.specs.Value.{value_view, items_view, members_view}
 use Rattle.json.specs.declared.value.Value.{Value}
 use Rattle.serde_json.specs.Data.{Members, no_members, put}
 use Rattle.serde_json.specs.Read.{of_json, of_items, of_members}
-use Rattle.comm_json.specs.Seen.{data_of, items_data, members_data}
+use Rattle.comm_json.specs.Behind.{data_of, items_data, members_data}
 
 abbrev pub Member : Type 0 → Type 0
 Member A = Bor (List ℕ) × Value A

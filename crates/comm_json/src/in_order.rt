@@ -3,7 +3,7 @@ ghost use Rattle.std.specs.BTreeMap.{insert_entry};
 ghost use Rattle.json.specs.Value.{members_view};
 ghost use Rattle.serde_json.specs.Data.{no_members};
 ghost use Rattle.serde_json.specs.View.{members_view as owned_view};
-ghost use Rattle.comm_json.specs.Seen.{seen, members, members_data, members_of, listed, text_cmp, AreInOrder};
+ghost use Rattle.comm_json.specs.Behind.{behind, members, members_data, members_of, listed, text_cmp, AreInOrder};
 
 use crate::json_ref::{JsonRef, Members, ObjectRef};
 use bumpalo::Bump;

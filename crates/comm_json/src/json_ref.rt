@@ -3,7 +3,7 @@ ghost use Rattle.json.specs.Value.{value_view, members_view};
 ghost use Rattle.serde_json.specs.Data.{no_members};
 ghost use Rattle.serde_json.specs.Find.{get_member, get_item};
 ghost use Rattle.serde_json.specs.Read.{of_json};
-ghost use Rattle.comm_json.specs.Seen.{seen, data_of, members_data, items, members, shown, count};
+ghost use Rattle.comm_json.specs.Behind.{behind, data_of, members_data, items, members, shown, items_count};
 
 use crate::json_number::number_in;
 use bumpalo::Bump;
@@ -48,9 +48,9 @@ pub enum Shape<'v, 'a> {
 }
 
 impl<'v, 'a> JsonRef<'v, 'a> {
-    /// What it is. A number beyond `serde_json`'s range is null; `numbers_are_in_range` says whether there is one.
+    /// What it is. A number beyond `serde_json`'s range would be null; in a tree that `read_line` gave there is none.
     pub fn shape(self) -> Shape<'v, 'a>
-        ensures { shown result ≡ seen self.entry }
+        ensures { shown result ≡ behind self.entry }
     {
         match self {
             JsonRef::Owned(value) => shape_of_owned(value),
@@ -60,7 +60,7 @@ impl<'v, 'a> JsonRef<'v, 'a> {
 }
 
 fn shape_of_owned<'v, 'a>(value: &'v Value) -> Shape<'v, 'a>
-    ensures { shown result ≡ seen (JsonRef.Owned value.entry) }
+    ensures { shown result ≡ behind (JsonRef.Owned value.entry) }
 {
     match value {
         Value::Null => Shape::Null,
@@ -73,7 +73,7 @@ fn shape_of_owned<'v, 'a>(value: &'v Value) -> Shape<'v, 'a>
 }
 
 fn shape_of_borrowed<'v, 'a>(value: &'v LineValue<'a>) -> Shape<'v, 'a>
-    ensures { shown result ≡ seen (JsonRef.Borrowed value.entry) }
+    ensures { shown result ≡ behind (JsonRef.Borrowed value.entry) }
 {
     match value {
         json::Value::Null => Shape::Null,
@@ -91,7 +91,7 @@ fn shape_of_borrowed<'v, 'a>(value: &'v LineValue<'a>) -> Shape<'v, 'a>
 impl<'v, 'a> ItemsRef<'v, 'a> {
     /// How many items there are.
     pub fn len(self) -> usize
-        ensures { result ≡ count (items self.entry) }
+        ensures { result ≡ items_count (items self.entry) }
     {
         match self {
             ItemsRef::Owned(items) => items.len(),
@@ -101,8 +101,8 @@ impl<'v, 'a> ItemsRef<'v, 'a> {
 
     /// The item at this index, from 0.
     pub fn get(self, index: usize) -> Option<JsonRef<'v, 'a>>
-        ensures item { option_map seen result ≡ get_item index (items self.entry) }
-        ensures within { IfSome result (λ _. index < count (items self.entry)) }
+        ensures item { option_map behind result ≡ get_item index (items self.entry) }
+        ensures within { IfSome result (λ _. index < items_count (items self.entry)) }
     {
         match self {
             ItemsRef::Owned(items) => if index < items.len() {
@@ -122,7 +122,7 @@ impl<'v, 'a> ItemsRef<'v, 'a> {
 impl<'v, 'a> ObjectRef<'v, 'a> {
     /// The value at this key.
     pub fn get(self, key: &str) -> Option<JsonRef<'v, 'a>>
-        ensures { option_map seen result ≡ get_member key.now (members self.entry) }
+        ensures { option_map behind result ≡ get_member key.now (members self.entry) }
     {
         match self {
             ObjectRef::Owned(map) => match map.get(key) {

@@ -2,6 +2,10 @@
 //!
 //! A line is read once, by the kit's `json`, into a tree that borrows its texts ([`read_line`]). What is read is what `serde_json`
 //! reads, and the contracts see it as `serde_json`'s data; so both kinds go through one door, [`JsonRef`].
+//!
+//! The words of the contracts are in `specs/Behind`: `line_value` is the JSON value that a line is, `behind` the data behind a reference,
+//! `items` and `members` those behind a list or an object, `shown` the data of which a shape is the outermost level, and `data_of` what
+//! `serde_json` reads where the kit's `json` read a tree.
 
 #![tactic(auto)]
 

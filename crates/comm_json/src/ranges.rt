@@ -2,7 +2,7 @@ ghost use Rattle.std.specs.Prelude.{◌≡◌, Some, None, MatchBool};
 ghost use Rattle.json.specs.Value.{value_view, items_view, members_view};
 ghost use Rattle.serde_json.specs.Data.{no_members};
 ghost use Rattle.serde_json.specs.Read.{of_json, of_items, of_members};
-ghost use Rattle.comm_json.specs.Seen.{data_of, items_data, members_data};
+ghost use Rattle.comm_json.specs.Behind.{data_of, items_data, members_data};
 
 use crate::json_number::number_in;
 use crate::json_ref::{LineValue, Members};

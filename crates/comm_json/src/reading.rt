@@ -2,7 +2,7 @@ ghost use Rattle.std.specs.Prelude.{◌≡◌, Some, None, IfOk, IfErr};
 ghost use Rattle.json.specs.Value.{value_view};
 ghost use Rattle.serde_json.specs.Read.{read};
 ghost use Rattle.comm_json.specs.declared.reading.LineFault.TheVariants.{NotJson};
-ghost use Rattle.comm_json.specs.Seen.{data_of, line_value};
+ghost use Rattle.comm_json.specs.Behind.{data_of, line_value};
 
 use crate::json_ref::LineValue;
 use crate::ranges::numbers_are_in_range;

@@ -1,11 +1,12 @@
 -- Buffers that are decoded one after the other.
-use Rattle.std.proofs.Common.{◌≡◌, ◌+◌, ℕ, zero, suc, List, [], ◌∷◌, ◌++◌, length, Option, Some, None, Ok, Err, refl, sym, ap, ◌∙◌, arith, append-nil, append_assoc, length-append}
+use Rattle.std.proofs.Common.{◌≡◌, ℕ, zero, suc, Bool, true, false, List, [], ◌∷◌, ◌++◌, length, Some, None, Ok, Err, refl, sym, ap, ◌∙◌, arith, append-nil, append_assoc, length-append}
 use Rattle.serde_json.specs.Data.{Data, Items, no_items, item}
 use Rattle.serde_json.specs.Find.{get_item}
-use Rattle.comm_messages.specs.Gives.{Reading, ◌>>=◌, or_fault, Fails}
+use Rattle.comm_value.specs.Gives.{◌>>=◌, or_fault, Fails}
+use Rattle.comm_messages.specs.Gives.{Reading, is_memory}
 use Rattle.comm_messages.specs.Buffers.{decoded, decoded_from}
 use Rattle.comm_messages.specs.declared.fault.MessageFault.{MessageFault}
-use Rattle.comm_messages.specs.declared.fault.MessageFault.TheVariants.{NotJson, BadClient, NoType, UnknownType, BadContent, NotWhole, BadBuffer, Memory}
+use Rattle.comm_messages.specs.declared.fault.MessageFault.TheVariants.{BadBuffer}
 
 some_same : {A : Type 0} {x y : A} → Some x ≡ Some y → x ≡ y
 some_same h = cc
@@ -68,12 +69,9 @@ pub none_left : (ds : Items) (all : List (List ℕ)) (whole : Reading (List (Lis
 none_left ds all whole at before = before ∙ ap (λ is. after all (decoded_from (length all) is)) (left_none ds (length all) at) ∙ ap Ok (append-nil all)
 
 -- a part fails, and so does the whole
-pub fails_too : {A B : Type 0} (e : MessageFault) (part : Reading A) (whole : Reading B) → (part ≡ Err e → whole ≡ Err e) → Fails e part → Fails e whole
-fails_too NotJson part whole h f = h f
-fails_too BadClient part whole h f = h f
-fails_too NoType part whole h f = h f
-fails_too UnknownType part whole h f = h f
-fails_too (BadContent field) part whole h f = h f
-fails_too NotWhole part whole h f = h f
-fails_too (BadBuffer n) part whole h f = h f
-fails_too Memory part whole h f = tt
+fails_by : {A B : Type 0} (memory : Bool) (e : MessageFault) (part : Reading A) (whole : Reading B) → (part ≡ Err e → whole ≡ Err e) → Fails memory e part → Fails memory e whole
+fails_by true e part whole h f = tt
+fails_by false e part whole h f = h f
+
+pub fails_too : {A B : Type 0} (e : MessageFault) (part : Reading A) (whole : Reading B) → (part ≡ Err e → whole ≡ Err e) → Fails (is_memory e) e part → Fails (is_memory e) e whole
+fails_too e part whole h f = fails_by (is_memory e) e part whole h f

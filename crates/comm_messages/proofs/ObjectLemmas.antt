@@ -5,7 +5,7 @@ use Rattle.std.proofs.lemmas.Str.{IsUtf8-from_is_utf8, is_utf8-from_IsUtf8}
 use Rattle.serde_json.specs.Data.{Data, null, boolean, number, string, array, object}
 use Rattle.serde_json.specs.Find.{as_object}
 use Rattle.serde_json.specs.Read.{read}
-use Rattle.comm_messages.specs.Gives.{or_fault}
+use Rattle.comm_value.specs.Gives.{or_fault}
 use Rattle.comm_messages.specs.Fields.{object_in, fields_of, members_in}
 use Rattle.comm_messages.specs.declared.fault.MessageFault.TheVariants.{NotJson}
 

@@ -1,9 +1,12 @@
 -- A message that was written is read again as the same message.
-use Rattle.std.proofs.Common.{◌≡◌, ℕ, suc, ◌<◌, ◌^◌, pos, negsuc, true, false, nat_lt, List, [], ◌∷◌, Some, Ok, is_some, option_map, option_and_then, codes, IsUtf8, refl, ap, ◌∙◌, arith}
+use Rattle.std.proofs.Common.{◌≡◌, ℕ, suc, ◌<◌, ◌^◌, pos, negsuc, true, false, nat_lt, List, [], ◌∷◌, map, Some, Ok, is_some, option_map, option_and_then, codes, IsUtf8, refl, ap, ◌∙◌, arith}
 use Rattle.std.specs.Prelude.{All, ◌&&◌}
 use Rattle.std.specs.Result.{result_ok}
 use Rattle.std.proofs.lemmas.Bool.{lt-ltb, or_parts, ltb-true}
-use Rattle.std.proofs.lemmas.Str.{IsUtf8-from_ascii}
+use Rattle.std.specs.List.{AllByRecursion}
+use Rattle.std.specs.List.Sorted.{IsStrictlySortedBy}
+use Rattle.std.specs.declared.cmp.Ordering.TheVariants.{Less}
+use Rattle.std.proofs.lemmas.Str.{IsUtf8-from_ascii, is_utf8-from_IsUtf8}
 use Rattle.json.proofs.Printed.Utf8.{are_ascii, IsUtf8-are_ascii}
 use Rattle.base64.specs.GeneralPurpose.{IsBytes, encode_of, decode_of}
 use Rattle.base64.specs.Engines.{standard}
@@ -17,12 +20,15 @@ use Rattle.comm_value.specs.Order.{key_cmp, is_first, is_ordered, items_ordered,
 use Rattle.comm_value.specs.Places.{has_bytes, items_have_bytes, members_have_bytes}
 use Rattle.comm_value.proofs.Keys.{both, is_less}
 use Rattle.comm_messages.specs.Content.{Content}
-use Rattle.comm_messages.specs.Gives.{Reading, or_fault, ◌>>=◌}
+use Rattle.comm_value.specs.Gives.{or_fault, ◌>>=◌}
+use Rattle.comm_messages.specs.Gives.{Reading}
 use Rattle.comm_messages.specs.Buffers.{decoded_from}
 use Rattle.comm_messages.specs.Fields.{fields_of}
+use Rattle.comm_messages.specs.Listed.{IdsAreInOrder}
+use Rattle.comm_messages.specs.declared.infos.Info.{Info}
 use Rattle.comm_messages.specs.Message.{message_of, message_in, heading, open_in, msg_in, close_in}
-use Rattle.comm_messages.specs.Text.{text as written, Parts, buffer_texts, json_of, parts_of}
-use Rattle.comm_messages.specs.ReadAgain.{same_message, client_in, number_in, IsKept, ItemsKept, MembersKept, MessageKept, ObjectSaysMessage, TextIsReadAgain}
+use Rattle.comm_messages.specs.Text.{text as written, Parts, client_in, buffer_texts, comm_members, json_of, parts_of}
+use Rattle.comm_messages.specs.ReadAgain.{number_in, IsKept, ItemsKept, MembersKept, InfosKept, MessageKept, ObjectSaysMessage, TextIsItsObject, TextIsReadAgain}
 use Rattle.comm_messages.specs.declared.fault.MessageFault.TheVariants.{BadBuffer}
 use Rattle.comm_messages.specs.declared.incoming.Incoming.{Incoming}
 use Rattle.comm_messages.specs.declared.incoming.Incoming.TheVariants as incoming
@@ -191,19 +197,37 @@ parts_clean parts (Read c n) type content metadata client number =
       ),
     )
 
-message_clean : (m : Outgoing) (i : Incoming) (parent : Parent) → same_message m ≡ Some i → MessageKept m → client_in parent < 2 ^ 64 → number_in parent < 2 ^ 64 → IsClean (json_of (parts_of m) parent)
-message_clean (Open id target version body) i parent is kept client number =
+first_comm : (id : List ℕ) (comms : List Info) → AllByRecursion (λ k. key_cmp id k ≡ Less) (map (λ info. info.id) comms) → IsFirst id (comm_members comms)
+first_comm id [] h = tt
+first_comm id (info ∷ comms) h = h.0
+
+comms_clean : (comms : List Info) → InfosKept comms → IdsAreInOrder comms → MembersClean (comm_members comms)
+unfolding IsStrictlySortedBy
+comms_clean [] kept order = tt
+comms_clean (info ∷ comms) kept order = (kept.0, first_comm info.id comms order.0, (key (codes "target_name") refl, tt, kept.1, tt), comms_clean comms kept.2 order.1)
+
+message_clean : (m : Outgoing) (parent : Parent) → MessageKept m → client_in parent < 2 ^ 64 → number_in parent < 2 ^ 64 → IsClean (json_of (parts_of m) parent)
+message_clean (Open id target version body) parent kept client number =
     let k = kept.3 in
     let dict = members_clean body.content k.values k.ordered in
     parts_clean (parts_of (Open id target version body)) parent (key (codes "comm_open") refl)
     (key (codes "comm_id") refl, refl, kept.0, (key (codes "data") refl, refl, dict, (key (codes "target_name") refl, tt, kept.1, tt))) (key (codes "version") refl, tt, kept.2, tt) client number
-message_clean (Msg id body) i parent is kept client number =
+message_clean (Msg id body) parent kept client number =
     let k = kept.1 in
     let dict = members_clean body.content k.values k.ordered in
     parts_clean (parts_of (Msg id body)) parent (key (codes "comm_msg") refl) (key (codes "comm_id") refl, refl, kept.0, (key (codes "data") refl, tt, dict, tt)) tt client number
-message_clean (Close id) i parent is kept client number =
+message_clean (Close id) parent kept client number =
     parts_clean (parts_of (Close id)) parent (key (codes "comm_close") refl) (key (codes "comm_id") refl, refl, kept, (key (codes "data") refl, tt, tt, tt)) tt client number
-message_clean (InfoReply comms) i parent is kept client number = cc
+message_clean (InfoReply comms) parent kept client number =
+    parts_clean (parts_of (InfoReply comms)) parent (key (codes "comm_info_reply") refl)
+    (key (codes "comms") refl, refl, comms_clean comms kept.0 kept.1, (key (codes "status") refl, tt, key (codes "ok") refl, tt)) tt client number
+
+pub text_is_its_object : TextIsItsObject
+unfolding written
+text_is_its_object m parent kept client number shallow =
+    let d = json_of (parts_of m) parent in
+    let clean = message_clean m parent kept (omega arith) number in
+    rw (is_utf8-from_IsUtf8 (written m parent) (utf8 d clean), read_again d clean shallow) refl
 
 an_object : (parts : Parts) (parent : Parent) → is_some (as_object (json_of parts parent)) ≡ true
 an_object parts (Call c n) = refl
@@ -218,6 +242,6 @@ unfolding written
 text_is_read_again clients m parent i is kept client few number shallow =
     let parts = parts_of m in
     let d = json_of parts parent in
-    let clean = message_clean m i parent is kept (omega arith) number in
+    let clean = message_clean m parent kept (omega arith) number in
     ap (λ r. r >>= message_in clients) (object_read (written m parent) d (utf8 d clean) (read_again d clean shallow) (an_object parts parent))
     ∙ same_members clients parts parent ∙ object_says_message clients m parent i is kept client

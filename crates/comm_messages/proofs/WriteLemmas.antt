@@ -11,7 +11,7 @@ use Rattle.comm_value.specs.ToJson.{json_members}
 use Rattle.comm_messages.specs.Content.{Content}
 use Rattle.serde_json.proofs.OnLiterals.{serde_json_on_literals}
 use Rattle.comm_messages.specs.Text.{buffer_texts, comm_members, text}
-use Rattle.comm_messages.specs.Parts.{Appends, buffers_text, parent_text, front_text, content_text, end_text}
+use Rattle.comm_messages.specs.Parts.{GrowsBy, buffers_text, parent_text, front_text, content_text, end_text}
 use Rattle.comm_messages.specs.declared.outgoing.Outgoing.{Outgoing}
 use Rattle.comm_messages.specs.declared.outgoing.Outgoing.TheVariants.{Open, Msg, Close, InfoReply}
 use Rattle.comm_messages.specs.declared.infos.Info.{Info}
@@ -32,7 +32,7 @@ later : (i : ℕ) → nat_lt 0 (suc i) ≡ true
 later i = lt-ltb 0 (suc i) (omega arith)
 
 pub one_more : (bs : List (List ℕ)) (i : ℕ) (b old new whole : List ℕ) → i < length bs → b ≡ get_or bs i b
-    → Appends old (comma_if (nat_lt 0 i) ++ quoted (encode_of standard b)) new → old ++ rest bs i ≡ whole → new ++ rest bs (i + 1) ≡ whole
+    → GrowsBy old (comma_if (nat_lt 0 i) ++ quoted (encode_of standard b)) new → old ++ rest bs i ≡ whole → new ++ rest bs (i + 1) ≡ whole
 one_more bs i b old new whole h is more before =
     let next : i + 1 ≡ suc i = omega arith in
     let written = comma_if (nat_lt 0 i) ++ quoted (encode_of standard b) in
@@ -42,7 +42,7 @@ one_more bs i b old new whole h is more before =
     ∙ ap (λ l. old ++ l) (sym (rest-step bs i b h is)) ∙ before
 
 -- a part is written, and then the rest
-pub written : {first second last part more : List ℕ} → Appends first part second → Appends second more last → Appends first (part ++ more) last
+pub written : {first second last part more : List ℕ} → GrowsBy first part second → GrowsBy second more last → GrowsBy first (part ++ more) last
 written {first} {second} {last} {part} {more} h k = record { is = k.is ∙ ap (λ l. l ++ more) h.is ∙ append_assoc first part more }
 
 pub text_in_parts : (message : Outgoing) (parent : Parent) →
@@ -51,7 +51,7 @@ unfolding text serde_json_on_literals
 text_in_parts message (Call client number) = simp append_assoc
 text_in_parts message (Read client front) = simp append_assoc
 
-pub same_part : {old part other new : List ℕ} → part ≡ other → Appends old other new → Appends old part new
+pub same_part : {old part other new : List ℕ} → part ≡ other → GrowsBy old other new → GrowsBy old part new
 same_part {old} {part} {other} {new} e h = record { is = h.is ∙ ap (λ l. old ++ l) (sym e) }
 
 pub open_content : (m : Outgoing) (id target version : List ℕ) (body : Content) → m ≡ Open id target version body
@@ -104,7 +104,7 @@ unfolding serde_json_on_literals
 comm-member k info infos = simp append_assoc
 
 pub one_more_comm : (infos : List Info) (i : ℕ) (info : Info) (old new whole : List ℕ) → i < length infos → info ≡ get_or infos i info
-    → Appends old (comma_if (nat_lt 0 i) ++ comm_text info) new → old ++ comms_rest infos i ≡ whole → new ++ comms_rest infos (i + 1) ≡ whole
+    → GrowsBy old (comma_if (nat_lt 0 i) ++ comm_text info) new → old ++ comms_rest infos i ≡ whole → new ++ comms_rest infos (i + 1) ≡ whole
 one_more_comm infos i info old new whole h is more before =
     let next : i + 1 ≡ suc i = omega arith in
     let written = comma_if (nat_lt 0 i) ++ comm_text info in

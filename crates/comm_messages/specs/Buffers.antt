@@ -4,7 +4,8 @@ use Rattle.std.specs.Result.{result_ok}
 use Rattle.base64.specs.GeneralPurpose.{decode_of}
 use Rattle.base64.specs.Engines.{standard}
 use Rattle.serde_json.specs.Data.{Data, null, string, array, Items, no_items, item}
-use Rattle.comm_messages.specs.Gives.{Reading, or_fault, ◌>>=◌}
+use Rattle.comm_value.specs.Gives.{or_fault, ◌>>=◌}
+use Rattle.comm_messages.specs.Gives.{Reading}
 use Rattle.comm_messages.specs.declared.fault.MessageFault.TheVariants.{BadContent, BadBuffer}
 use Rattle.comm_messages.specs.declared.fault.Field.TheVariants.{Buffers}
 

@@ -5,16 +5,17 @@ use Rattle.serde_json.specs.Data.{Data, null, string, object, Members, no_member
 use Rattle.serde_json.specs.Find.{as_number, as_u64}
 use Rattle.json.specs.Value.{members_view}
 use Rattle.json.specs.declared.value.Value.{Value}
-use Rattle.comm_json.specs.Seen.{members, members_data, line_value}
-use Rattle.comm_json.specs.Seen.{seen as of_ref}
+use Rattle.comm_json.specs.Behind.{members, members_data, line_value}
+use Rattle.comm_json.specs.Behind.{behind as of_ref}
 use Rattle.comm_json.specs.declared.json_ref.JsonRef.{JsonRef}
 use Rattle.comm_json.specs.declared.json_ref.ObjectRef.{ObjectRef}
-use Rattle.comm_messages.specs.Gives.{Reading, or_fault}
+use Rattle.comm_value.specs.Gives.{or_fault}
+use Rattle.comm_messages.specs.Gives.{Reading}
 use Rattle.comm_messages.specs.declared.fault.MessageFault.TheVariants.{NotJson, BadClient}
 
 -- JSON behind a reference, as data
-abbrev pub seen : Option JsonRef → Option Data
-seen o = option_map of_ref o
+abbrev pub behind : Option JsonRef → Option Data
+behind o = option_map of_ref o
 
 -- the members of an object, or none
 abbrev pub fields : Option ObjectRef → Members

@@ -3,6 +3,7 @@ pub mod Gives
 pub mod Fields
 pub mod Buffers
 pub mod Message
+pub mod Listed
 pub mod Text
 pub mod Parts
 pub mod ReadAgain

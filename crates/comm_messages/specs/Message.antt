@@ -6,7 +6,8 @@ use Rattle.serde_json.specs.Find.{get_member}
 use Rattle.comm_value.specs.FromJson.{members_of}
 use Rattle.comm_value.specs.Tree as tree
 use Rattle.comm_messages.specs.Content.{Content}
-use Rattle.comm_messages.specs.Gives.{Reading, or_fault, ◌>>=◌}
+use Rattle.comm_value.specs.Gives.{or_fault, ◌>>=◌}
+use Rattle.comm_messages.specs.Gives.{Reading}
 use Rattle.comm_messages.specs.Fields.{object_in, object_or_empty, text, text_or_none, client_of, members_in}
 use Rattle.comm_messages.specs.Buffers.{buffers_of}
 use Rattle.comm_messages.specs.declared.fault.Field.{Field}

@@ -9,7 +9,7 @@ use Rattle.comm_messages.specs.declared.outgoing.Parent.{Parent}
 use Rattle.comm_messages.specs.declared.outgoing.Parent.TheVariants.{Call, Read}
 
 -- the part stands behind what was there
-pub record Appends (old part new : List ℕ) : Type 0 where
+pub record GrowsBy (old part new : List ℕ) : Type 0 where
   pub is : new ≡ old ++ part
 
 abbrev pub buffers_text : Outgoing → List ℕ

@@ -1,5 +1,5 @@
--- A message that was written is read again as the same message: the words of the law in laws.rt.
-use Rattle.std.specs.Prelude.{◌≡◌, ◌<◌, ◌≤◌, ◌^◌, ℕ, true, false, Option, Some, None, Ok, All, IsUtf8, ⊤}
+-- A message that was written is read again, as JSON and as the same message: the words of the law in laws.rt.
+use Rattle.std.specs.Prelude.{◌≡◌, ◌<◌, ◌≤◌, ◌^◌, ℕ, true, false, List, [], ◌∷◌, Option, Some, None, Ok, All, IsUtf8, ⊤}
 use Rattle.base64.specs.GeneralPurpose.{IsBytes}
 use Rattle.serde_json.specs.Data.{depth}
 use Rattle.serde_json.specs.Read.{max_depth}
@@ -7,9 +7,12 @@ use Rattle.comm_value.specs.Tree.{Tree, whole, text as a_text, list, dict, Items
 use Rattle.comm_value.specs.Order.{members_ordered}
 use Rattle.comm_value.specs.Places.{members_have_bytes}
 use Rattle.comm_value.specs.Range.{in_range}
+use Rattle.comm_json.specs.Behind.{line_value}
 use Rattle.comm_messages.specs.Content.{Content}
+use Rattle.comm_messages.specs.Listed.{IdsAreInOrder}
+use Rattle.comm_messages.specs.declared.infos.Info.{Info}
 use Rattle.comm_messages.specs.Message.{message, message_of}
-use Rattle.comm_messages.specs.Text.{text, json_of, parts_of}
+use Rattle.comm_messages.specs.Text.{text, client_in, json_of, parts_of}
 use Rattle.comm_messages.specs.declared.incoming.Incoming.{Incoming}
 use Rattle.comm_messages.specs.declared.incoming.Incoming.TheVariants as incoming
 use Rattle.comm_messages.specs.declared.outgoing.Outgoing.{Outgoing}
@@ -23,10 +26,6 @@ same_message (Open id target version body) = Some (incoming.Open id target (Some
 same_message (Msg id body) = Some (incoming.Msg id body)
 same_message (Close id) = Some (incoming.Close id)
 same_message (InfoReply comms) = None
-
-abbrev pub client_in : Parent → ℕ
-client_in (Call client call) = client
-client_in (Read client front) = client
 
 -- the number of a call, or of the changes that a read saw
 abbrev pub number_in : Parent → ℕ
@@ -59,13 +58,23 @@ pub record BodyKept (body : Content) : Type 0 where
   pub values : MembersKept body.content
   pub bytes : All IsBytes body.buffers
 
+abbrev pub InfosKept : List Info → Type 0
+InfosKept [] = ⊤
+InfosKept (info ∷ infos) = IsUtf8 info.id × IsUtf8 info.target × InfosKept infos
+
 abbrev pub MessageKept : Outgoing → Type 0
 MessageKept (Open id target version body) = IsUtf8 id × IsUtf8 target × IsUtf8 version × BodyKept body
 MessageKept (Msg id body) = IsUtf8 id × BodyKept body
 MessageKept (Close id) = IsUtf8 id
-MessageKept (InfoReply comms) = ⊤
+MessageKept (InfoReply comms) = InfosKept comms × IdsAreInOrder comms
 
 -- ---- the law
+
+-- the text is read as the object that is written, each key of it and each comm of a reply, where it nests no deeper than is read
+abbrev pub TextIsItsObject : Type 0
+TextIsItsObject =
+    (m : Outgoing) (parent : Parent) → MessageKept m → client_in parent < 2 ^ 8 → number_in parent < 2 ^ 64 → depth (json_of (parts_of m) parent) ≤ max_depth
+    → line_value (text m parent) ≡ Some (json_of (parts_of m) parent)
 
 -- the object that is written says the message
 abbrev pub ObjectSaysMessage : Type 0
@@ -73,7 +82,7 @@ ObjectSaysMessage =
     (clients : ℕ) (m : Outgoing) (parent : Parent) (i : Incoming) → same_message m ≡ Some i → MessageKept m → client_in parent < clients
     → message_of clients (json_of (parts_of m) parent) ≡ Ok (client_in parent, i)
 
--- and its text is read as that object, where it nests no deeper than is read: the message and its client come back
+-- so the message and its client are read from the text again
 abbrev pub TextIsReadAgain : Type 0
 TextIsReadAgain =
     (clients : ℕ) (m : Outgoing) (parent : Parent) (i : Incoming) → same_message m ≡ Some i → MessageKept m → client_in parent < clients → clients < 2 ^ 8

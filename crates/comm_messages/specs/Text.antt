@@ -19,7 +19,7 @@ texts (s ∷ ss) = item (string s) (texts ss)
 abbrev pub buffer_texts : List (List ℕ) → Items
 buffer_texts buffers = texts (map (encode_of standard) buffers)
 
--- the target name of each comm, by its id
+-- the target name of each comm, by its id: a list in the order of ids gives an object with its keys in order, each once
 abbrev pub comm_members : List Info → Members
 comm_members [] = no_members
 comm_members (info ∷ infos) = member info.id (object (member (codes "target_name") (string info.target) no_members)) (comm_members infos)
@@ -56,22 +56,29 @@ parts_of (InfoReply comms) = record {
   buffers = [];
 }
 
--- a call is numbered within its client, from 1; a read has the number of changes that it saw
+abbrev pub client_in : Parent → ℕ
+client_in (Call client call) = client
+client_in (Read client front) = client
+
+-- a call is numbered within its client, from 1
+abbrev pub with_call : Parent → Members → Members
+with_call (Call client call) more = member (codes "call") (number (unsigned call)) more
+with_call (Read client front) more = more
+
+-- a read has the number of changes that it saw
+abbrev pub with_front : Parent → Members → Members
+with_front (Call client call) more = more
+with_front (Read client front) more = member (codes "front") (number (unsigned front)) more
+
 abbrev pub json_of : Parts → Parent → Data
-json_of parts (Call client call) =
+json_of parts parent =
     object (member (codes "buffers") (array (buffer_texts parts.buffers))
-    (member (codes "call") (number (unsigned call))
-    (member (codes "client") (number (unsigned client))
+    (with_call parent
+    (member (codes "client") (number (unsigned (client_in parent)))
     (member (codes "content") (object parts.content)
+    (with_front parent
     (member (codes "header") (object (member (codes "msg_type") (string parts.type) no_members))
-    (member (codes "metadata") (object parts.metadata) no_members))))))
-json_of parts (Read client front) =
-    object (member (codes "buffers") (array (buffer_texts parts.buffers))
-    (member (codes "client") (number (unsigned client))
-    (member (codes "content") (object parts.content)
-    (member (codes "front") (number (unsigned front))
-    (member (codes "header") (object (member (codes "msg_type") (string parts.type) no_members))
-    (member (codes "metadata") (object parts.metadata) no_members))))))
+    (member (codes "metadata") (object parts.metadata) no_members)))))))
 
 -- a reply goes with its read, and any other message with its call
 abbrev pub goes_with : Outgoing → Parent → Bool

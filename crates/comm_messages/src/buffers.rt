@@ -1,9 +1,10 @@
 ghost use Rattle.std.specs.Prelude.{◌≡◌, ◌≢◌};
-ghost use Rattle.comm_messages.specs.Gives.{Gives, or_fault};
-ghost use Rattle.comm_messages.specs.Fields.{seen};
+ghost use Rattle.comm_value.specs.Gives.{or_fault};
+ghost use Rattle.comm_messages.specs.Gives.{Gives};
+ghost use Rattle.comm_messages.specs.Fields.{behind};
 ghost use Rattle.comm_messages.specs.Buffers.{buffers_of, decoded, decoded_from};
-ghost use Rattle.comm_json.specs.Seen.{items};
-ghost use Rattle.comm_json.specs.Seen.{seen as of_ref};
+ghost use Rattle.comm_json.specs.Behind.{items};
+ghost use Rattle.comm_json.specs.Behind.{behind as of_ref};
 ghost use Rattle.comm_messages.specs.declared.fault.MessageFault.TheVariants.{BadBuffer};
 
 use crate::fault::{Field, MessageFault};
@@ -16,7 +17,7 @@ use std::alloc::Global;
 /// The buffers of a list of texts in base64 (RFC 4648, section 4); absent or null is none.
 /// BadContent(Buffers) where it is another value, BadBuffer of the first item that isn't such a text.
 pub fn buffers_of(alloc: Global, value: Option<JsonRef<'_, '_>>) -> Result<Buffers, MessageFault>
-    ensures { Gives (λ b. b) result (buffers_of (seen value.entry)) }
+    ensures { Gives (λ b. b) result (buffers_of (behind value.entry)) }
 {
     let Some(value) = value else {
         return Ok(Buffers::none(alloc));

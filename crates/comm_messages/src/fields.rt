@@ -2,7 +2,7 @@ ghost use Rattle.std.specs.Prelude.{◌≡◌, ◌<◌, false, option_map, IfOk}
 ghost use Rattle.serde_json.specs.Find.{get_member};
 ghost use Rattle.comm_value.specs.Places.{members_have_bytes};
 ghost use Rattle.comm_messages.specs.Gives.{Gives};
-ghost use Rattle.comm_messages.specs.Fields.{seen, fields, read_fields, object_in, object_or_empty, text, text_or_none, client_of};
+ghost use Rattle.comm_messages.specs.Fields.{behind, fields, read_fields, object_in, object_or_empty, text, text_or_none, client_of};
 ghost use Rattle.comm_messages.specs.Message.{whole_dict};
 
 use crate::fault::MessageFault;
@@ -36,7 +36,7 @@ pub fn fields_of<'v, 'a>(object: &'v Members<'a>) -> Fields<'v, 'a>
 
 /// The member of this name.
 pub fn member<'v, 'a>(of: Fields<'v, 'a>, name: &str) -> Option<JsonRef<'v, 'a>>
-    ensures { seen result ≡ get_member name.now (fields of.entry) }
+    ensures { behind result ≡ get_member name.now (fields of.entry) }
 {
     match of {
         None => None,
@@ -46,7 +46,7 @@ pub fn member<'v, 'a>(of: Fields<'v, 'a>, name: &str) -> Option<JsonRef<'v, 'a>>
 
 /// The members of an object, where absent or null is an empty one; None at any other value.
 pub fn object_or_empty<'v, 'a>(value: Option<JsonRef<'v, 'a>>) -> Option<Fields<'v, 'a>>
-    ensures { option_map fields result ≡ object_or_empty (seen value.entry) }
+    ensures { option_map fields result ≡ object_or_empty (behind value.entry) }
 {
     let Some(value) = value else {
         return Some(None);
@@ -60,7 +60,7 @@ pub fn object_or_empty<'v, 'a>(value: Option<JsonRef<'v, 'a>>) -> Option<Fields<
 
 /// A text; None where it is absent or another value.
 pub fn text<'v>(value: Option<JsonRef<'v, '_>>) -> Option<&'v str>
-    ensures { option_map (λ t. t.now) result ≡ text (seen value.entry) }
+    ensures { option_map (λ t. t.now) result ≡ text (behind value.entry) }
 {
     match value?.shape() {
         Shape::Text(text) => Some(text),
@@ -71,7 +71,7 @@ pub fn text<'v>(value: Option<JsonRef<'v, '_>>) -> Option<&'v str>
 
 /// A text, where absent or null is Some(None); None at any other value.
 pub fn text_or_none<'v>(value: Option<JsonRef<'v, '_>>) -> Option<Option<&'v str>>
-    ensures { option_map (λ t. option_map (λ s. s.now) t) result ≡ text_or_none (seen value.entry) }
+    ensures { option_map (λ t. option_map (λ s. s.now) t) result ≡ text_or_none (behind value.entry) }
 {
     let Some(value) = value else {
         return Some(None);
@@ -85,7 +85,7 @@ pub fn text_or_none<'v>(value: Option<JsonRef<'v, '_>>) -> Option<Option<&'v str
 
 /// The client: 0 where it is absent or null, else a whole number below `clients`, else BadClient.
 pub fn client_of(value: Option<JsonRef<'_, '_>>, clients: u8) -> Result<u8, MessageFault>
-    ensures value { Gives (λ n. n) result (client_of clients (seen value.entry)) }
+    ensures value { Gives (λ n. n) result (client_of clients (behind value.entry)) }
     ensures below { 0 < clients → IfOk result (λ n. n < clients) }
 {
     let Some(value) = value else {

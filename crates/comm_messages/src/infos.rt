@@ -1,4 +1,5 @@
 ghost use Rattle.std.specs.Prelude.{◌≡◌, IfOk};
+ghost use Rattle.comm_messages.specs.Listed.{IdsAreInOrder};
 
 use comm_value::Text;
 use std::alloc::{AllocError, Global};
@@ -12,7 +13,7 @@ pub struct Info {
     pub target: Text,
 }
 
-/// Open comms, seen as a list, which copies share. A reply lists them in the byte order of their ids.
+/// Open comms, seen as a list in the byte order of their ids, each id once, as a reply lists them. Copies share it.
 #[derive(Drop)]
 pub struct Infos {
     all: Arc<Vec<Info>, Global>,
@@ -21,16 +22,20 @@ pub struct Infos {
 impl Model for Infos {
     ghost use Rattle.std.specs.Prelude.{List};
     ghost use Rattle.std.specs.Arc.{arc_value};
+    ghost use Rattle.comm_messages.specs.Listed.{IdsAreInOrder};
     ghost use Rattle.comm_messages.specs.declared.infos.Info.{Info};
 
     ghost Value = { List Info };
 
     ghost view = { λ i. (arc_value i.all).items };
+
+    ghost invariant = { λ i. IdsAreInOrder (arc_value i.all).items };
 }
 
 impl Infos {
-    /// These comms in this order, which are moved in. Err: memory.
+    /// These comms, which stand in the byte order of their ids and are moved in. Err: memory.
     pub fn new(alloc: Global, all: Vec<Info>) -> Result<Infos, AllocError>
+        requires { IdsAreInOrder all.items }
         ensures { IfOk result (λ i. i ≡ all.items) }
     {
         Ok(Infos {
@@ -47,8 +52,10 @@ impl Infos {
         })
     }
 
+    /// The comms in the byte order of their ids, each id once.
     pub fn as_slice(&self) -> &[Info]
-        ensures { result.now ≡ self.now }
+        ensures listed { result.now ≡ self.now }
+        ensures in_order { IdsAreInOrder self.now }
     {
         self.all.as_slice()
     }

@@ -1,6 +1,9 @@
+ghost use Rattle.std.specs.Prelude.{◌≡◌, IfOk};
+
 use crate::body::Body;
 use crate::infos::Infos;
 use comm_value::Text;
+use std::alloc::{AllocError, Global};
 
 /// A message that the kernel sends ('Messaging in Jupyter' 5.3, "Custom Messages").
 #[derive(Drop)]
@@ -34,4 +37,33 @@ pub enum Parent {
     Call { client: u8, number: u64 },
     /// A read of a client, by the number of changes that it saw.
     Read { client: u8, front: u64 },
+}
+
+impl Outgoing {
+    /// The same message. Its texts, members and buffers are shared. An error says that memory ran out.
+    pub fn copy(&self, alloc: Global) -> Result<Outgoing, AllocError>
+        ensures { IfOk result (λ m. m ≡ self.now) }
+    {
+        match self {
+            Outgoing::Open {
+                id,
+                target,
+                version,
+                body,
+            } => Ok(Outgoing::Open {
+                id: id.copy()?,
+                target: target.copy()?,
+                version: version.copy()?,
+                body: body.copy(alloc)?,
+            }),
+            Outgoing::Msg { id, body } => Ok(Outgoing::Msg {
+                id: id.copy()?,
+                body: body.copy(alloc)?,
+            }),
+            Outgoing::Close { id } => Ok(Outgoing::Close { id: id.copy()? }),
+            Outgoing::InfoReply { comms } => Ok(Outgoing::InfoReply {
+                comms: comms.copy()?,
+            }),
+        }
+    }
 }

@@ -1,7 +1,7 @@
 ghost use Rattle.std.specs.Prelude.{◌≡◌, ◌<◌, IfOk, Some, option_map, codes};
 ghost use Rattle.serde_json.specs.View.{view};
 ghost use Rattle.comm_messages.specs.Gives.{Gives};
-ghost use Rattle.comm_messages.specs.Fields.{seen, fields};
+ghost use Rattle.comm_messages.specs.Fields.{behind, fields};
 ghost use Rattle.comm_messages.specs.Message.{type_named, type_of, heading, text_at, filter_at, object_at, version_of, body_of, open_in, msg_in, unused_in, close_in, info_request_in, incoming_in, message_in, message_of, message};
 
 use crate::body::Body;
@@ -74,7 +74,7 @@ fn heading(line: Fields<'_, '_>, clients: u8) -> Result<(u8, MessageType), Messa
 }
 
 fn type_of(header: Option<JsonRef<'_, '_>>) -> Result<MessageType, MessageFault>
-    ensures { Gives (λ t. t) result (type_of (seen header.entry)) }
+    ensures { Gives (λ t. t) result (type_of (behind header.entry)) }
 {
     let Some(header) = header else {
         return Err(MessageFault::NoType);

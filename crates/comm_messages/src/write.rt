@@ -6,7 +6,7 @@ ghost use Rattle.serde_json.specs.Written.{comma_if, items_text, members_text, c
 ghost use Rattle.serde_json.specs.Data.{object};
 ghost use Rattle.comm_value.specs.ToJson.{json_members};
 ghost use Rattle.comm_messages.specs.Text.{text, buffer_texts, comm_members, goes_with};
-ghost use Rattle.comm_messages.specs.Parts.{Appends, buffers_text, parent_text, front_text, content_text, end_text};
+ghost use Rattle.comm_messages.specs.Parts.{GrowsBy, buffers_text, parent_text, front_text, content_text, end_text};
 
 use crate::body::Body;
 use crate::infos::{Info, Infos};
@@ -49,7 +49,7 @@ pub fn append_message(
 }
 
 fn append_parent(parent: &Parent, out: &mut Vec<u8>) -> Result<(), AllocError>
-    ensures { OnOk result (Appends out.old.items (parent_text parent.now) out.new.items) }
+    ensures { OnOk result (GrowsBy out.old.items (parent_text parent.now) out.new.items) }
 {
     match parent {
         Parent::Call { client, number } => {
@@ -63,7 +63,7 @@ fn append_parent(parent: &Parent, out: &mut Vec<u8>) -> Result<(), AllocError>
 }
 
 fn append_client(client: u8, out: &mut Vec<u8>) -> Result<(), AllocError>
-    ensures { OnOk result (Appends out.old.items (codes ",\"client\":" ++ decimal client) out.new.items) }
+    ensures { OnOk result (GrowsBy out.old.items (codes ",\"client\":" ++ decimal client) out.new.items) }
 {
     append(b",\"client\":", out)?;
     append_number(client as u64, out)?;
@@ -71,7 +71,7 @@ fn append_client(client: u8, out: &mut Vec<u8>) -> Result<(), AllocError>
 }
 
 fn append_front(parent: &Parent, out: &mut Vec<u8>) -> Result<(), AllocError>
-    ensures { OnOk result (Appends out.old.items (front_text parent.now) out.new.items) }
+    ensures { OnOk result (GrowsBy out.old.items (front_text parent.now) out.new.items) }
 {
     match parent {
         Parent::Call { .. } => append(b"", out)?,
@@ -84,7 +84,7 @@ fn append_front(parent: &Parent, out: &mut Vec<u8>) -> Result<(), AllocError>
 }
 
 fn append_content(message: &Outgoing, out: &mut Vec<u8>) -> Result<(), AllocError>
-    ensures { OnOk result (Appends out.old.items (content_text message.now) out.new.items) }
+    ensures { OnOk result (GrowsBy out.old.items (content_text message.now) out.new.items) }
 {
     match message {
         Outgoing::Open {
@@ -119,7 +119,7 @@ fn append_content(message: &Outgoing, out: &mut Vec<u8>) -> Result<(), AllocErro
 
 // The members of the object and its closing bracket.
 fn append_comms(comms: &Infos, out: &mut Vec<u8>) -> Result<(), AllocError>
-    ensures { OnOk result (Appends out.old.items (members_text false (comm_members comms.now)) out.new.items) }
+    ensures { OnOk result (GrowsBy out.old.items (members_text false (comm_members comms.now)) out.new.items) }
 {
     for (number, info) in comms.as_slice().iter().enumerate() {
         append_comm(number, info, out)?;
@@ -128,7 +128,7 @@ fn append_comms(comms: &Infos, out: &mut Vec<u8>) -> Result<(), AllocError>
 }
 
 fn append_comm(number: usize, info: &Info, out: &mut Vec<u8>) -> Result<(), AllocError>
-    ensures { OnOk result (Appends out.old.items (comma_if (nat_lt 0 number) ++ (quoted info.now.id ++ (codes ":{\"target_name\":" ++ (quoted info.now.target ++ codes "}")))) out.new.items) }
+    ensures { OnOk result (GrowsBy out.old.items (comma_if (nat_lt 0 number) ++ (quoted info.now.id ++ (codes ":{\"target_name\":" ++ (quoted info.now.target ++ codes "}")))) out.new.items) }
 {
     append_comma(number, out)?;
     append_text(&info.id, out)?;
@@ -139,7 +139,7 @@ fn append_comm(number: usize, info: &Info, out: &mut Vec<u8>) -> Result<(), Allo
 }
 
 fn append_id(id: &Text, out: &mut Vec<u8>) -> Result<(), AllocError>
-    ensures { OnOk result (Appends out.old.items (codes "{\"comm_id\":" ++ quoted id.now) out.new.items) }
+    ensures { OnOk result (GrowsBy out.old.items (codes "{\"comm_id\":" ++ quoted id.now) out.new.items) }
 {
     append(b"{\"comm_id\":", out)?;
     append_text(id, out)?;
@@ -147,7 +147,7 @@ fn append_id(id: &Text, out: &mut Vec<u8>) -> Result<(), AllocError>
 }
 
 fn append_data(body: &Body, out: &mut Vec<u8>) -> Result<(), AllocError>
-    ensures { OnOk result (Appends out.old.items (codes ",\"data\":" ++ compact_text (object (json_members body.now.content))) out.new.items) }
+    ensures { OnOk result (GrowsBy out.old.items (codes ",\"data\":" ++ compact_text (object (json_members body.now.content))) out.new.items) }
 {
     append(b",\"data\":", out)?;
     body.content().write_json(out)?;
@@ -155,7 +155,7 @@ fn append_data(body: &Body, out: &mut Vec<u8>) -> Result<(), AllocError>
 }
 
 fn append_end(message: &Outgoing, out: &mut Vec<u8>) -> Result<(), AllocError>
-    ensures { OnOk result (Appends out.old.items (end_text message.now) out.new.items) }
+    ensures { OnOk result (GrowsBy out.old.items (end_text message.now) out.new.items) }
 {
     match message {
         Outgoing::Open { version, .. } => {
@@ -183,20 +183,20 @@ fn append_end(message: &Outgoing, out: &mut Vec<u8>) -> Result<(), AllocError>
 }
 
 fn append(bytes: &[u8], out: &mut Vec<u8>) -> Result<(), AllocError>
-    ensures { OnOk result (Appends out.old.items bytes.now out.new.items) }
+    ensures { OnOk result (GrowsBy out.old.items bytes.now out.new.items) }
 {
     out.extend_from_slice(bytes)
 }
 
 fn append_text(text: &Text, out: &mut Vec<u8>) -> Result<(), AllocError>
-    ensures { OnOk result (Appends out.old.items (quoted text.now) out.new.items) }
+    ensures { OnOk result (GrowsBy out.old.items (quoted text.now) out.new.items) }
 {
     write_text(text.as_str(), out)
 }
 
 // A comma stands before each but the first.
 fn append_comma(number: usize, out: &mut Vec<u8>) -> Result<(), AllocError>
-    ensures { OnOk result (Appends out.old.items (comma_if (nat_lt 0 number)) out.new.items) }
+    ensures { OnOk result (GrowsBy out.old.items (comma_if (nat_lt 0 number)) out.new.items) }
 {
     if number > 0 {
         out.push(b',')?;
@@ -205,7 +205,7 @@ fn append_comma(number: usize, out: &mut Vec<u8>) -> Result<(), AllocError>
 }
 
 fn append_number(number: u64, out: &mut Vec<u8>) -> Result<(), AllocError>
-    ensures { OnOk result (Appends out.old.items (decimal number) out.new.items) }
+    ensures { OnOk result (GrowsBy out.old.items (decimal number) out.new.items) }
 {
     let mut buffer = itoa::Buffer::new();
     out.extend_from_slice(buffer.format(number).as_bytes())
@@ -213,7 +213,7 @@ fn append_number(number: u64, out: &mut Vec<u8>) -> Result<(), AllocError>
 
 // The items of the list and its closing bracket.
 fn append_buffers_of(alloc: Global, message: &Outgoing, out: &mut Vec<u8>) -> Result<(), AllocError>
-    ensures { OnOk result (Appends out.old.items (buffers_text message.now) out.new.items) }
+    ensures { OnOk result (GrowsBy out.old.items (buffers_text message.now) out.new.items) }
 {
     match message {
         Outgoing::Open { body, .. } | Outgoing::Msg { body, .. } => append_buffers(
@@ -228,7 +228,7 @@ fn append_buffers_of(alloc: Global, message: &Outgoing, out: &mut Vec<u8>) -> Re
 
 /// Puts the buffers behind what the buffer holds, each as its base64 text: the items of a JSON list, and its closing bracket.
 pub fn append_buffers(alloc: Global, buffers: &Buffers, out: &mut Vec<u8>) -> Result<(), AllocError>
-    ensures { OnOk result (Appends out.old.items (items_text false (buffer_texts buffers.now)) out.new.items) }
+    ensures { OnOk result (GrowsBy out.old.items (items_text false (buffer_texts buffers.now)) out.new.items) }
 {
     for (number, buffer) in buffers.as_slice().iter().enumerate() {
         append_buffer(alloc, number, buffer, out)?;
@@ -242,7 +242,7 @@ fn append_buffer(
     buffer: &Bytes,
     out: &mut Vec<u8>,
 ) -> Result<(), AllocError>
-    ensures { OnOk result (Appends out.old.items (comma_if (nat_lt 0 number) ++ quoted (encode_of standard buffer.now)) out.new.items) }
+    ensures { OnOk result (GrowsBy out.old.items (comma_if (nat_lt 0 number) ++ quoted (encode_of standard buffer.now)) out.new.items) }
 {
     append_comma(number, out)?;
     let text = STANDARD.encode(alloc, buffer.as_slice())?;

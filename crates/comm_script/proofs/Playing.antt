@@ -18,8 +18,8 @@ says_next : {A : Type 0} (limits : Limits) (stock : List Registered) (input : Li
     → Says limits stock input new (number + 1) more said
 says_next limits stock input s new number rest line more text said before cut writes keeps =
     let now = before.now in
-    let next = played_from limits (turn limits now (number + 1) line).after (number + 1) (lines_of more) in
-    let split : played_from limits now number (lines_of rest) ≡ (turn limits now (number + 1) line).text ++ next = ap (played_from limits now number) cut in
+    let next = (played_from limits (turn limits now (number + 1) line).after (number + 1) (lines_of more)).text in
+    let split : (played_from limits now number (lines_of rest)).text ≡ (turn limits now (number + 1) line).text ++ next = ap (λ lines. (played_from limits now number lines).text) cut in
     record {
       now = (turn limits now (number + 1) line).after;
       stands = keeps now before.stands;

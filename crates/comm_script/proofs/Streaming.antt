@@ -1,5 +1,6 @@
 -- A script that is played as it comes.
-use Rattle.std.proofs.Common.{◌≡◌, ℕ, ◌<◌, List, [], ◌++◌, length, sym, ap, ◌∙◌, append_assoc, append-nil, refl, subst, Option, Some, None, IfSome, take, drop, take-append-drop, false, ◌-◌, inl}
+use Rattle.std.proofs.Common.{◌≡◌, ℕ, ◌<◌, ◌≤◌, List, [], ◌++◌, length, sym, ap, ◌∙◌, append_assoc, append-nil, refl, subst, Option, Some, None, IfSome, take, drop, take-append-drop, arith, false, ◌-◌, inl}
+use Rattle.std.proofs.lemmas.List.{length-take}
 use Rattle.std.specs.Io.KnownBytes.{Appends, Consumes, IsAtEnd, Keeps, append_known}
 use Rattle.comm_core.specs.declared.limits.Limits.{Limits}
 use Rattle.comm_script.specs.Lines.{lines_of, has_line_feed, IsWhole}
@@ -137,7 +138,7 @@ pub begins_streams : {A : Type 0} (limits : Limits) (stock : List Registered) (i
     → Streams limits stock input before now left s number pending → Begins before now (played limits stock input)
 begins_streams limits stock input before now left s number pending h =
     let says = still limits stock input before now left s number pending h in
-    record { part = h.written; rest = played_from limits says.now number (lines_of (pending ++ h.rest)); appends = h.appends; is = sym says.whole }
+    record { part = h.written; rest = (played_from limits says.now number (lines_of (pending ++ h.rest))).text; appends = h.appends; is = sym says.whole }
 
 appends_known : (now : Option (List ℕ)) (said : List ℕ) → Appends now (append_known now said) said
 appends_known None said = tt
@@ -151,7 +152,7 @@ unfolding streams_next
 begins_piece limits stock input before now then left new s t number next pending piece kept none said h read empty cuts sent =
     let after = streams_next limits stock input before now (append_known now said) left new s t number next pending piece kept none said h read empty cuts (appends_known now said) in
     let says = still limits stock input before (append_known now said) new t next kept after in
-    begins_part before now then h.written said (played_from limits says.now next (lines_of (kept ++ after.rest))) (played limits stock input) h.appends sent says.whole
+    begins_part before now then h.written said (played_from limits says.now next (lines_of (kept ++ after.rest))).text (played limits stock input) h.appends sent says.whole
 
 -- a part of what the last line says was written
 pub begins_last : {A : Type 0} (limits : Limits) (stock : List Registered) (input : List ℕ) (before now then left new : Option (List ℕ)) (s : Session A) (number : ℕ) (pending bytes none said : List ℕ) (n : ℕ) (buf : List ℕ)
@@ -182,10 +183,26 @@ stops_streams limits stock input before now left s number pending h one_line = r
   answered = answered limits stock input before now left s number pending h;
 }
 
-pub pauses_streams : {A : Type 0} (limits : Limits) (stock : List Registered) (input : List ℕ) (before now left : Option (List ℕ)) (s : Session A) (number : ℕ) (pending : List ℕ)
-    → Streams limits stock input before now left s number pending → Pauses limits stock input before now
-pauses_streams limits stock input before now left s number pending h =
-    record { whole = h.whole; ended = h.ended; rest = pending ++ h.rest; is = h.is; answered = answered limits stock input before now left s number pending h }
+pub short_piece : (n : ℕ) (buf : List ℕ) → length buf ≤ 65536 → length (take n buf) ≤ 65536
+short_piece n buf few = omega (arith, length-take n buf)
+
+-- a piece has come, and none of its lines is answered
+pub pauses_streams : {A : Type 0} (limits : Limits) (stock : List Registered) (input : List ℕ) (before now left new : Option (List ℕ)) (s : Session A) (number : ℕ) (pending piece : List ℕ)
+    → Streams limits stock input before now left s number pending → has_line_feed pending ≡ false → Consumes left new piece → length piece ≤ 65536 → Pauses limits stock input new before now
+pauses_streams limits stock input before now left new s number pending piece h one_line read short =
+    let after = left_after left new h.rest piece h.known read in
+    record {
+      whole = h.whole;
+      ended = h.ended;
+      cut = pending;
+      one_line = one_line;
+      piece = piece;
+      short = short;
+      rest = after.0;
+      known = after.1;
+      is = h.is ∙ ap (λ rest. h.whole ++ (pending ++ rest)) after.2;
+      answered = answered limits stock input before now left s number pending h;
+    }
 
 -- ---- a text that is being written
 

@@ -17,15 +17,18 @@ use Rattle.comm_core.specs.Machine.{Machine, Registered, Name, has}
 use Rattle.comm_core.specs.Step.{Outcome, Stepped, step, asks, Allowed}
 use Rattle.comm_core.specs.Exact.{exact_outcome, outcome_at, is_exact, is_free, registers_free}
 use Rattle.comm_core.specs.declared.question.Question.{Question}
-use Rattle.comm_core.specs.History.{Entry, change, mine, applied, next_of, replay, replay_from, is_of}
+use Rattle.comm_core.specs.History.{mine, applied, next_of, replay, replay_from, is_of}
+use Rattle.comm_core.specs.declared.entry.Entry.{Entry}
+use Rattle.comm_core.specs.declared.entry.Entry.TheVariants.{Change}
 use Rattle.comm_core.specs.Ready as core
 use Rattle.comm_script.specs.Words.{reply_line, out_lines}
-use Rattle.comm_script.specs.Stock.{registered_of, first_of, rest_of, has_kind}
-use Rattle.comm_script.specs.Played.{Standing, Turn, machine, called, changed, turned, registered, restocked, stocked, stock_after}
+use Rattle.comm_core.specs.Tables.{registered_of}
+use Rattle.comm_script.specs.Stock.{first_of, rest_of, has_kind}
+use Rattle.comm_script.specs.Played.{Standing, Turn, machine, called, changed, restocked}
 use Rattle.comm_script.specs.Session.{Stands}
 use Rattle.comm_script.specs.declared.session.Session.{Session}
-use Rattle.comm_script.specs.declared.stock.Word.{Word}
-use Rattle.comm_script.specs.declared.stock.Word.TheVariants as word
+use Rattle.comm_script.specs.declared.stock.StockKind.{StockKind}
+use Rattle.comm_script.specs.declared.stock.StockKind.TheVariants as stock_kind
 
 -- ---- the step of the definition
 
@@ -62,7 +65,7 @@ replay_more limit m [] e = refl
 replay_more limit m (x ∷ es) e = replay_more limit (applied limit m x) es e
 
 abbrev pub entry : Limits → Standing → ℕ → Call → Stepped → Entry
-entry limits now client c S = change client (length (mine now.history client) + 1) c (exact_outcome limits.comms (machine limits now) c) S.reply S.outgoing
+entry limits now client c S = Change client (length (mine now.history client) + 1) c (exact_outcome limits.comms (machine limits now) c) S.reply S.outgoing
 
 next_machine : (limits : Limits) (now : Standing) (client : ℕ) (c : Call) (S : Stepped) → step limits.comms (machine limits now) c (exact_outcome limits.comms (machine limits now) c) ≡ Some S
     → replay limits.comms (now.history ++ entry limits now client c S ∷ []) ≡ S.next
@@ -97,59 +100,60 @@ stands_grown limits now client c S s new stock stands is h below same limit next
   ]);
 }
 
-pub called_is : (limits : Limits) (now : Standing) (client : ℕ) (c : Call) (S : Stepped) → step limits.comms (machine limits now) c (exact_outcome limits.comms (machine limits now) c) ≡ Some S
-    → called limits now client c ≡ changed limits now client c S
-called_is limits now client c S is = ap (turned limits now client c) is
+called_is : (limits : Limits) (now : Standing) (client : ℕ) (c : Call) (left : Reply → List Registered) (S : Stepped)
+    → step limits.comms (machine limits now) c (exact_outcome limits.comms (machine limits now) c) ≡ Some S
+    → called limits now client c left ≡ changed limits now client c left (Some S)
+called_is limits now client c left S is = ap (changed limits now client c left) is
 
-pub stands_called : {A : Type 0} (limits : Limits) (now : Standing) (client : ℕ) (c : Call) (S : Stepped) (s new : Session A)
+pub stands_called : {A : Type 0} (limits : Limits) (now : Standing) (client : ℕ) (c : Call) (left : Reply → List Registered) (S : Stepped) (s new : Session A)
     → Stands limits now s → step limits.comms (machine limits now) c (exact_outcome limits.comms (machine limits now) c) ≡ Some S → client < length s.made → client < 4
-    → new.limits ≡ s.limits → new.core.limit ≡ s.core.limit → core.machine new.core ≡ S.next → is_exact S.next ≡ true → new.stock.targets ≡ s.stock.targets → new.changes ≡ s.changes + 1
-    → new.made ≡ set s.made client (get_or s.made client 0 + 1) → Stands limits (called limits now client c).after new
-stands_called limits now client c S s new stands is h below same limit next exact shelf changes made =
-    subst (λ (t : Turn). Stands limits t.after new) (sym (called_is limits now client c S is))
-    (stands_grown limits now client c S s new now.stock stands is h below same limit next exact (shelf ∙ stands.stock) changes made)
+    → new.limits ≡ s.limits → new.core.limit ≡ s.core.limit → core.machine new.core ≡ S.next → is_exact S.next ≡ true → new.stock.targets ≡ left S.reply → new.changes ≡ s.changes + 1
+    → new.made ≡ set s.made client (get_or s.made client 0 + 1) → Stands limits (called limits now client c left).after new
+stands_called limits now client c left S s new stands is h below same limit next exact shelf changes made =
+    subst (λ (t : Turn). Stands limits t.after new) (sym (called_is limits now client c left S is))
+    (stands_grown limits now client c S s new (left S.reply) stands is h below same limit next exact shelf changes made)
 
 -- what is said of a change
-pub said : {A : Type 0} (limits : Limits) (now : Standing) (client : ℕ) (c : Call) (S : Stepped) (s : Session A) (old new : List ℕ) → Stands limits now s
+pub said : {A : Type 0} (limits : Limits) (now : Standing) (client : ℕ) (c : Call) (left : Reply → List Registered) (S : Stepped) (s : Session A) (old new : List ℕ) → Stands limits now s
     → step limits.comms (machine limits now) c (exact_outcome limits.comms (machine limits now) c) ≡ Some S → client < 4
-    → new ≡ old ++ (reply_line (s.changes + 1) S.reply ++ out_lines S.outgoing (parent.Call client (get_or s.made client 0 + 1))) → new ≡ old ++ (called limits now client c).text
-said limits now client c S s old new stands is below p =
+    → new ≡ old ++ (reply_line (s.changes + 1) S.reply ++ out_lines S.outgoing (parent.Call client (get_or s.made client 0 + 1))) → new ≡ old ++ (called limits now client c left).text
+said limits now client c left S s old new stands is below p =
     p ∙ ap (λ n. old ++ (reply_line (n + 1) S.reply ++ out_lines S.outgoing (parent.Call client (get_or s.made client 0 + 1)))) stands.changes
     ∙ ap (λ n. old ++ (reply_line (length now.history + 1) S.reply ++ out_lines S.outgoing (parent.Call client (n + 1)))) (stands.made client below)
-    ∙ ap (λ (t : Turn). old ++ t.text) (sym (called_is limits now client c S is))
+    ∙ ap (λ (t : Turn). old ++ t.text) (sym (called_is limits now client c left S is))
 
 -- ---- registers
 
-pub asks_nothing : (limit : ℕ) (m : Machine) (name : Name) (k : Kind) (notes : ℕ) → asks limit m (Register name k notes) ≡ None
+asks_nothing : (limit : ℕ) (m : Machine) (name : Name) (k : Kind) (notes : ℕ) → asks limit m (Register name k notes) ≡ None
 asks_nothing limit m name k notes = cases limit m name k notes (has m.targets name) refl
   where
     cases : (limit : ℕ) (m : Machine) (name : Name) (k : Kind) (notes : ℕ) (b : Bool) → has m.targets name ≡ b → asks limit m (Register name k notes) ≡ None
     cases limit m name k notes true h = rw h refl
     cases limit m name k notes false h = rw h refl
 
-kind_fits : (w : Word) (k : Kind) → has_kind w k ≡ true → is_free k ≡ false
+kind_fits : (w : StockKind) (k : Kind) → has_kind w k ≡ true → is_free k ≡ false
 kind_fits w kind.Echo h = refl
 kind_fits w kind.Counter h = refl
 kind_fits w kind.Widget h = refl
-kind_fits word.Echo kind.Free h = cc
-kind_fits word.Counter kind.Free h = cc
-kind_fits word.Widget kind.Free h = cc
+kind_fits stock_kind.Echo kind.Free h = cc
+kind_fits stock_kind.Counter kind.Free h = cc
+kind_fits stock_kind.Widget kind.Free h = cc
 
-first_case : (w : Word) (x : Registered) (rs : List Registered) (r : Registered) → (first_of w rs ≡ Some r → is_free r.kind ≡ false) → (b : Bool) → has_kind w x.kind ≡ b → first_of w (x ∷ rs) ≡ Some r → is_free r.kind ≡ false
+first_case : (w : StockKind) (x : Registered) (rs : List Registered) (r : Registered) → (first_of w rs ≡ Some r → is_free r.kind ≡ false) → (b : Bool) → has_kind w x.kind ≡ b → first_of w (x ∷ rs) ≡ Some r → is_free r.kind ≡ false
 first_case w x rs r more true h is = let found : Some x ≡ Some r = rw h at is in let same : x ≡ r = cc in subst (λ (q : Registered). is_free q.kind ≡ false) same (kind_fits w x.kind h)
 first_case w x rs r more false h is = more (rw h at is)
 
 -- no target of the stock that has the kind is free
-pub first_fits : (w : Word) (rs : List Registered) (r : Registered) → first_of w rs ≡ Some r → is_free r.kind ≡ false
+pub first_fits : (w : StockKind) (rs : List Registered) (r : Registered) → first_of w rs ≡ Some r → is_free r.kind ≡ false
 first_fits w [] r is = cc
 first_fits w (x ∷ rs) r is = first_case w x rs r (λ h. first_fits w rs r h) (has_kind w x.kind) refl is
 
-rest_case : (w : Word) (x : Registered) (rs : List Registered) → (first_of w rs ≡ None → rest_of w rs ≡ rs) → (b : Bool) → has_kind w x.kind ≡ b → first_of w (x ∷ rs) ≡ None → rest_of w (x ∷ rs) ≡ x ∷ rs
+rest_case : (w : StockKind) (x : Registered) (rs : List Registered) → (first_of w rs ≡ None → rest_of w rs ≡ rs) → (b : Bool) → has_kind w x.kind ≡ b → first_of w (x ∷ rs) ≡ None → rest_of w (x ∷ rs) ≡ x ∷ rs
 rest_case w x rs more true h is = let never : Some x ≡ None = rw h at is in cc
 rest_case w x rs more false h is = rw h (ap (λ l. x ∷ l) (more (rw h at is)))
 
 -- a stock without the kind stays
-pub rest_without : (w : Word) (rs : List Registered) → first_of w rs ≡ None → rest_of w rs ≡ rs
+pub rest_without : (w : StockKind) (rs : List Registered) → first_of w rs ≡ None → rest_of w rs ≡ rs
 rest_without w [] is = refl
 rest_without w (x ∷ rs) is = rest_case w x rs (λ h. rest_without w rs h) (has_kind w x.kind) refl is
 
@@ -167,21 +171,6 @@ restocked_is m rest (reply.Unregistered ids) = refl
 restocked_is m rest reply.NoTarget = refl
 restocked_is m rest reply.Launched = refl
 restocked_is m rest reply.NotWidget = refl
-
-abbrev asked_for : Name → Registered → Call
-asked_for name r = Register name r.kind r.notes
-
--- what is registered, where the stock has a target of the kind
-pub registered_is : (limits : Limits) (now : Standing) (number client : ℕ) (w : Word) (name : Name) (m : Meaning) (S : Stepped) → first_of w now.stock ≡ Some (registered_of m)
-    → step limits.comms (machine limits now) (Register name m.kind m.notes) (exact_outcome limits.comms (machine limits now) (Register name m.kind m.notes)) ≡ Some S
-    → registered limits now number client w name (first_of w now.stock)
-    ≡ stocked (called limits now client (Register name m.kind m.notes)) (rest_of w now.stock ++ option_to_list (option_map registered_of (core.back_of S.reply (Some m))))
-registered_is limits now number client w name m S first is =
-    let unasked : step limits.comms (machine limits now) (Register name m.kind m.notes) None ≡ Some S =
-    subst (λ (q : Option Question). step limits.comms (machine limits now) (Register name m.kind m.notes) (outcome_at (machine limits now) q) ≡ Some S) (asks_nothing limits.comms (machine limits now) name m.kind m.notes) is in
-    ap (registered limits now number client w name) first
-    ∙ ap (λ o. stocked (called limits now client (Register name m.kind m.notes)) (stock_after (registered_of m) (rest_of w now.stock) o)) unasked
-    ∙ ap (stocked (called limits now client (Register name m.kind m.notes))) (restocked_is m (rest_of w now.stock) S.reply)
 
 pub mapped : {A : Type 0} (means : A → Meaning) (o : Option A) → option_map (λ t. registered_of (means t)) o ≡ option_map registered_of (option_map means o)
 mapped means None = refl

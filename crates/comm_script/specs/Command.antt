@@ -4,12 +4,12 @@ use Rattle.std.specs.Str.{bytes_eq}
 use Rattle.serde_json.specs.Data.{Data, null, string, array, Members}
 use Rattle.serde_json.specs.Find.{get_member}
 use Rattle.uuid.specs.Text.{parsed}
-use Rattle.comm_value.specs.Tree.{Tree, dict}
+use Rattle.comm_value.specs.Tree.{Tree}
 use Rattle.comm_value.specs.Tree as tree
 use Rattle.comm_value.specs.Node.{Path}
 use Rattle.comm_value.specs.FromJson.{tree_of}
 use Rattle.comm_value.specs.Paths.{read_paths}
-use Rattle.comm_value.specs.Put.{placed}
+use Rattle.comm_value.specs.Put.{placed_in}
 use Rattle.comm_value.specs.declared.fault.ValueFault.{ValueFault}
 use Rattle.comm_value.specs.declared.fault.ValueFault.TheVariants.{NotWhole}
 use Rattle.comm_messages.specs.Buffers.{buffers_of}
@@ -19,9 +19,10 @@ use Rattle.comm_messages.specs.declared.incoming.Incoming.{Incoming}
 use Rattle.comm_messages.specs.declared.incoming.Incoming.TheVariants as incoming
 use Rattle.comm_core.specs.declared.call.Call.TheVariants as call
 use Rattle.comm_core.specs.Ready.{HandsNothingIn}
-use Rattle.comm_script.specs.declared.stock.Word.{Word}
-use Rattle.comm_script.specs.declared.stock.Word.TheVariants as word
-use Rattle.comm_script.specs.Line.{Reading, ◌>>=◌, or_fault, of_message}
+use Rattle.comm_script.specs.declared.stock.StockKind.{StockKind}
+use Rattle.comm_script.specs.declared.stock.StockKind.TheVariants as stock_kind
+use Rattle.comm_value.specs.Gives.{◌>>=◌, or_fault}
+use Rattle.comm_script.specs.Line.{Reading, of_message}
 use Rattle.comm_script.specs.declared.asked.Asked.{Asked}
 use Rattle.comm_script.specs.declared.asked.Asked.TheVariants.{Change, Register, Infos, State}
 use Rattle.comm_script.specs.declared.asked.Key.{Key}
@@ -47,14 +48,14 @@ list_or_empty (Some _) = Err (BadField key.Buffers)
 abbrev pub list_field : Members → Reading ⊤
 list_field line = list_or_empty (get_member (codes "buffers") line)
 
-abbrev pub kind_named : List ℕ → Option Word
+abbrev pub kind_named : List ℕ → Option StockKind
 kind_named name =
-    if bytes_eq name (codes "echo") then Some word.Echo
-    else if bytes_eq name (codes "counter") then Some word.Counter
-    else if bytes_eq name (codes "widget") then Some word.Widget
+    if bytes_eq name (codes "echo") then Some stock_kind.Echo
+    else if bytes_eq name (codes "counter") then Some stock_kind.Counter
+    else if bytes_eq name (codes "widget") then Some stock_kind.Widget
     else None
 
-abbrev pub kind_field : Members → Reading Word
+abbrev pub kind_field : Members → Reading StockKind
 kind_field line = or_fault (BadField key.Kind) (option_and_then kind_named (text (get_member (codes "kind") line)))
 
 -- ---- a state with its buffers at its paths
@@ -63,14 +64,13 @@ abbrev pub whole_value : Option Data → Reading (Option Tree)
 whole_value None = Ok None
 whole_value (Some d) = or_fault (Value NotWhole) (tree_of d) >>= (λ t. Ok (Some t))
 
-abbrev pub members_of : Result Tree ValueFault → Reading tree.Members
-members_of (Ok (dict ms)) = Ok ms
-members_of (Ok t) = Ok tree.no_members
-members_of (Err e) = Err (Value e)
+-- a fault of a value is one of the line
+abbrev pub of_value : {A : Type 0} → Result A ValueFault → Reading A
+of_value (Ok x) = Ok x
+of_value (Err e) = Err (Value e)
 
 abbrev pub placed_at : Result (List Path) ValueFault → List (List ℕ) → tree.Members → Reading tree.Members
-placed_at (Ok paths) buffers state = members_of (placed paths buffers (dict state))
-placed_at (Err e) buffers state = Err (Value e)
+placed_at paths buffers state = of_value (paths >>= (λ ps. placed_in ps buffers state))
 
 unfoldable pub state_in : Members → Members → Reading tree.Members
 state_in object line = do

@@ -1,5 +1,5 @@
 -- What a script gives: its lines, one after the other, over a manager that holds nothing at first.
-use Rattle.std.specs.Prelude.{◌≡◌, ℕ, ◌+◌, List, [], ◌∷◌, ◌++◌, length, if◌then◌else◌, Option, Some, None, Ok, Err, false}
+use Rattle.std.specs.Prelude.{◌≡◌, ℕ, ◌+◌, ◌≤◌, List, [], ◌∷◌, ◌++◌, length, if◌then◌else◌, Option, Some, None, Ok, Err, false}
 use Rattle.std.specs.Io.KnownBytes.{Appends}
 use Rattle.comm_messages.specs.declared.outgoing.Outgoing.TheVariants as out
 use Rattle.comm_messages.specs.declared.outgoing.Parent.TheVariants as parent
@@ -11,9 +11,11 @@ use Rattle.comm_core.specs.declared.reply.Reply.TheVariants as reply
 use Rattle.comm_core.specs.Machine.{Name, Machine, Registered}
 use Rattle.comm_core.specs.Step.{Stepped, step}
 use Rattle.comm_core.specs.Exact.{exact_outcome}
-use Rattle.comm_core.specs.History.{Entry, change, mine, replay}
+use Rattle.comm_core.specs.History.{mine, replay}
+use Rattle.comm_core.specs.declared.entry.Entry.{Entry}
+use Rattle.comm_core.specs.declared.entry.Entry.TheVariants.{Change}
 use Rattle.comm_core.specs.Reads.{infos, state_of}
-use Rattle.comm_script.specs.declared.stock.Word.{Word}
+use Rattle.comm_script.specs.declared.stock.StockKind.{StockKind}
 use Rattle.comm_script.specs.Lines.{lines_of, is_blank, has_line_feed, IsWhole}
 use Rattle.comm_script.specs.Line.{Reading}
 use Rattle.comm_script.specs.Command.{asked}
@@ -39,47 +41,36 @@ says now text = record { after = now; text = text }
 abbrev pub machine : Limits → Standing → Machine
 machine limits now = replay limits.comms now.history
 
--- the client's next change, and what it comes to
-abbrev pub changed : Limits → Standing → ℕ → Call → Stepped → Turn
-changed limits now client asked s =
+-- The client's next change, where it comes to this; `left` is the stock that its reply leaves. A step is none only where an outcome is missing,
+-- and an exact one never is.
+abbrev pub changed : Limits → Standing → ℕ → Call → (Reply → List Registered) → Option Stepped → Turn
+changed limits now client asked left None = says now []
+changed limits now client asked left (Some s) =
     let number = length (mine now.history client) + 1 in
     record {
       after = record {
-        history = now.history ++ change client number asked (exact_outcome limits.comms (machine limits now) asked) s.reply s.outgoing ∷ [];
-        stock = now.stock;
+        history = now.history ++ Change client number asked (exact_outcome limits.comms (machine limits now) asked) s.reply s.outgoing ∷ [];
+        stock = left s.reply;
       };
       text = reply_line (length now.history + 1) s.reply ++ out_lines s.outgoing (parent.Call client number);
     }
 
--- a step gives none only where an outcome is missing, and an exact one never is
-abbrev pub turned : Limits → Standing → ℕ → Call → Option Stepped → Turn
-turned limits now client asked None = says now []
-turned limits now client asked (Some s) = changed limits now client asked s
-
-abbrev pub called : Limits → Standing → ℕ → Call → Turn
-called limits now client asked =
-    turned limits now client asked (step limits.comms (machine limits now) asked (exact_outcome limits.comms (machine limits now) asked))
+abbrev pub called : Limits → Standing → ℕ → Call → (Reply → List Registered) → Turn
+called limits now client asked left =
+    changed limits now client asked left (step limits.comms (machine limits now) asked (exact_outcome limits.comms (machine limits now) asked))
 
 -- a target that isn't registered comes back, and goes to the end of the stock
 abbrev pub restocked : Registered → List Registered → Reply → List Registered
 restocked r rest reply.Registered = rest
 restocked r rest other = rest ++ r ∷ []
 
-abbrev pub stocked : Turn → List Registered → Turn
-stocked t stock = record { after = record { history = t.after.history; stock = stock }; text = t.text }
-
-abbrev pub stock_after : Registered → List Registered → Option Stepped → List Registered
-stock_after r rest None = rest
-stock_after r rest (Some s) = restocked r rest s.reply
-
-abbrev pub registered : Limits → Standing → ℕ → ℕ → Word → Name → Option Registered → Turn
+abbrev pub registered : Limits → Standing → ℕ → ℕ → StockKind → Name → Option Registered → Turn
 registered limits now number client kind name None = says now (bad_line number NoStock)
 registered limits now number client kind name (Some r) =
-    let asked = call.Register name r.kind r.notes in
-    stocked (called limits now client asked) (stock_after r (rest_of kind now.stock) (step limits.comms (machine limits now) asked None))
+    called limits now client (call.Register name r.kind r.notes) (restocked r (rest_of kind now.stock))
 
 abbrev pub obeyed : Limits → Standing → ℕ → ℕ → Asked → Turn
-obeyed limits now number client (Change asked) = called limits now client asked
+obeyed limits now number client (Change asked) = called limits now client asked (λ reply. now.stock)
 obeyed limits now number client (Register kind name) = registered limits now number client kind name (first_of kind now.stock)
 obeyed limits now number client (Infos target) =
     says now (out_line (out.InfoReply (infos (machine limits now) target)) (parent.Read client (length now.history)))
@@ -94,13 +85,24 @@ unfoldable pub turn : Limits → Standing → ℕ → List ℕ → Turn
 turn limits now number line = if is_blank line then says now [] else answered limits now number (asked limits.clients line)
 
 -- the lines after the first n
-abbrev pub played_from : Limits → Standing → ℕ → List (List ℕ) → List ℕ
-played_from limits now n [] = []
-played_from limits now n (line ∷ lines) = (turn limits now (n + 1) line).text ++ played_from limits (turn limits now (n + 1) line).after (n + 1) lines
+abbrev pub played_from : Limits → Standing → ℕ → List (List ℕ) → Turn
+played_from limits now n [] = says now []
+played_from limits now n (line ∷ lines) =
+    let first = turn limits now (n + 1) line in
+    let rest = played_from limits first.after (n + 1) lines in
+    record { after = rest.after; text = first.text ++ rest.text }
 
--- what is written for a script, with these targets in stock
+-- a whole script, with these targets in stock
+abbrev pub script : Limits → List Registered → List ℕ → Turn
+script limits stock input = played_from limits (record { history = []; stock = stock }) 0 (lines_of input)
+
+-- what is written for it
 abbrev pub played : Limits → List Registered → List ℕ → List ℕ
-played limits stock input = played_from limits (record { history = []; stock = stock }) 0 (lines_of input)
+played limits stock input = (script limits stock input).text
+
+-- the changes that it makes
+abbrev pub history_of : Limits → List Registered → List ℕ → List Entry
+history_of limits stock input = (script limits stock input).after.history
 
 -- what was written before a fault
 
@@ -111,12 +113,18 @@ pub record Begins (before now : Option (List ℕ)) (text : List ℕ) : Type 0 wh
   pub appends : Appends before now part
   pub is : text ≡ part ++ rest
 
--- some lines are answered whole, and nothing else is
-pub record Pauses (limits : Limits) (stock : List Registered) (input : List ℕ) (before now : Option (List ℕ)) : Type 0 where
+-- The lines are answered that were whole before the last piece was read, which is at most 65,536 bytes. Nothing else is: neither what was cut
+-- then, nor the piece, nor the rest, which is left.
+pub record Pauses (limits : Limits) (stock : List Registered) (input : List ℕ) (left before now : Option (List ℕ)) : Type 0 where
   pub whole : List ℕ
   pub ended : IsWhole whole
+  pub cut : List ℕ
+  pub one_line : has_line_feed cut ≡ false
+  pub piece : List ℕ
+  pub short : length piece ≤ 65536
   pub rest : List ℕ
-  pub is : input ≡ whole ++ rest
+  pub known : left ≡ Some rest
+  pub is : input ≡ whole ++ (cut ++ (piece ++ rest))
   pub answered : Appends before now (played limits stock whole)
 
 -- just the lines that were read whole are answered: what was cut isn't a line yet, and the rest is left

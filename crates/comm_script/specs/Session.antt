@@ -28,7 +28,7 @@ pub record IsWithin {A : Type 0} (n : ℕ) (s : Session A) : Type 0 where
 pub record Says {A : Type 0} (limits : Limits) (stock : List Registered) (input : List ℕ) (s : Session A) (number : ℕ) (rest text : List ℕ) : Type 0 where
   pub now : Standing
   pub stands : Stands limits now s
-  pub whole : text ++ played_from limits now number (lines_of rest) ≡ played limits stock input
+  pub whole : text ++ (played_from limits now number (lines_of rest)).text ≡ played limits stock input
 
 -- the lines that end in a piece are played, and what is left of it is kept
 pub record Cuts {A : Type 0} (s : Session A) (number : ℕ) (pending piece text : List ℕ) (t : Session A) (next : ℕ) (kept said : List ℕ) : Type 0 where

@@ -1,7 +1,7 @@
 ghost use Rattle.std.specs.Prelude.{◌≡◌};
 ghost use Rattle.comm_script.specs.declared.asked.LineFault.TheVariants.{Message, Value};
 
-use crate::stock::Word;
+use crate::stock::StockKind;
 use comm_core::Call;
 use comm_messages::MessageFault;
 use comm_value::{Text, ValueFault};
@@ -13,7 +13,7 @@ pub enum Asked {
     /// A change of the manager.
     Change(Call),
     /// The registration of the first target of this kind that the stock has.
-    Register { kind: Word, name: Text },
+    Register { kind: StockKind, name: Text },
     /// The open comms, those of one target where a name is given.
     Infos { target: Option<Text> },
     /// The state of a comm.

@@ -1,16 +1,16 @@
 ghost use Rattle.std.specs.Prelude.{◌≡◌, Ok, IfOk, IfErr, option_map};
-ghost use Rattle.comm_json.specs.Seen.{seen as of_ref};
+ghost use Rattle.comm_json.specs.Behind.{behind as of_ref};
 ghost use Rattle.comm_value.specs.View.{tree};
-ghost use Rattle.comm_messages.specs.Fields.{seen, fields};
+ghost use Rattle.comm_messages.specs.Fields.{behind, fields};
 ghost use Rattle.comm_value.specs.Paths.{read_paths, Refuses};
 ghost use Rattle.comm_script.specs.Line.{Gives};
 ghost use Rattle.comm_script.specs.Command.{text_field, object_field, list_or_empty, list_field, kind_named, kind_field, whole_value, placed_at, state_in, register_in, unregister_in, launched, launch_in, push_in, send_in, hang_up_in, state_read_in, command_named, command, HandsNothing};
 ghost use Rattle.uuid.specs.Text.{parsed};
-ghost use Rattle.comm_script.specs.Line.{or_fault};
+ghost use Rattle.comm_value.specs.Gives.{or_fault};
 ghost use Rattle.comm_script.specs.declared.asked.LineFault.TheVariants.{BadUuid};
 
 use crate::asked::{Asked, Key, LineFault};
-use crate::stock::Word;
+use crate::stock::StockKind;
 use comm_core::Call;
 use comm_json::{JsonRef, Shape};
 use comm_messages::{Fields, body_of, buffers_of, member, object_or_empty, text, whole_dict};
@@ -55,21 +55,21 @@ fn list_field(line: Fields<'_, '_>) -> Result<(), LineFault>
     }
 }
 
-fn kind_named(name: &str) -> Option<Word>
+fn kind_named(name: &str) -> Option<StockKind>
     ensures { result ≡ kind_named name.now }
 {
     if name == "echo" {
-        Some(Word::Echo)
+        Some(StockKind::Echo)
     } else if name == "counter" {
-        Some(Word::Counter)
+        Some(StockKind::Counter)
     } else if name == "widget" {
-        Some(Word::Widget)
+        Some(StockKind::Widget)
     } else {
         None
     }
 }
 
-fn kind_field(line: Fields<'_, '_>) -> Result<Word, LineFault>
+fn kind_field(line: Fields<'_, '_>) -> Result<StockKind, LineFault>
     ensures { Gives (λ k. k) result (kind_field (fields line.entry)) }
 {
     match text(member(line, "kind")) {
@@ -82,7 +82,7 @@ fn kind_field(line: Fields<'_, '_>) -> Result<Word, LineFault>
 }
 
 fn whole_value(alloc: Global, json: Option<JsonRef<'_, '_>>) -> Result<Option<Val>, LineFault>
-    ensures { Gives (λ v. option_map tree v) result (whole_value (seen json.entry)) }
+    ensures { Gives (λ v. option_map tree v) result (whole_value (behind json.entry)) }
 {
     match json {
         None => Ok(None),

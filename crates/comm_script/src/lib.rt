@@ -1,12 +1,14 @@
 //! Plays scripts of comm messages and commands over a manager: a script is lines of JSON, and what is said to it is a text.
 //!
 //! [`run_with`] plays a script with a stock of targets of one type, [`run`] with boxes; [`add`] puts an idle target into a stock, and a
-//! [`RunFault`] says why a script wasn't played to its end.
+//! [`RunFault`] says why a script wasn't played to its end. The law [`scripts_make_legal_histories`] ties what a script does to the laws
+//! that `comm_core` has of whole runs.
 #![tactic(auto)]
 
 mod asked;
 mod command;
 mod fault;
+mod laws;
 mod line;
 mod lines;
 mod running;
@@ -16,5 +18,6 @@ mod stream;
 mod words;
 
 pub use fault::RunFault;
+pub use laws::scripts_make_legal_histories;
 pub use running::{run, run_with};
 pub use stock::add;

@@ -19,8 +19,9 @@ use std::io::{ErrorKind, Read, Write};
 ///
 /// What the lines of a piece say is written before the next piece is read. A reader that was called 4,294,967,295 times without
 /// ending gives Read, and so does one that fails; a call that was interrupted is made again. Whatever comes, what was written is
-/// the beginning of what the script gives: after Read what the lines give that were read whole, and after Memory what some lines
-/// give, so that no answer is cut. Each target that was registered is ended, after its comms, and the rest of the stock is let go.
+/// the beginning of what the script gives: after Read what the lines give that were read whole, and after Memory what those give
+/// that were whole before the last piece was read, so that no answer is cut. Each target that was registered is ended, after its
+/// comms, and the rest of the stock is let go.
 pub fn run_with<R: Read, W: Write, T: Target>(
     alloc: Global,
     reader: &mut R,
@@ -36,7 +37,7 @@ pub fn run_with<R: Read, W: Write, T: Target>(
     ensures read { IsErrOf result RunFault.Read → IfSome (R.remaining reader.old) (λ input.
         Stops limits (shelved (map T.means stock.items)) input (R.remaining reader.new) (W.contents writer.old) (W.contents writer.new)) }
     ensures memory { IsErrOf result RunFault.Memory → IfSome (R.remaining reader.old) (λ input.
-        Pauses limits (shelved (map T.means stock.items)) input (W.contents writer.old) (W.contents writer.new)) }
+        Pauses limits (shelved (map T.means stock.items)) input (R.remaining reader.new) (W.contents writer.old) (W.contents writer.new)) }
     ensures bad_limits { IsErrOf result RunFault.BadLimits ↔ ¬ (AreAllowed limits) }
 {
     match Session::new(alloc, limits, stock) {
@@ -65,7 +66,7 @@ pub fn run<R: Read, W: Write>(
     ensures read { IsErrOf result RunFault.Read → IfSome (R.remaining reader.old) (λ input.
         Stops limits (shelved (map (λ b. means b) stock.items)) input (R.remaining reader.new) (W.contents writer.old) (W.contents writer.new)) }
     ensures memory { IsErrOf result RunFault.Memory → IfSome (R.remaining reader.old) (λ input.
-        Pauses limits (shelved (map (λ b. means b) stock.items)) input (W.contents writer.old) (W.contents writer.new)) }
+        Pauses limits (shelved (map (λ b. means b) stock.items)) input (R.remaining reader.new) (W.contents writer.old) (W.contents writer.new)) }
     ensures bad_limits { IsErrOf result RunFault.BadLimits ↔ ¬ (AreAllowed limits) }
 {
     run_with(alloc, reader, writer, limits, stock)
@@ -88,7 +89,7 @@ fn play<R: Read, W: Write, T: Target>(
     ensures read { IsErrOf result RunFault.Read → (limits : Limits) (stock : List Registered) → Stands limits (record { history = []; stock = stock }) session.old
         → IfSome (R.remaining reader.old) (λ input. Stops limits stock input (R.remaining reader.new) (W.contents writer.old) (W.contents writer.new)) }
     ensures memory { IsErrOf result RunFault.Memory → (limits : Limits) (stock : List Registered) → Stands limits (record { history = []; stock = stock }) session.old
-        → IfSome (R.remaining reader.old) (λ input. Pauses limits stock input (W.contents writer.old) (W.contents writer.new)) }
+        → IfSome (R.remaining reader.old) (λ input. Pauses limits stock input (R.remaining reader.new) (W.contents writer.old) (W.contents writer.new)) }
     ensures settled { session.new.core.settled ≡ true }
     ensures fault { IfErr result (λ e. e ≢ RunFault.BadLimits) }
 {

@@ -16,7 +16,7 @@ use crate::asked::{Asked, LineFault};
 use crate::fault::RunFault;
 use crate::line::asked;
 use crate::lines::is_blank;
-use crate::stock::{Stock, Word};
+use crate::stock::{Stock, StockKind};
 use crate::words::{append_bad, append_out, append_outs, append_reply, append_state_line};
 use comm_core::{
     Call, Core, Limits, NewFault, Reply, exact_machines_leave_no_choice, steps_keep_machines_exact,
@@ -100,9 +100,9 @@ impl<T: Target> Session<T> {
         requires settled { self.old.core.settled ≡ true }
         requires call { HandsNothingIn call }
         ensures text { OnOk result ((limits : Limits) (now : Standing) → Stands limits now self.old
-            → text.new.items ≡ text.old.items ++ (called limits now client call).text) }
+            → text.new.items ≡ text.old.items ++ (called limits now client call (λ reply. now.stock)).text) }
         ensures stands { OnOk result ((limits : Limits) (now : Standing) → Stands limits now self.old
-            → Stands limits (called limits now client call).after self.new) }
+            → Stands limits (called limits now client call (λ reply. now.stock)).after self.new) }
         ensures within { (n : ℕ) → IsWithin n self.old → IsWithin (n + 1) self.new }
         ensures settled { self.new.core.settled ≡ true }
         ensures limits { self.new.limits ≡ self.old.limits }
@@ -120,7 +120,7 @@ impl<T: Target> Session<T> {
         alloc: Global,
         number: u64,
         client: u8,
-        word: Word,
+        kind: StockKind,
         name: Text,
         text: &mut Vec<u8>,
     ) -> Result<(), AllocError>
@@ -128,16 +128,16 @@ impl<T: Target> Session<T> {
         requires room { IsWithin (2 ^ 63) self.old }
         requires settled { self.old.core.settled ≡ true }
         ensures text { OnOk result ((limits : Limits) (now : Standing) → Stands limits now self.old
-            → text.new.items ≡ text.old.items ++ (registered limits now number client word name (first_of word now.stock)).text) }
+            → text.new.items ≡ text.old.items ++ (registered limits now number client kind name (first_of kind now.stock)).text) }
         ensures stands { OnOk result ((limits : Limits) (now : Standing) → Stands limits now self.old
-            → Stands limits (registered limits now number client word name (first_of word now.stock)).after self.new) }
+            → Stands limits (registered limits now number client kind name (first_of kind now.stock)).after self.new) }
         ensures within { (n : ℕ) → IsWithin n self.old → IsWithin (n + 1) self.new }
         ensures settled { self.new.core.settled ≡ true }
         ensures limits { self.new.limits ≡ self.old.limits }
     {
         exact_machines_leave_no_choice();
         steps_keep_machines_exact();
-        match self.stock.take(word) {
+        match self.stock.take(kind) {
             None => {
                 append_bad(number, LineFault::NoStock, text)?;
                 Ok(())

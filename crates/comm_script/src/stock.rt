@@ -1,38 +1,39 @@
-ghost use Rattle.std.specs.Prelude.{◌≡◌, ◌<◌, ◌++◌, [], ◌∷◌, true, IfSome, IfNone, OnOk, OnErr, OnSome, map, option_map, option_to_list};
+ghost use Rattle.std.specs.Prelude.{◌≡◌, ◌<◌, ◌++◌, [], ◌∷◌, true, IfSome, IfNone, IfErr, OnOk, OnErr, OnSome, map, option_map, option_to_list};
 ghost use Rattle.std.specs.Option.{ForSome};
 ghost use Rattle.comm_targets.specs.Meaning.{Meaning, IsIdle};
-ghost use Rattle.comm_script.specs.Stock.{has_kind, first_of, rest_of, registered_of, shelved, AreIdle, IsPlace, IsWithout};
+ghost use Rattle.comm_core.specs.Tables.{registered_of};
+ghost use Rattle.comm_script.specs.Stock.{has_kind, first_of, rest_of, shelved, AreIdle, IsPlace, IsWithout};
 
 use comm_targets::{Kind, Target};
-use std::alloc::AllocError;
+use std::alloc::AllocFailed;
 use std::marker::Model;
 
 /// A kind of target that a script can register.
 #[derive(Clone, Copy, Debug, PartialEq, Eq, Drop)]
-pub enum Word {
+pub enum StockKind {
     Echo,
     Counter,
     Widget,
 }
 
-fn has_kind(word: Word, kind: Kind) -> bool
-    ensures { result ≡ has_kind word kind }
+fn has_kind(wanted: StockKind, kind: Kind) -> bool
+    ensures { result ≡ has_kind wanted kind }
 {
-    match (word, kind) {
-        (Word::Echo, Kind::Echo) => true,
-        (Word::Counter, Kind::Counter) => true,
-        (Word::Widget, Kind::Widget) => true,
+    match (wanted, kind) {
+        (StockKind::Echo, Kind::Echo) => true,
+        (StockKind::Counter, Kind::Counter) => true,
+        (StockKind::Widget, Kind::Widget) => true,
         _ => false,
     }
 }
 
 // Where the first target of the kind stands.
-fn place_in<T: Target>(targets: &[T], word: Word) -> Option<usize>
-    ensures found { IfSome result (λ i. IsPlace T.means word targets.now i) }
-    ensures none { IfNone result (IsWithout T.means word targets.now) }
+fn place_in<T: Target>(targets: &[T], kind: StockKind) -> Option<usize>
+    ensures found { IfSome result (λ i. IsPlace T.means kind targets.now i) }
+    ensures none { IfNone result (IsWithout T.means kind targets.now) }
 {
     for (i, target) in targets.iter().enumerate() {
-        if has_kind(word, target.kind()) {
+        if has_kind(kind, target.kind()) {
             return Some(i);
         }
     }
@@ -65,13 +66,13 @@ impl<T: Target> Stock<T> {
     }
 
     /// The first target of the kind, and there is room to put it back.
-    pub fn take(&mut self, word: Word) -> Option<T>
-        ensures taken { option_map (λ t. registered_of (T.means t)) result ≡ first_of word self.old.targets }
-        ensures targets { self.new.targets ≡ rest_of word self.old.targets }
+    pub fn take(&mut self, kind: StockKind) -> Option<T>
+        ensures taken { option_map (λ t. registered_of (T.means t)) result ≡ first_of kind self.old.targets }
+        ensures targets { self.new.targets ≡ rest_of kind self.old.targets }
         ensures idle { IfSome result (λ t. IsIdle (T.means t)) }
         ensures room { OnSome result (0 < self.new.room) }
     {
-        match place_in(&self.targets, word) {
+        match place_in(&self.targets, kind) {
             Some(i) => Some(self.targets.remove(i)),
             None => None,
         }
@@ -89,14 +90,13 @@ impl<T: Target> Stock<T> {
     }
 }
 
-/// Puts an idle target at the end of a stock. Err: memory; the stock stays as it was, and the target was let go.
-pub fn add<T: Target>(stock: &mut Vec<T>, target: T) -> Result<(), AllocError>
-    requires target { IsIdle (T.means target) }
-    requires stock { AreIdle (map T.means stock.old.items) }
+/// Puts an idle target at the end of a stock. Err: memory; the stock stays as it was, and the target comes back.
+pub fn add<T: Target>(stock: &mut Vec<T>, target: T) -> Result<(), AllocFailed<T>>
+    requires { IsIdle (T.means target) }
     ensures added { OnOk result (stock.new.items ≡ stock.old.items ++ target ∷ []) }
-    ensures idle { OnOk result (AreIdle (map T.means stock.new.items)) }
+    ensures idle { AreIdle (map T.means stock.old.items) → OnOk result (AreIdle (map T.means stock.new.items)) }
     ensures unchanged { OnErr result (stock.new.items ≡ stock.old.items) }
+    ensures back { IfErr result (λ refused. refused.value ≡ target) }
 {
-    stock.push(target)?;
-    Ok(())
+    stock.push(target)
 }

@@ -1,12 +1,12 @@
--- The ids of a book as keys, and what stays ready as they change.
+-- The ids of open comms as keys, and what stays ready as they change.
 use Rattle.std.proofs.Common.{◌≡◌, ℕ, ◌≤◌, true, false, cond, ◌||◌, List, [], ◌∷◌, Option, Some, None, IsSome, is_some, String, refl, ap, sym, ◌∙◌, arith, true≢false}
 use Rattle.std.specs.Prelude.{string_bytes}
 use Rattle.std.specs.Map.{lookup, remove_entry}
 use Rattle.std.specs.Str.{bytes_eq}
 use Rattle.comm_tables.specs.Texts.{by_text}
-use Rattle.comm_targets.specs.Book.{texts_of, opened_by, IsReadyFor, IsReady}
+use Rattle.comm_targets.specs.OpenComms.{texts_of, opened_by, CanAdd, CanCommit}
 use Rattle.comm_targets.specs.Meaning.{has_id, without}
-use Rattle.comm_targets.specs.declared.stage.Stage.{Stage}
+use Rattle.comm_targets.specs.declared.staged_event.StagedEvent.{StagedEvent}
 
 module _ {A V : Type 0} where
   pub texts_removed : (text : List ℕ) (es : List (String A × V)) → texts_of (remove_entry (by_text text) es) ≡ without text (texts_of es)
@@ -49,18 +49,18 @@ absent_after text other (x ∷ ids) h =
     ]) refl h
 
 module _ (ids new : List (List ℕ)) (room more : ℕ) (absent : (id : List ℕ) → has_id ids id ≡ false → has_id new id ≡ false) (grown : room ≤ more) (fresh : Option (List ℕ)) where
-  ready_for_kept : (opens : Option (List ℕ)) → IsReadyFor opens fresh ids room → IsReadyFor opens fresh new more
+  ready_for_kept : (opens : Option (List ℕ)) → CanAdd opens fresh ids room → CanAdd opens fresh new more
   ready_for_kept None h = h
   ready_for_kept (Some id) h = let had = h.2 in (h.0, absent id h.1, omega (arith, had, grown))
 
-  pub ready_kept : (staged : Option Stage) → IsReady staged fresh ids room → IsReady staged fresh new more
+  pub ready_kept : (staged : Option StagedEvent) → CanCommit staged fresh ids room → CanCommit staged fresh new more
   ready_kept None h = tt
   ready_kept (Some s) h = ready_for_kept (opened_by s.event) h
 
-fresh_for : (opens : Option (List ℕ)) (text : List ℕ) (ids : List (List ℕ)) (room : ℕ) → IsReadyFor opens (Some text) ids room → has_id ids text ≡ false
+fresh_for : (opens : Option (List ℕ)) (text : List ℕ) (ids : List (List ℕ)) (room : ℕ) → CanAdd opens (Some text) ids room → has_id ids text ≡ false
 fresh_for None text ids room h = cc
 fresh_for (Some id) text ids room h = let same : text ≡ id = (let e = h.0 in cc) in ap (has_id ids) same ∙ h.1
 
-pub fresh_absent : (staged : Option Stage) (text : List ℕ) (ids : List (List ℕ)) (room : ℕ) → IsSome staged → IsReady staged (Some text) ids room → has_id ids text ≡ false
+pub fresh_absent : (staged : Option StagedEvent) (text : List ℕ) (ids : List (List ℕ)) (room : ℕ) → IsSome staged → CanCommit staged (Some text) ids room → has_id ids text ≡ false
 fresh_absent None text ids room some h = absurd (true≢false (sym some))
 fresh_absent (Some s) text ids room some h = fresh_for (opened_by s.event) text ids room h

@@ -4,8 +4,8 @@ use denote.Param.SendFields.{declared_send}
 use Rattle.std.proofs.Crossing
 use Rattle.std.proofs.alloc.Global.TheSendSync as global
 use Rattle.std.proofs.option.Option.TheSendSync as option
-use Rattle.comm_targets.specs.contracts.book.Book as book
-use Rattle.comm_targets.specs.contracts.book.Book.TheInside as inside
+use Rattle.comm_targets.specs.contracts.open_comms.OpenComms as comms
+use Rattle.comm_targets.specs.contracts.open_comms.OpenComms.TheInside as inside
 use Rattle.comm_targets.specs.contracts.echo.Echo as echo
 use Rattle.comm_targets.specs.contracts.counter.Counter as counter
 use Rattle.comm_targets.specs.contracts.latest.Latest as latest
@@ -19,14 +19,14 @@ inside_sends = declared_send inside.the_type (
   ),
 )
 
-pub book_sends : IsSend book.the_row
-book_sends = search (inside_sends, sendable) depth 60 fits 20000
+pub open_comms_sends : IsSend comms.the_row
+open_comms_sends = search (inside_sends, sendable) depth 60 fits 20000
 
 pub echo_sends : IsSend echo.the_row
-echo_sends = search (book_sends, global.the_field_send, sendable) depth 60 fits 20000
+echo_sends = search (open_comms_sends, global.the_field_send, sendable) depth 60 fits 20000
 
 pub counter_sends : IsSend counter.the_row
-counter_sends = search (book_sends, global.the_field_send, sendable) depth 60 fits 20000
+counter_sends = search (open_comms_sends, global.the_field_send, sendable) depth 60 fits 20000
 
 pub latest_sends : IsSend latest.the_row
-latest_sends = search (book_sends, global.the_field_send, sendable) depth 60 fits 20000
+latest_sends = search (open_comms_sends, global.the_field_send, sendable) depth 60 fits 20000

@@ -8,7 +8,7 @@ use Rattle.comm_targets.specs.Widget.{nothing, one_message}
 use Rattle.comm_targets.specs.declared.kind.Kind.{Kind}
 use Rattle.comm_targets.specs.declared.kind.Kind.TheVariants.{Echo, Counter, Widget, Free}
 use Rattle.comm_targets.specs.declared.event.Event.{Event}
-use Rattle.comm_targets.specs.declared.event.Event.TheVariants.{Open, Msg, Launch}
+use Rattle.comm_targets.specs.declared.event.Event.TheVariants.{Open, Msg}
 use Rattle.comm_targets.specs.declared.answer.Answer.{Answer}
 use Rattle.comm_targets.specs.declared.fault.TargetFault.{TargetFault}
 use Rattle.comm_targets.specs.declared.fault.TargetFault.TheVariants.{Other}
@@ -37,7 +37,6 @@ answer_of Free notes now e = Ok nothing
 -- a free target hands nothing to the caller where a comm is opened
 abbrev pub IsFreeAnswer : Event → Answer → Type 0
 IsFreeAnswer (Open id version body) a = a.custom ≡ None
-IsFreeAnswer (Launch id state) a = a.custom ≡ None
 IsFreeAnswer e a = Unit {0}
 
 abbrev pub IsFreeFault : TargetFault → Type 0

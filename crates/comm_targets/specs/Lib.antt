@@ -2,6 +2,6 @@ pub mod Event
 pub mod Meaning
 pub mod Widget
 pub mod Answers
-pub mod Book
+pub mod OpenComms
 pub mod Code
 pub mod Latest

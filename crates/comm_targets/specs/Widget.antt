@@ -1,12 +1,14 @@
 -- What a widget answers ('Jupyter widgets messaging protocol' 2.0.0).
 use Rattle.std.specs.Prelude.{ℕ, List, [], ◌∷◌, Bool, ◌==◌, if◌then◌else◌, Option, None, Some, unwrap_or, Result, Ok, Err, codes}
+use Rattle.std.specs.Result.{result_map_both}
 use Rattle.std.specs.List.{before_first}
 use Rattle.std.specs.Str.{bytes_eq}
 use Rattle.comm_messages.specs.Content.{Content}
 use Rattle.comm_value.specs.Tree.{Tree, null, boolean, whole, text, bytes, list, dict, Members, no_members, member}
 use Rattle.comm_value.specs.Node.{Path, get}
 use Rattle.comm_value.specs.Places.{member_paths, member_buffers, plain_members}
-use Rattle.comm_value.specs.Put.{placed}
+use Rattle.comm_value.specs.Put.{placed_in}
+use Rattle.comm_value.specs.Gives.{◌>>=◌}
 use Rattle.comm_value.specs.Paths.{read_paths, paths_tree}
 use Rattle.comm_value.specs.Merge.{merged}
 use Rattle.comm_value.specs.declared.val.Val.{Val}
@@ -50,19 +52,13 @@ fault_of (value.BufferMissing n) = BufferMissing n
 fault_of value.NotWhole = BadState
 fault_of value.Memory = Memory
 
-abbrev pub members_of : Result Tree ValueFault → Result Members TargetFault
-members_of (Ok (dict ms)) = Ok ms
-members_of (Ok t) = Err BadState
-members_of (Err e) = Err (fault_of e)
+-- the message's buffers in the state, at its `buffer_paths`
+abbrev pub with_buffers : Members → Content → Result Members ValueFault
+with_buffers ms c = read_paths (get (codes "buffer_paths") c.content) >>= λ ps. placed_in ps c.buffers ms
 
--- the buffers at the paths, where these could be read
-abbrev pub placed_at : Result (List Path) ValueFault → List (List ℕ) → Members → Result Members TargetFault
-placed_at (Ok ps) bs ms = members_of (placed ps bs (dict ms))
-placed_at (Err e) bs ms = Err (fault_of e)
-
--- a message's `state`, with its buffers at its `buffer_paths`
+-- a message's `state`, with its buffers
 abbrev pub state_of : Tree → Content → Result Members TargetFault
-state_of (dict ms) c = placed_at (read_paths (get (codes "buffer_paths") c.content)) c.buffers ms
+state_of (dict ms) c = result_map_both (λ s. s) fault_of (with_buffers ms c)
 state_of t c = Err BadState
 
 -- ---- opening ("Instantiating a widget object")
@@ -72,26 +68,27 @@ abbrev pub major : List ℕ → List ℕ
 major version = before_first (λ b. b == 46) version
 
 -- a version that is absent, or no text, counts as the empty text
-abbrev pub is_spoken : Option (List ℕ) → Bool
-is_spoken version = bytes_eq (major (unwrap_or version [])) (codes "2")
+abbrev pub is_supported : Option (List ℕ) → Bool
+is_supported version = bytes_eq (major (unwrap_or version [])) (codes "2")
 
-abbrev pub opened_with : Option Tree → Content → Result Members TargetFault
-opened_with None c = Err NoState
-opened_with (Some t) c = state_of t c
+abbrev pub given_state : Option Tree → Content → Result Members TargetFault
+given_state None c = Err NoState
+given_state (Some t) c = state_of t c
 
-abbrev pub opened : Option (List ℕ) → Content → Result Members TargetFault
-opened version c = if is_spoken version then opened_with (get (codes "state") c.content) c else Err WrongVersion
+abbrev pub opening_state : Option (List ℕ) → Content → Result Members TargetFault
+opening_state version c = if is_supported version then given_state (get (codes "state") c.content) c else Err WrongVersion
 
 -- ---- messages ("State update messages")
 
+-- the data of the message that tells a state without its bytes, which stood at these paths
+abbrev pub update_data : List Path → Members → Members
+update_data paths plain =
+    member (codes "buffer_paths") (paths_tree paths)
+    (member (codes "method") (text (codes "update")) (member (codes "state") (dict plain) no_members))
+
 -- the message that tells a state, or some of its keys
 abbrev pub update_of : Members → Content
-update_of u = record {
-  content =
-      member (codes "buffer_paths") (paths_tree (member_paths u))
-      (member (codes "method") (text (codes "update")) (member (codes "state") (dict (plain_members u)) no_members));
-  buffers = member_buffers u;
-}
+update_of u = record { content = update_data (member_paths u) (plain_members u); buffers = member_buffers u }
 
 -- an answer with the state that was worked out, or why there is none
 abbrev pub answer_with : (Members → Answer) → Result Members TargetFault → Result Answer TargetFault
@@ -99,30 +96,30 @@ answer_with answer (Ok s) = Ok (answer s)
 answer_with answer (Err f) = Err f
 
 -- `update`: each top-level key of its `state` replaces that of the comm's state
-abbrev pub updated : Option Tree → Members → Content → Result Answer TargetFault
-updated None now c = Ok nothing
-updated (Some t) now c = answer_with (λ u. new_state (merged now u)) (state_of t c)
+abbrev pub update_answer : Option Tree → Members → Content → Result Answer TargetFault
+update_answer None now c = Ok nothing
+update_answer (Some t) now c = answer_with (λ u. new_state (merged now u)) (state_of t c)
 
 -- `custom`: the caller is handed its `content`, with the message's buffers
-abbrev pub handed : Option Tree → List (List ℕ) → Answer
-handed None bs = nothing
-handed (Some t) bs = record { state = None; messages = []; custom = Some (record { content = val_of t; buffers = bs }) }
+abbrev pub custom_answer : Option Tree → List (List ℕ) → Answer
+custom_answer None bs = nothing
+custom_answer (Some t) bs = record { state = None; messages = []; custom = Some (record { content = val_of t; buffers = bs }) }
 
-abbrev pub told_by : List ℕ → Members → Content → Result Answer TargetFault
-told_by method now c =
-    if bytes_eq method (codes "update") then updated (get (codes "state") c.content) now c
+abbrev pub method_answer : List ℕ → Members → Content → Result Answer TargetFault
+method_answer method now c =
+    if bytes_eq method (codes "update") then update_answer (get (codes "state") c.content) now c
     else if bytes_eq method (codes "request_state") then Ok (one_message (update_of now))
-    else if bytes_eq method (codes "custom") then Ok (handed (get (codes "content") c.content) c.buffers)
+    else if bytes_eq method (codes "custom") then Ok (custom_answer (get (codes "content") c.content) c.buffers)
     else Err UnknownMethod
 
-abbrev pub told : Option Tree → Members → Content → Result Answer TargetFault
-told (Some (text method)) now c = told_by method now c
-told _ now c = Err NoMethod
+abbrev pub message_answer : Option Tree → Members → Content → Result Answer TargetFault
+message_answer (Some (text method)) now c = method_answer method now c
+message_answer _ now c = Err NoMethod
 
 -- ---- the answer to each event, of a comm whose state is `now`
 
 abbrev pub answer_of : Members → Event → Result Answer TargetFault
-answer_of now (Open id version body) = answer_with new_state (opened version body)
-answer_of now (Msg id body) = told (get (codes "method") body.content) now body
+answer_of now (Open id version body) = answer_with new_state (opening_state version body)
+answer_of now (Msg id body) = message_answer (get (codes "method") body.content) now body
 answer_of now (Launch id state) = Ok (new_state state)
 answer_of now (Push id state) = Ok (record { state = Some (merged now state); messages = update_of state ∷ []; custom = None })

@@ -5,10 +5,10 @@ ghost use Rattle.comm_targets.specs.Meaning.{one_more, stages_message};
 ghost use Rattle.comm_targets.specs.Answers.{count_of};
 
 use crate::answer::Answer;
-use crate::book::Book;
 use crate::event::Event;
 use crate::fault::TargetFault;
 use crate::kind::Kind;
+use crate::open_comms::OpenComms;
 use crate::target::Target;
 use comm_messages::Body;
 use comm_value::{Buffers, Dict, Text, Val, Whole};
@@ -18,7 +18,7 @@ use std::alloc::{AllocError, Global};
 #[derive(Drop)]
 pub struct Counter {
     alloc: Global,
-    book: Book,
+    comms: OpenComms,
     count: u64,
 }
 
@@ -29,7 +29,7 @@ impl Counter {
     {
         Counter {
             alloc,
-            book: Book::new(alloc),
+            comms: OpenComms::new(alloc),
             count: 0,
         }
     }
@@ -43,9 +43,9 @@ impl Counter {
 
     // The count once what is staged is done.
     fn count_staged(&self) -> u64
-        ensures { result ≡ (if stages_message self.now.book.staged then one_more self.now.count else self.now.count) }
+        ensures { result ≡ (if stages_message self.now.comms.staged then one_more self.now.count else self.now.count) }
     {
-        if self.book.has_message() {
+        if self.comms.has_message() {
             self.next()
         } else {
             self.count
@@ -74,7 +74,7 @@ fn number(count: u64) -> Val
 impl Target for Counter {
     ghost use Rattle.comm_targets.specs.declared.kind.Kind.TheVariants as kind;
 
-    ghost means = { λ c. record { kind = kind.Counter; notes = c.count; ids = c.book.ids; staged = c.book.staged } };
+    ghost means = { λ c. record { kind = kind.Counter; notes = c.count; ids = c.comms.ids; staged = c.comms.staged } };
 
     fn kind(&self) -> Kind {
         Kind::Counter
@@ -85,7 +85,7 @@ impl Target for Counter {
     }
 
     fn idle(&self) -> bool {
-        self.book.is_idle()
+        self.comms.is_idle()
     }
 
     fn prepare(&mut self, event: &Event, _now: Option<&Dict>) -> Result<Answer, TargetFault> {
@@ -93,21 +93,21 @@ impl Target for Counter {
         if let Event::Msg { .. } = event {
             answer.messages.push(count_body(self.alloc, self.next())?)?;
         }
-        self.book.stage(self.alloc, event, &answer)?;
+        self.comms.stage(self.alloc, event, &answer)?;
         Ok(answer)
     }
 
     fn commit(&mut self) {
         self.count = self.count_staged();
-        self.book.commit();
+        self.comms.commit();
     }
 
     fn abandon(&mut self) {
-        self.book.abandon();
+        self.comms.abandon();
     }
 
     fn close(&mut self, id: &str) {
-        self.book.close(id);
+        self.comms.close(id);
     }
 
     fn stop(&mut self) {}

@@ -1,10 +1,10 @@
 ghost use Rattle.std.specs.Prelude.{◌≡◌, [], None};
 
 use crate::answer::Answer;
-use crate::book::Book;
 use crate::event::Event;
 use crate::fault::TargetFault;
 use crate::kind::Kind;
+use crate::open_comms::OpenComms;
 use crate::target::Target;
 use comm_value::Dict;
 use std::alloc::Global;
@@ -13,7 +13,7 @@ use std::alloc::Global;
 #[derive(Drop)]
 pub struct Echo {
     alloc: Global,
-    book: Book,
+    comms: OpenComms,
 }
 
 impl Echo {
@@ -23,7 +23,7 @@ impl Echo {
     {
         Echo {
             alloc,
-            book: Book::new(alloc),
+            comms: OpenComms::new(alloc),
         }
     }
 }
@@ -31,7 +31,7 @@ impl Echo {
 impl Target for Echo {
     ghost use Rattle.comm_targets.specs.declared.kind.Kind.TheVariants as kind;
 
-    ghost means = { λ e. record { kind = kind.Echo; notes = 0; ids = e.book.ids; staged = e.book.staged } };
+    ghost means = { λ e. record { kind = kind.Echo; notes = 0; ids = e.comms.ids; staged = e.comms.staged } };
 
     fn kind(&self) -> Kind {
         Kind::Echo
@@ -42,7 +42,7 @@ impl Target for Echo {
     }
 
     fn idle(&self) -> bool {
-        self.book.is_idle()
+        self.comms.is_idle()
     }
 
     fn prepare(&mut self, event: &Event, _now: Option<&Dict>) -> Result<Answer, TargetFault> {
@@ -50,20 +50,20 @@ impl Target for Echo {
         if let Event::Msg { body, .. } = event {
             answer.messages.push(body.copy(self.alloc)?)?;
         }
-        self.book.stage(self.alloc, event, &answer)?;
+        self.comms.stage(self.alloc, event, &answer)?;
         Ok(answer)
     }
 
     fn commit(&mut self) {
-        self.book.commit();
+        self.comms.commit();
     }
 
     fn abandon(&mut self) {
-        self.book.abandon();
+        self.comms.abandon();
     }
 
     fn close(&mut self, id: &str) {
-        self.book.close(id);
+        self.comms.close(id);
     }
 
     fn stop(&mut self) {}

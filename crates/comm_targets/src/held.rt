@@ -1,6 +1,6 @@
 ghost use Rattle.std.specs.Prelude.{◌≡◌, ◌⊎◌, ◌↔◌, true, IsTrue, IfOk, IfErr, OnErr, IsSome, None, Some, option_map};
-ghost use Rattle.comm_targets.specs.declared.stage.Stage.{Stage};
-ghost use Rattle.comm_targets.specs.Meaning.{IsIdle, IsAskable, is_open, stages, commits, abandons, closes};
+ghost use Rattle.comm_targets.specs.declared.staged_event.StagedEvent.{StagedEvent};
+ghost use Rattle.comm_targets.specs.Meaning.{IsIdle, IsAskable, is_open, after_prepare, after_commit, after_abandon, after_close};
 ghost use Rattle.comm_targets.specs.Answers.{Answers, Refuses};
 
 use crate::answer::Answer;
@@ -63,7 +63,7 @@ impl<T: Target> Held<T> {
     pub fn prepare(&mut self, event: &Event, now: Option<&Dict>) -> Result<Answer, TargetFault>
         requires unstaged { self.old.staged ≡ None }
         requires askable { IsAskable self.old event.now }
-        ensures staged { IfOk result (λ a. self.new ≡ stages self.old event.now a) }
+        ensures staged { IfOk result (λ a. self.new ≡ after_prepare self.old event.now a) }
         ensures answers { IfOk result (λ a. Answers self.old.kind self.old.notes (option_map (λ d. d.now) now.entry) event.now a) }
         ensures unchanged { OnErr result (self.new ≡ self.old) }
         ensures refuses { IfErr result (λ f. (f ≡ TargetFault.Memory) ⊎ Refuses self.old.kind self.old.notes (option_map (λ d. d.now) now.entry) event.now f) }
@@ -74,7 +74,7 @@ impl<T: Target> Held<T> {
     /// Makes the staged change.
     pub fn commit(&mut self)
         requires { IsSome self.old.staged }
-        ensures { (s : Stage) → self.old.staged ≡ Some s → self.new ≡ commits self.old s }
+        ensures { (s : StagedEvent) → self.old.staged ≡ Some s → self.new ≡ after_commit self.old s }
     {
         self.target.commit();
     }
@@ -82,7 +82,7 @@ impl<T: Target> Held<T> {
     /// Drops the staged change.
     pub fn abandon(&mut self)
         requires { IsSome self.old.staged }
-        ensures { self.new ≡ abandons self.old }
+        ensures { self.new ≡ after_abandon self.old }
     {
         self.target.abandon();
     }
@@ -91,7 +91,7 @@ impl<T: Target> Held<T> {
     pub fn close(&mut self, id: &str)
         requires unstaged { self.old.staged ≡ None }
         requires opened { is_open self.old id.now ≡ true }
-        ensures { self.new ≡ closes self.old id.now }
+        ensures { self.new ≡ after_close self.old id.now }
     {
         self.target.close(id);
     }

@@ -1,11 +1,13 @@
-ghost use Rattle.std.specs.Prelude.{◌≡◌, [], None, IfOk};
+ghost use Rattle.std.specs.Prelude.{◌≡◌, false, [], None, Some, IfSome, IfOk, IfErr, OnErr};
 ghost use Rattle.comm_targets.specs.Latest.{latest_of};
+ghost use Rattle.comm_targets.specs.Meaning.{has_id};
+ghost use Rattle.comm_targets.specs.OpenComms.{opened_by};
 
 use crate::answer::Answer;
-use crate::book::Book;
 use crate::event::Event;
 use crate::fault::TargetFault;
 use crate::kind::Kind;
+use crate::open_comms::OpenComms;
 use crate::target::Target;
 use comm_value::Dict;
 use std::alloc::{AllocError, Global};
@@ -16,7 +18,7 @@ use std::alloc::{AllocError, Global};
 #[derive(Drop)]
 pub struct Latest {
     alloc: Global,
-    book: Book,
+    comms: OpenComms,
 }
 
 impl Latest {
@@ -26,7 +28,7 @@ impl Latest {
     {
         Latest {
             alloc,
-            book: Book::new(alloc),
+            comms: OpenComms::new(alloc),
         }
     }
 }
@@ -48,8 +50,8 @@ fn answer_to(alloc: Global, event: &Event) -> Result<Answer, AllocError>
 impl Target for Latest {
     ghost use Rattle.comm_targets.specs.declared.kind.Kind.TheVariants as kind;
 
-    // What the comm manager relies on: the ids of the open comms and what is staged are the book's.
-    ghost means = { λ t. record { kind = kind.Free; notes = 0; ids = t.book.ids; staged = t.book.staged } };
+    // What the comm manager relies on: the ids of the open comms and what is staged are what `comms` keeps.
+    ghost means = { λ t. record { kind = kind.Free; notes = 0; ids = t.comms.ids; staged = t.comms.staged } };
 
     fn kind(&self) -> Kind {
         Kind::Free
@@ -60,26 +62,34 @@ impl Target for Latest {
     }
 
     fn idle(&self) -> bool {
-        self.book.is_idle()
+        self.comms.is_idle()
     }
 
-    fn prepare(&mut self, event: &Event, _now: Option<&Dict>) -> Result<Answer, TargetFault> {
+    // The trait lets a free target answer what it likes, so what this one answers is said here. A method with clauses of its own
+    // has no others, so what `stage` needs and what the trait promises is said again.
+    fn prepare(&mut self, event: &Event, _now: Option<&Dict>) -> Result<Answer, TargetFault>
+        requires { IfSome (opened_by event.now) (λ id. has_id self.old.comms.ids id ≡ false) }
+        ensures latest { IfOk result (λ a. a ≡ latest_of event.now) }
+        ensures takes { IfErr result (λ f. f ≡ TargetFault.Memory) }
+        ensures staged { IfOk result (λ a. self.new.comms ≡ record { ids = self.old.comms.ids; staged = Some (record { event = event.now; answer = a }) }) }
+        ensures unchanged { OnErr result (self.new.comms ≡ self.old.comms) }
+    {
         let answer = answer_to(self.alloc, event)?;
         // Last, so that an error leaves all as it was.
-        self.book.stage(self.alloc, event, &answer)?;
+        self.comms.stage(self.alloc, event, &answer)?;
         Ok(answer)
     }
 
     fn commit(&mut self) {
-        self.book.commit();
+        self.comms.commit();
     }
 
     fn abandon(&mut self) {
-        self.book.abandon();
+        self.comms.abandon();
     }
 
     fn close(&mut self, id: &str) {
-        self.book.close(id);
+        self.comms.close(id);
     }
 
     fn stop(&mut self) {}

@@ -14,16 +14,18 @@
 //! `comm_messages` and `comm_value` in `crates.txt`, with `use comm_targets::{..}` in place of `use crate::..`. Copy
 //! `specs/Latest.antt` too, which says what it answers, and name it in your `specs/Lib.antt`. Then change:
 //!
-//! 1. The fields: a [`Book`], which keeps the ids of the open comms and what is staged, and beside it what you need.
+//! 1. The fields: [`OpenComms`], which keep the ids of the open comms and what is staged, and beside it what you need.
 //! 2. `prepare`, where your work is. It is given the event and `now`, the state of the event's comm, and makes the answer:
 //!    any state and messages, and to a message also `custom`. A free target is asked `Open` and `Msg` alone. To refuse, give
 //!    `TargetFault::Other` with a code of your own; Memory comes by `?`, and the check refuses every other fault.
-//!    Stage the event and its answer last, and change nothing before that `means` reads, so that an error leaves it.
-//! 3. `commit`, for fields that follow the messages: ask `Book::has_message` before the book's `commit`, as [`Counter`] does.
+//!    Stage the event and its answer last, and change nothing before that `means` reads, so that an error leaves it. `stage`
+//!    asks that an id that is opened isn't open; `prepare` is asked for no other.
+//! 3. `commit`, for fields that follow the messages: ask `OpenComms::has_message` before their `commit`, as [`Counter`] does.
 //!    It can't fail, and takes no memory. What is staged may be abandoned instead, so `prepare` is too early for them.
 //! 4. `stop`, if something is to be done at the end. Then no comm is open.
-//! 5. The clause of `answer_to`, by words of your own in `specs/`. Or let it say no more than what a free target may answer,
-//!    which is all that the trait's clauses tell its callers; then `specs/` isn't needed:
+//! 5. The clauses of `answer_to` and `prepare`, by words of your own in `specs/`. Or leave out those of `prepare`, whose callers
+//!    are told by the trait's clauses no more than what a free target may answer, and let that of `answer_to` say just this;
+//!    then `specs/` isn't needed:
 //!
 //!    ```text
 //!    ghost use Rattle.std.specs.Prelude.{◌≡◌, ◌⊎◌, [], None, IfOk, IfErr};
@@ -63,12 +65,12 @@
 //! use denote.Param.Sent.{Sends}
 //! use Rattle.std.proofs.Crossing
 //! use Rattle.std.proofs.alloc.Global.TheSendSync as global
-//! use Rattle.comm_targets.proofs.Sends.{book_sends}
+//! use Rattle.comm_targets.proofs.Sends.{open_comms_sends}
 //! use Rattle.mine.specs.contracts.latest.Latest as latest
 //! use Rattle.mine.proofs.serve.OwnLists as own
 //!
 //! latest_sends : IsSend latest.the_row
-//! latest_sends = search (book_sends, global.the_field_send, Crossing.crosses, sendable) depth 60 fits 20000
+//! latest_sends = search (open_comms_sends, global.the_field_send, Crossing.crosses, sendable) depth 60 fits 20000
 //!
 //! pub sends-part-1-1 : Sends own.part-1-1
 //! sends-part-1-1 i = arg_send _ Exit.no _ latest_sends
@@ -78,7 +80,6 @@
 #![tactic(auto)]
 
 mod answer;
-mod book;
 mod boxed;
 mod counter;
 mod echo;
@@ -87,12 +88,12 @@ mod fault;
 mod held;
 mod kind;
 mod latest;
-mod stage;
+mod open_comms;
 mod staged;
+mod staged_event;
 mod target;
 
 pub use answer::{Answer, Bodies, Custom};
-pub use book::Book;
 pub use counter::Counter;
 pub use echo::Echo;
 pub use event::Event;
@@ -100,5 +101,6 @@ pub use fault::TargetFault;
 pub use held::Held;
 pub use kind::Kind;
 pub use latest::Latest;
-pub use stage::Stage;
+pub use open_comms::OpenComms;
+pub use staged_event::StagedEvent;
 pub use target::Target;

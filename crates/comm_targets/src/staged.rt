@@ -17,10 +17,10 @@ pub(crate) struct Staged {
 impl Model for Staged {
     ghost use Rattle.std.specs.Prelude.{◌≡◌};
     ghost use Rattle.comm_targets.specs.Meaning.{is_message};
-    ghost use Rattle.comm_targets.specs.declared.stage.Stage.{Stage};
+    ghost use Rattle.comm_targets.specs.declared.staged_event.StagedEvent.{StagedEvent};
     ghost use Rattle.comm_targets.specs.Code.{stage_code};
 
-    ghost Value = { Stage };
+    ghost Value = { StagedEvent };
 
     ghost coded = { stage_code };
 

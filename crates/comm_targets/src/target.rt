@@ -1,6 +1,6 @@
 ghost use Rattle.std.specs.Prelude.{◌≡◌, ◌⊎◌, ◌↔◌, true, IsTrue, IfOk, IfErr, OnErr, IsSome, None, Some, option_map};
-ghost use Rattle.comm_targets.specs.declared.stage.Stage.{Stage};
-ghost use Rattle.comm_targets.specs.Meaning.{Meaning, IsIdle, IsAskable, is_open, stages, commits, abandons, closes};
+ghost use Rattle.comm_targets.specs.declared.staged_event.StagedEvent.{StagedEvent};
+ghost use Rattle.comm_targets.specs.Meaning.{Meaning, IsIdle, IsAskable, is_open, after_prepare, after_commit, after_abandon, after_close};
 ghost use Rattle.comm_targets.specs.Answers.{Answers, Refuses};
 
 use crate::answer::Answer;
@@ -35,7 +35,7 @@ pub trait Target: Send + Drop {
     fn prepare(&mut self, event: &Event, now: Option<&Dict>) -> Result<Answer, TargetFault>
         requires unstaged { (means self.old).staged ≡ None }
         requires askable { IsAskable (means self.old) event.now }
-        ensures staged { IfOk result (λ a. means self.new ≡ stages (means self.old) event.now a) }
+        ensures staged { IfOk result (λ a. means self.new ≡ after_prepare (means self.old) event.now a) }
         ensures answers { IfOk result (λ a. Answers (means self.old).kind (means self.old).notes (option_map (λ d. d.now) now.entry) event.now a) }
         ensures unchanged { OnErr result (means self.new ≡ means self.old) }
         ensures refuses { IfErr result (λ f. (f ≡ TargetFault.Memory) ⊎ Refuses (means self.old).kind (means self.old).notes (option_map (λ d. d.now) now.entry) event.now f) };
@@ -43,18 +43,18 @@ pub trait Target: Send + Drop {
     /// Makes the staged change: an opening adds its id, and the notes are those after the event.
     fn commit(&mut self)
         requires { IsSome (means self.old).staged }
-        ensures { (s : Stage) → (means self.old).staged ≡ Some s → means self.new ≡ commits (means self.old) s };
+        ensures { (s : StagedEvent) → (means self.old).staged ≡ Some s → means self.new ≡ after_commit (means self.old) s };
 
     /// Drops the staged change.
     fn abandon(&mut self)
         requires { IsSome (means self.old).staged }
-        ensures { means self.new ≡ abandons (means self.old) };
+        ensures { means self.new ≡ after_abandon (means self.old) };
 
     /// Takes an open comm's id out.
     fn close(&mut self, id: &str)
         requires unstaged { (means self.old).staged ≡ None }
         requires opened { is_open (means self.old) id.now ≡ true }
-        ensures { means self.new ≡ closes (means self.old) id.now };
+        ensures { means self.new ≡ after_close (means self.old) id.now };
 
     /// The last call before the object ends.
     fn stop(&mut self)

@@ -3,8 +3,8 @@ use Rattle.std.proofs.Common.{◌≡◌, ℕ, List, [], ◌∷◌, ◌++◌, Boo
 use Rattle.std.proofs.lemmas.Slice.Eq.{bytes_eq-Decides}
 use Rattle.std.specs.Str.{bytes_eq}
 use Rattle.comm_messages.specs.Content.{Content}
-use Rattle.comm_targets.specs.Meaning.{Meaning, has_id, without, is_message, ids_after, stages, commits}
-use Rattle.comm_targets.specs.declared.stage.Stage.{Stage}
+use Rattle.comm_targets.specs.Meaning.{Meaning, has_id, without, is_message, ids_after, after_prepare, after_commit}
+use Rattle.comm_targets.specs.declared.staged_event.StagedEvent.{StagedEvent}
 use Rattle.comm_targets.specs.declared.kind.Kind.TheVariants.{Widget}
 use Rattle.comm_value.specs.Tree.{Members}
 use Rattle.comm_tests.specs.After.{after}
@@ -29,7 +29,7 @@ ids_after-message ids (Push id state) said = cc
 
 -- new is what the commit of an event leaves of old
 abbrev pub Commits : Meaning → Meaning → Event → Answer → Type 0
-Commits old new e a = (mid : Meaning) × (mid ≡ stages old e a) × ((s : Stage) → mid.staged ≡ Some s → new ≡ commits mid s)
+Commits old new e a = (mid : Meaning) × (mid ≡ after_prepare old e a) × ((s : StagedEvent) → mid.staged ≡ Some s → new ≡ after_commit mid s)
 
 pub unstaged : (old new : Meaning) (e : Event) (a : Answer) → Commits old new e a → new.staged ≡ None
 unstaged old new e a c = ap (λ m. m.staged) (c.2 (record { event = e; answer = a }) (ap (λ m. m.staged) c.1))
@@ -43,8 +43,8 @@ told old new e a c said = ids_now old new e a c ∙ ids_after-message old.ids e 
 
 pub committed : (old new : Meaning) (e : Event) (a : Answer) → Commits old new e a → new ≡ after old e
 committed old new e a c =
-    let s : Stage = record { event = e; answer = a } in
-    c.2 s (ap (λ m. m.staged) c.1) ∙ ap (λ m. commits m s) c.1
+    let s : StagedEvent = record { event = e; answer = a } in
+    c.2 s (ap (λ m. m.staged) c.1) ∙ ap (λ m. after_commit m s) c.1
 
 abbrev pub widget_with : List (List ℕ) → Meaning
 widget_with ids = record { kind = Widget; notes = 0; ids = ids; staged = None }

@@ -1,1 +1,3 @@
 pub mod Ids
+pub mod Order
+pub mod Sends

@@ -1,6 +1,7 @@
 //! A file or two for each crate that has tests (`heaps` is of `comm_fakes`, `writing` of `comm_messages`), and `script` for all of them
 //! together.
 mod core_steps;
+mod faults;
 mod heaps;
 mod lines;
 mod messages;

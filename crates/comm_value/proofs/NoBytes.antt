@@ -1,5 +1,5 @@
 -- Values in which no bytes stand.
-use Rattle.std.proofs.Common.{◌≡◌, ℕ, suc, List, [], ◌∷◌, map, Bool, true, false, cond, Ordering, Less, Equal, Greater, refl, sym, ap, ◌∙◌}
+use Rattle.std.proofs.Common.{◌≡◌, ℕ, List, [], ◌∷◌, map, Bool, true, false, cond, Ordering, Less, Equal, Greater, refl, sym, ap, ◌∙◌}
 use Rattle.std.specs.Prelude.{◌||◌, Option, Some, None, option_map, option_and_then}
 use Rattle.std.specs.Ordering.{is_eq, match_ordering}
 use Rattle.serde_json.specs.Data as json

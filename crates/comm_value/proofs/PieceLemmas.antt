@@ -1,11 +1,11 @@
 -- A key sought, and a member put, in one piece of a dict.
-use Rattle.std.proofs.Common.{◌≡◌, ℕ, zero, suc, ◌<◌, ◌≤◌, ◌+◌, List, [], ◌∷◌, ◌++◌, length, get_or, take, drop, Global, Vec, Ordering, Less, Equal, Greater, Bool, true, false, cond, refl, sym, ap, ◌∙◌, arith, subst, append_assoc, add-one}
-use Rattle.std.specs.Prelude.{Option, Some, None, if◌then◌else◌}
-use Rattle.std.specs.Ordering.{is_eq, is_lt, match_ordering}
+use Rattle.std.proofs.Common.{◌≡◌, ℕ, suc, ◌<◌, ◌+◌, List, [], ◌∷◌, ◌++◌, length, get_or, take, drop, Global, Vec, Ordering, Less, Equal, Greater, true, refl, sym, ap, ◌∙◌, arith, subst, add-one}
+use Rattle.std.specs.Prelude.{Some, if◌then◌else◌}
+use Rattle.std.specs.Ordering.{is_eq, match_ordering}
 use Rattle.std.specs.Arc.{arc_value}
 use Rattle.comm_value.specs.declared.val.Member.{Member}
-use Rattle.comm_value.specs.Tree.{Tree, Members, no_members, member}
-use Rattle.comm_value.specs.View.{tree, members_of, Piece, flat, AllFilled}
+use Rattle.comm_value.specs.Tree.{Tree, Members, member}
+use Rattle.comm_value.specs.View.{tree, members_of, Piece, flat}
 use Rattle.comm_value.specs.Order.{key_cmp, is_first, members_ordered}
 use Rattle.comm_value.specs.Node.{get}
 use Rattle.comm_value.specs.Put.{insert}

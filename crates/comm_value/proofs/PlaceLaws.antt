@@ -14,7 +14,7 @@ use Rattle.comm_value.specs.Node.{Path, Shape, of_bytes, shape, node, at, child,
 use Rattle.comm_value.specs.Order.{key_cmp, is_first, is_ordered, items_ordered, members_ordered}
 use Rattle.comm_value.specs.Places.{IsPlace, paths, item_paths, member_paths, buffers, item_buffers, member_buffers}
 use Rattle.comm_value.proofs.Keys.{parts, both, is_less, flip_less, first_trans}
-use Rattle.comm_value.proofs.SameNodes.{past_head, some_same}
+use Rattle.comm_value.proofs.SameNodes.{past_head}
 use Rattle.comm_value.proofs.RoundTrip.{same_key}
 use Rattle.comm_value.proofs.PutNodes.{none_some}
 

@@ -1,5 +1,5 @@
 -- What stands in a dict is smaller than it.
-use Rattle.std.proofs.Common.{◌≡◌, ℕ, zero, suc, ◌<◌, ◌+◌, ◌≤◌, List, [], ◌∷◌, ◌++◌, length, get_or, take, drop, Global, Vec, ap, sym, ◌∙◌, arith}
+use Rattle.std.proofs.Common.{◌≡◌, ℕ, zero, suc, ◌<◌, ◌+◌, ◌≤◌, List, [], ◌∷◌, ◌++◌, length, get_or, take, drop, Global, Vec, ap, ◌∙◌, arith}
 use Rattle.std.specs.Arc.{arc_value}
 use Rattle.comm_value.specs.declared.val.Member.{Member}
 use Rattle.comm_value.specs.declared.val.Dict.TheDeep.{deep-Val, deep-Member}

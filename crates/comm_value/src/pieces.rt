@@ -88,7 +88,8 @@ pub(crate) fn shared_pieces(alloc: Global, pieces: &[Piece]) -> Result<Vec<Piece
     Ok(all)
 }
 
-// How many members the pieces have. Err: too many to be counted, which pieces that share memory could have.
+// How many members the pieces have. Err: more than a usize counts. Their keys differ, so no memory holds that many; but what is known of
+// the pieces here allows it, since it doesn't say that different members take different memory.
 pub(crate) fn count(pieces: &[Piece]) -> Result<usize, AllocError>
     ensures { IfOk result (λ n. n ≡ length (flat pieces.now)) }
 {

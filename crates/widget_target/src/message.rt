@@ -1,12 +1,12 @@
 ghost use Rattle.std.specs.Prelude.{◌≡◌, IfOk, codes};
 ghost use Rattle.comm_value.specs.Node.{get};
-ghost use Rattle.comm_targets.specs.Widget.{told, one_message, update_of, handed};
+ghost use Rattle.comm_targets.specs.Widget.{message_answer, one_message, update_of, custom_answer};
 ghost use Rattle.widget_target.specs.Gives.{Gives};
 
 use crate::answers::one_message;
 use crate::method::{Method, method_of};
 use crate::template::Template;
-use crate::update::{update_body, updated};
+use crate::update::{update_answer, update_body};
 use comm_messages::Body;
 use comm_targets::{Answer, Custom, TargetFault};
 use comm_value::Dict;
@@ -14,18 +14,18 @@ use std::alloc::{AllocError, Global};
 
 /// The answer to a message on the comm of a widget whose state is `now`, by the data's `method`.
 /// NoMethod, UnknownMethod, and the faults of `update`.
-pub fn told(
+pub fn message_answer(
     alloc: Global,
     template: &mut Option<Template>,
     body: &Body,
     now: &Dict,
 ) -> Result<Answer, TargetFault>
-    ensures { Gives result (told (get (codes "method") body.now.content) now.now body.now) }
+    ensures { Gives result (message_answer (get (codes "method") body.now.content) now.now body.now) }
 {
     match method_of(body.content())? {
-        Method::Update => updated(alloc, body, now),
+        Method::Update => update_answer(alloc, body, now),
         Method::RequestState => Ok(requested(alloc, template, now)?),
-        Method::Custom => Ok(handed(alloc, body)?),
+        Method::Custom => Ok(custom_answer(alloc, body)?),
     }
 }
 
@@ -41,8 +41,8 @@ fn requested(
 }
 
 // The answer to `custom`: the caller is handed the data's `content` and all the message's buffers.
-fn handed(alloc: Global, body: &Body) -> Result<Answer, AllocError>
-    ensures { IfOk result (λ a. a ≡ handed (get (codes "content") body.now.content) body.now.buffers) }
+fn custom_answer(alloc: Global, body: &Body) -> Result<Answer, AllocError>
+    ensures { IfOk result (λ a. a ≡ custom_answer (get (codes "content") body.now.content) body.now.buffers) }
 {
     let Some(content) = body.content().get("content") else {
         return Ok(Answer::empty(alloc));

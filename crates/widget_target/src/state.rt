@@ -1,8 +1,8 @@
-ghost use Rattle.std.specs.Prelude.{◌≡◌, codes};
-ghost use Rattle.comm_value.specs.Node.{get};
-ghost use Rattle.comm_value.specs.Paths.{read_paths};
+ghost use Rattle.std.specs.Prelude.{◌≡◌};
+ghost use Rattle.comm_value.specs.Gives as value;
+ghost use Rattle.comm_value.specs.Paths.{is_memory};
 ghost use Rattle.comm_value.specs.View.{tree};
-ghost use Rattle.comm_targets.specs.Widget.{state_of, placed_at, fault_of};
+ghost use Rattle.comm_targets.specs.Widget.{state_of, with_buffers, fault_of};
 ghost use Rattle.widget_target.specs.Gives.{Gives};
 
 use comm_messages::Body;
@@ -16,18 +16,18 @@ pub fn state_of(alloc: Global, state: &Val, body: &Body) -> Result<Dict, TargetF
     ensures { Gives result (state_of (tree state.now) body.now) }
 {
     match state {
-        Val::Dict(state) => placed(alloc, state, body),
+        Val::Dict(state) => with_buffers(alloc, state, body).map_err(fault_of),
         _ => Err(TargetFault::BadState),
     }
 }
 
-fn placed(alloc: Global, state: &Dict, body: &Body) -> Result<Dict, TargetFault>
-    ensures { Gives result (placed_at (read_paths (get (codes "buffer_paths") body.now.content)) body.now.buffers state.now) }
+// The message's buffers in the state, at its `buffer_paths`.
+fn with_buffers(alloc: Global, state: &Dict, body: &Body) -> Result<Dict, ValueFault>
+    ensures { value.Gives is_memory (λ d. d) result (with_buffers state.now body.now) }
 {
-    let listed = body.content().get("buffer_paths");
-    let paths = paths_of(alloc, listed).map_err(fault_of)?;
+    let paths = paths_of(alloc, body.content().get("buffer_paths"))?;
     let buffers = body.buffers().copy(alloc)?;
-    put_all(alloc, state.copy()?, paths.as_slice(), buffers).map_err(fault_of)
+    put_all(alloc, state.copy()?, paths.as_slice(), buffers)
 }
 
 // A fault of reading or placing, as the target's.

@@ -1,6 +1,6 @@
 ghost use Rattle.std.specs.Prelude.{◌≡◌, [], IfOk, codes};
 ghost use Rattle.comm_value.specs.Tree.{no_members};
-ghost use Rattle.widget_target.specs.Update.{data_of};
+ghost use Rattle.comm_targets.specs.Widget.{update_data};
 
 use comm_value::{Dict, Path, Text, Val, paths_val};
 use std::alloc::{AllocError, Global};
@@ -13,7 +13,7 @@ pub struct Template {
     // The keys whose values are a message's own.
     buffer_paths: Text,
     state: Text,
-    ghost is_empty: { empty ≡ data_of [] no_members },
+    ghost is_empty: { empty ≡ update_data [] no_members },
     ghost is_buffer_paths: { buffer_paths ≡ codes "buffer_paths" },
     ghost is_state: { state ≡ codes "state" },
 }
@@ -35,7 +35,7 @@ impl Template {
     }
 
     fn filled(&self, alloc: Global, plain: Dict, paths: &[Path]) -> Result<Dict, AllocError>
-        ensures { IfOk result (λ d. d ≡ data_of paths.now plain) }
+        ensures { IfOk result (λ d. d ≡ update_data paths.now plain) }
     {
         let data = self.empty.copy()?;
         let data = data.insert(alloc, self.state.copy()?, Val::Dict(plain))?;
@@ -54,7 +54,7 @@ pub fn update_data(
     plain: Dict,
     paths: &[Path],
 ) -> Result<Dict, AllocError>
-    ensures { IfOk result (λ d. d ≡ data_of paths.now plain) }
+    ensures { IfOk result (λ d. d ≡ update_data paths.now plain) }
 {
     if let Some(made) = template.as_ref() {
         return made.filled(alloc, plain, paths);

@@ -2,7 +2,7 @@ ghost use Rattle.std.specs.Prelude.{◌≡◌, [], ◌∷◌, None, IfOk, codes}
 ghost use Rattle.comm_value.specs.Merge.{merged};
 ghost use Rattle.comm_value.specs.Node.{get};
 ghost use Rattle.comm_value.specs.Places.{plain_members, member_paths, member_buffers};
-ghost use Rattle.comm_targets.specs.Widget.{updated, update_of};
+ghost use Rattle.comm_targets.specs.Widget.{update_answer, update_of};
 ghost use Rattle.widget_target.specs.Gives.{Gives};
 
 use crate::answers::{new_state, one_message};
@@ -15,8 +15,8 @@ use std::alloc::{AllocError, Global};
 
 /// The answer to `update`: each top-level key of the data's `state` replaces that of the widget's state.
 /// Without `state` nothing is changed.
-pub fn updated(alloc: Global, body: &Body, now: &Dict) -> Result<Answer, TargetFault>
-    ensures { Gives result (updated (get (codes "state") body.now.content) now.now body.now) }
+pub fn update_answer(alloc: Global, body: &Body, now: &Dict) -> Result<Answer, TargetFault>
+    ensures { Gives result (update_answer (get (codes "state") body.now.content) now.now body.now) }
 {
     let Some(state) = body.content().get("state") else {
         return Ok(Answer::empty(alloc));

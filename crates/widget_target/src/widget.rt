@@ -4,11 +4,11 @@ ghost use Rattle.comm_targets.specs.Widget.{answer_of};
 ghost use Rattle.widget_target.specs.Gives.{Gives};
 
 use crate::answers::new_state;
-use crate::message::told;
-use crate::open::opened;
+use crate::message::message_answer;
+use crate::open::opening_state;
 use crate::template::Template;
 use crate::update::pushed;
-use comm_targets::{Answer, Book, Event, Kind, Target, TargetFault};
+use comm_targets::{Answer, Event, Kind, OpenComms, Target, TargetFault};
 use comm_value::Dict;
 use std::alloc::Global;
 
@@ -16,7 +16,7 @@ use std::alloc::Global;
 #[derive(Drop)]
 pub struct WidgetTarget {
     alloc: Global,
-    book: Book,
+    comms: OpenComms,
     // Made by the first update message.
     template: Option<Template>,
 }
@@ -28,7 +28,7 @@ impl WidgetTarget {
     {
         WidgetTarget {
             alloc,
-            book: Book::new(alloc),
+            comms: OpenComms::new(alloc),
             template: None,
         }
     }
@@ -37,7 +37,7 @@ impl WidgetTarget {
 impl Target for WidgetTarget {
     ghost use Rattle.comm_targets.specs.declared.kind.Kind.TheVariants as kind;
 
-    ghost means = { λ w. record { kind = kind.Widget; notes = 0; ids = w.book.ids; staged = w.book.staged } };
+    ghost means = { λ w. record { kind = kind.Widget; notes = 0; ids = w.comms.ids; staged = w.comms.staged } };
 
     fn kind(&self) -> Kind {
         Kind::Widget
@@ -48,25 +48,25 @@ impl Target for WidgetTarget {
     }
 
     fn idle(&self) -> bool {
-        self.book.is_idle()
+        self.comms.is_idle()
     }
 
     fn prepare(&mut self, event: &Event, now: Option<&Dict>) -> Result<Answer, TargetFault> {
         let answer = answer_to(self.alloc, &mut self.template, event, now)?;
-        self.book.stage(self.alloc, event, &answer)?;
+        self.comms.stage(self.alloc, event, &answer)?;
         Ok(answer)
     }
 
     fn commit(&mut self) {
-        self.book.commit();
+        self.comms.commit();
     }
 
     fn abandon(&mut self) {
-        self.book.abandon();
+        self.comms.abandon();
     }
 
     fn close(&mut self, id: &str) {
-        self.book.close(id);
+        self.comms.close(id);
     }
 
     fn stop(&mut self) {}
@@ -85,9 +85,9 @@ fn answer_to(
     let now = now.unwrap_or(&empty);
     match event {
         Event::Open { version, body, .. } => {
-            Ok(new_state(alloc, opened(alloc, version.as_ref(), body)?))
+            Ok(new_state(alloc, opening_state(alloc, version.as_ref(), body)?))
         }
-        Event::Msg { body, .. } => told(alloc, template, body, now),
+        Event::Msg { body, .. } => message_answer(alloc, template, body, now),
         Event::Launch { state, .. } => Ok(new_state(alloc, state.copy()?)),
         Event::Push { state, .. } => Ok(pushed(alloc, template, state, now)?),
     }

@@ -5,11 +5,16 @@ use comm_messages::{
 };
 use comm_value::{Buffers, Text};
 use serde_json::Value;
-use std::alloc::Global;
+use std::alloc::{AllocError, Global};
 use std::process::Abort;
 use std::test::Fail;
 
-fn push_bytes(alloc: Global, out: &mut String, buffers: &Buffers) -> Result<(), Fail> {
+/// The bytes of each buffer.
+pub(crate) fn push_bytes(
+    alloc: Global,
+    out: &mut String,
+    buffers: &Buffers,
+) -> Result<(), AllocError> {
     for buffer in buffers.as_slice() {
         out.push(' ')?;
         for byte in buffer.as_slice() {
@@ -19,11 +24,12 @@ fn push_bytes(alloc: Global, out: &mut String, buffers: &Buffers) -> Result<(), 
     Ok(())
 }
 
-fn push_body(alloc: Global, out: &mut String, body: &Body) -> Result<(), Fail> {
+/// The data of a body, and the bytes of each buffer.
+pub(crate) fn push_body(alloc: Global, out: &mut String, body: &Body) -> Result<(), Fail> {
     let mut json = Vec::new(alloc);
     body.content().write_json(&mut json)?;
     out.push_str(String::from_utf8_lossy(alloc, json.as_slice())?.as_str())?;
-    push_bytes(alloc, out, body.buffers())
+    Ok(push_bytes(alloc, out, body.buffers())?)
 }
 
 fn or_dash(text: &Option<Text>) -> &str {

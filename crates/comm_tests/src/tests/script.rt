@@ -1,6 +1,7 @@
 mod ends;
 mod frontends;
 mod kernels;
+mod often;
 mod refusals;
 mod streams;
 mod widgets;
@@ -62,7 +63,7 @@ fn play(
     run(alloc, reader, writer, limits, stock)
 }
 
-/// The row's answers are written, however many bytes are read and written at a time.
+/// The row's answers are written and flushed, however many bytes are read and written at a time.
 fn gives(rt: &impl Abort, alloc: Global, row: &Row, read: usize, write: usize) -> Result<(), Fail> {
     let mut reader = Pieces::new(row.script, read, 0, ErrorKind::Other);
     let mut writer = Sink::new(alloc, ROOM, write, 0, Then::TakeNothing)?;
@@ -71,6 +72,10 @@ fn gives(rt: &impl Abort, alloc: Global, row: &Row, read: usize, write: usize) -
     assert!(rt; result.is_ok(), "{name}, by {read} and {write}");
     assert!(rt;
         writer.taken() == row.answers,
+        "{name}, by {read} and {write}"
+    );
+    assert!(rt;
+        writer.flushed() == row.answers.len(),
         "{name}, by {read} and {write}"
     );
     Ok(())

@@ -4,7 +4,8 @@ ghost use Rattle.comm_targets.specs.Meaning.{IsIdle, IsAskable, is_open, is_mess
 
 use comm_messages::Body;
 use comm_targets::{
-    Answer, Bodies, Book, Counter, Custom, Echo, Event, Held, Kind, Latest, Target, TargetFault,
+    Answer, Bodies, Counter, Custom, Echo, Event, Held, Kind, Latest, OpenComms, Target,
+    TargetFault,
 };
 use comm_value::{Buffers, Bytes, Dict, Text, Val, Whole};
 use std::alloc::Global;
@@ -17,7 +18,7 @@ use std::test::Fail;
 #[derive(Drop)]
 struct Strict {
     alloc: Global,
-    book: Book,
+    comms: OpenComms,
     ends: Arc<AtomicU64>,
 }
 
@@ -27,7 +28,7 @@ impl Strict {
     {
         Strict {
             alloc,
-            book: Book::new(alloc),
+            comms: OpenComms::new(alloc),
             ends,
         }
     }
@@ -36,7 +37,7 @@ impl Strict {
 impl Target for Strict {
     ghost use Rattle.comm_targets.specs.declared.kind.Kind.TheVariants as kind;
 
-    ghost means = { λ t. record { kind = kind.Free; notes = 0; ids = t.book.ids; staged = t.book.staged } };
+    ghost means = { λ t. record { kind = kind.Free; notes = 0; ids = t.comms.ids; staged = t.comms.staged } };
 
     fn kind(&self) -> Kind {
         Kind::Free
@@ -47,7 +48,7 @@ impl Target for Strict {
     }
 
     fn idle(&self) -> bool {
-        self.book.is_idle()
+        self.comms.is_idle()
     }
 
     fn prepare(&mut self, event: &Event, _now: Option<&Dict>) -> Result<Answer, TargetFault> {
@@ -57,24 +58,24 @@ impl Target for Strict {
             }
         }
         let answer = Answer::empty(self.alloc);
-        self.book.stage(self.alloc, event, &answer)?;
+        self.comms.stage(self.alloc, event, &answer)?;
         Ok(answer)
     }
 
     fn commit(&mut self) {
-        self.book.commit();
+        self.comms.commit();
     }
 
     fn abandon(&mut self) {
-        self.book.abandon();
+        self.comms.abandon();
     }
 
     fn close(&mut self, id: &str) {
-        self.book.close(id);
+        self.comms.close(id);
     }
 
     fn stop(&mut self) {
-        let ended = if self.book.is_idle() { 1 } else { 100 };
+        let ended = if self.comms.is_idle() { 1 } else { 100 };
         let _before = self.ends.fetch_add(ended, Ordering::SeqCst);
     }
 }
@@ -203,8 +204,8 @@ fn taken_back<T: Target>(target: T, id: Text, body: Body) -> Result<bool, Target
     end
 }
 
-// Two bytes in one buffer.
-fn one_buffer(alloc: Global) -> Result<Buffers, Fail> {
+/// The bytes 1 and 2 in one buffer.
+pub(crate) fn one_buffer(alloc: Global) -> Result<Buffers, Fail> {
     let mut all = Vec::new(alloc);
     all.push(Bytes::new(alloc, vec![in alloc; 1, 2]?)?)?;
     Ok(Buffers::new(all))
@@ -352,12 +353,5 @@ fn an_answer_and_its_copy_are_the_same(rt: HostRuntime) -> Result<(), Fail> {
     let copy = answer.copy(alloc);
     drop(answer);
     is_full(&rt, &copy?);
-    Ok(())
-}
-
-#[test]
-fn a_fault_says_what_was_wrong(rt: HostRuntime) -> Result<(), Fail> {
-    let text = format!(in rt.alloc(); "{}", TargetFault::BadPath(3))?;
-    assert_eq!(rt; text.as_str(), "buffer path 3 can't be read or placed");
     Ok(())
 }

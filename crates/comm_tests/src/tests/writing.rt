@@ -1,4 +1,4 @@
-ghost use Rattle.std.specs.Prelude.{◌≡◌, true};
+ghost use Rattle.std.specs.Prelude.{◌≡◌, true, [], ◌∷◌, IfOk};
 ghost use Rattle.comm_messages.specs.Text.{goes_with};
 
 use crate::tests::messages::read;
@@ -7,22 +7,26 @@ use comm_messages::{
     Body, Info, Infos, Outgoing, Parent, fields_of, object_in, whole_dict, write_message,
 };
 use comm_value::{Buffers, Bytes, Dict, Text};
-use std::alloc::Global;
+use std::alloc::{AllocError, Global};
 use std::process::Abort;
 use std::test::Fail;
 
-fn body(alloc: Global, data: &str, buffers: Buffers) -> Result<Body, Fail> {
+/// The body of these data, which are JSON, with these buffers.
+pub(crate) fn body(alloc: Global, data: &str, buffers: Buffers) -> Result<Body, Fail> {
     let mut room = LineRoom::new(alloc);
     let object = object_in(data.as_bytes(), &mut room)?;
     Ok(Body::new(whole_dict(alloc, fields_of(&object))?, buffers))
 }
 
-// The line of a message, which is let go.
+// The line of a copy of a message, which is let go first.
 fn written(alloc: Global, message: Outgoing, parent: &Parent) -> Result<String, Fail>
     requires { goes_with message parent.now ≡ true }
 {
-    let bytes = write_message(alloc, &message, parent);
+    let copy = message.copy(alloc);
     drop(message);
+    let copy = copy?;
+    let bytes = write_message(alloc, &copy, parent);
+    drop(copy);
     let bytes = bytes?;
     Ok(String::from_utf8_lossy(alloc, bytes.as_slice())?)
 }
@@ -135,16 +139,31 @@ fn writes_a_close(rt: HostRuntime) -> Result<(), Fail> {
     )
 }
 
-fn info(alloc: Global, comm: &str, target: &str) -> Result<Info, Fail> {
+fn info(alloc: Global, comm: &str, target: &str) -> Result<Info, AllocError>
+    ensures { IfOk result (λ i. i.id ≡ comm.now) }
+{
     let id = Text::copy_of(alloc, comm)?;
     let target = Text::copy_of(alloc, target)?;
     Ok(Info { id, target })
 }
 
-fn two_comms(alloc: Global) -> Result<Infos, Fail> {
+fn pair(alloc: Global, first: Info, second: Info) -> Result<Vec<Info>, AllocError>
+    ensures { IfOk result (λ all. all.items ≡ first ∷ second ∷ []) }
+{
     let mut all = Vec::new(alloc);
-    all.push(info(alloc, "a", "jupyter.widget")?)?;
-    all.push(info(alloc, "b", "t")?)?;
+    all.push(first)?;
+    all.push(second)?;
+    Ok(all)
+}
+
+fn no_comms(alloc: Global) -> Result<Infos, AllocError> {
+    Ok(Infos::new(alloc, Vec::new(alloc))?)
+}
+
+fn two_comms(alloc: Global) -> Result<Infos, AllocError> {
+    let first = info(alloc, "a", "jupyter.widget")?;
+    let second = info(alloc, "b", "t")?;
+    let all = pair(alloc, first, second)?;
     Ok(Infos::new(alloc, all)?)
 }
 
@@ -156,7 +175,7 @@ fn reply(alloc: Global, comms: Infos, client: u8, front: u64) -> Result<String, 
 #[test]
 fn writes_the_open_comms(rt: HostRuntime) -> Result<(), Fail> {
     let alloc = rt.alloc();
-    let none = reply(alloc, Infos::new(alloc, Vec::new(alloc))?, 0, 0)?;
+    let none = reply(alloc, no_comms(alloc)?, 0, 0)?;
     assert_eq!(rt;
         none.as_str(),
         r#"{"buffers":[],"client":0,"content":{"comms":{},"status":"ok"},"front":0,"header":{"msg_type":"comm_info_reply"},"metadata":{}}"#

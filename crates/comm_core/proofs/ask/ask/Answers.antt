@@ -5,7 +5,7 @@ use Rattle.comm_core.specs.Machine.{at}
 use Rattle.comm_core.proofs.Names.{has_target}
 use Rattle.comm_core.proofs.Agreeing.{some-at}
 use Rattle.comm_core.proofs.Staging.{some-is, is_staged, taken_back, not_memory}
-use Rattle.comm_core.proofs.Asking.{askable, answered_well, refused_well}
+use Rattle.comm_core.proofs.Asking.{askable, can_refuse, answered_well, refused_well}
 use Rattle.comm_core.proofs.ask.ask.Goals as goal
 
 pub prepare-requires-clause-here : goal.prepare-requires-clause-here
@@ -39,3 +39,9 @@ returns-in_ok-reply-in-Err-clause-came g c =
     (not_memory c.in-Err.fault (sym c.is_memory.ensures ∙ c.if-is_memory.false)
     (subst (λ n. (c.in-Err.fault ≡ Memory) ⊎ Refuses m.0.kind m.0.notes n c.args.question.event c.in-Err.fault) c.as_ref.ensures.value (c.in-Err.ensures.refuses m.0 m.1)))
     c.in-Err.ensures.unchanged c.in_ok-reply-in-Err.ensures
+
+pub refused-requires : goal.refused-requires
+refused-requires g c =
+    let m = some-at (at c.args.boxes.now.all c.args.question.name) (sym (has_target c.args.boxes.now.all c.args.question.name) ∙ c.requires.asked.here) in
+    can_refuse c.args.boxes.now.all c.args.comms.now.all c.requires.agrees c.args.question.name c.args.question.event c.requires.asked.kind_suits m.0 m.1 _ c.in-Err.fault
+    (not_memory c.in-Err.fault (sym c.is_memory.ensures ∙ c.if-is_memory.false) (c.in-Err.ensures.refuses m.0 m.1))

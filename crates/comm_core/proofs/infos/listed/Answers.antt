@@ -1,5 +1,6 @@
 use Rattle.std.proofs.Common.{◌++◌, ◌∷◌, [], ap, sym, ◌∙◌, append_assoc}
-use Rattle.comm_core.specs.Reads.{Pair, info_of}
+use Rattle.comm_core.specs.Kept.{shown}
+use Rattle.comm_core.specs.Runs.{Pair}
 use Rattle.comm_core.proofs.Entries.{map-append}
 use Rattle.comm_core.proofs.infos.listed.Goals as goal
 
@@ -10,5 +11,5 @@ loop-id-preserved c =
     let left = c.next.new.self in (
       done ++ e ∷ [],
       c.loop-id.invariant.1 ∙ ap (λ es. done ++ es) c.in-Some.ensures.steps ∙ sym (append_assoc done (e ∷ []) left),
-      c.in_ok-push.ensures.items ∙ ap (λ l. l ++ info_of e ∷ []) c.loop-id.invariant.2 ∙ sym (map-append info_of done (e ∷ [])),
+      c.in_ok-push.ensures.items ∙ ap (λ l. l ++ shown e ∷ []) c.loop-id.invariant.2 ∙ sym (map-append shown done (e ∷ [])),
     )

@@ -2,5 +2,5 @@ use Rattle.std.proofs.Common.{refl}
 use Rattle.comm_core.specs.declared.call.Call.TheVariants as call
 use Rattle.comm_core.proofs.judge.judge_close.Goals as goal
 
-pub returns-then-not-contains-clause-stands : goal.returns-then-not-contains-clause-stands
-returns-then-not-contains-clause-stands c = λ boxes. c.stays.ensures.stands boxes c.args.comms.now.all (call.Close c.args.id) refl
+pub returns-then-not-contains-clause-feasible : goal.returns-then-not-contains-clause-feasible
+returns-then-not-contains-clause-feasible c = λ boxes. c.stays.ensures.feasible boxes c.args.comms.now.all (call.Close c.args.id) refl

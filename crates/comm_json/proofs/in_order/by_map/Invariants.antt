@@ -1,7 +1,7 @@
 use Rattle.std.proofs.Common.{◌≡◌, ◌++◌, List, take}
 use Rattle.json.specs.Value.{members_view}
 use Rattle.serde_json.specs.Data.{no_members}
-use Rattle.comm_json.specs.Seen.{members_data, members_of}
+use Rattle.comm_json.specs.Behind.{members_data, members_of}
 use Rattle.comm_json.proofs.MemberOrder.{Ref}
 use Rattle.comm_json.proofs.in_order.by_map.Given as goal
 

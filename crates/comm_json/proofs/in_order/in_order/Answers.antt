@@ -1,5 +1,5 @@
 use Rattle.std.proofs.Common.{Ok, sym, subst, refl, ap}
-use Rattle.comm_json.specs.Seen.{members_of, AreInOrder}
+use Rattle.comm_json.specs.Behind.{members_of, AreInOrder}
 use Rattle.comm_json.proofs.MemberOrder.{none_in_order, put_next, order_kept}
 use Rattle.comm_json.proofs.in_order.in_order.Goals as goal
 

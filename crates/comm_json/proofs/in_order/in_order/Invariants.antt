@@ -1,7 +1,7 @@
 use Rattle.std.proofs.Common.{◌≡◌, take}
 use Rattle.json.specs.Value.{members_view}
 use Rattle.serde_json.specs.Data.{no_members}
-use Rattle.comm_json.specs.Seen.{members_data, members_of, AreInOrder}
+use Rattle.comm_json.specs.Behind.{members_data, members_of, AreInOrder}
 use Rattle.comm_json.proofs.in_order.in_order.Given as goal
 
 abbrev pub invariant-loop-member : goal.invariant-loop-member

@@ -3,7 +3,7 @@ use Rattle.std.proofs.lemmas.Slice.Eq.{bytes_eq-Decides}
 use Rattle.json.specs.Value.{members_view}
 use Rattle.serde_json.specs.Data.{no_members}
 use Rattle.serde_json.specs.Find.{get_member}
-use Rattle.comm_json.specs.Seen.{members_data}
+use Rattle.comm_json.specs.Behind.{members_data}
 use Rattle.comm_json.proofs.LookUp.{here, not_here}
 use Rattle.comm_json.proofs.json_ref.last_of.Goals as goal
 

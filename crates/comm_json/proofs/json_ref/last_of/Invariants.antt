@@ -2,7 +2,7 @@ use Rattle.std.proofs.Common.{◌≡◌, ◌≤◌, length, take}
 use Rattle.json.specs.Value.{members_view}
 use Rattle.serde_json.specs.Data.{no_members}
 use Rattle.serde_json.specs.Find.{get_member}
-use Rattle.comm_json.specs.Seen.{members_data}
+use Rattle.comm_json.specs.Behind.{members_data}
 use Rattle.comm_json.proofs.json_ref.last_of.Given as goal
 
 abbrev pub invariant-loop-left : goal.invariant-loop-left

@@ -1,6 +1,6 @@
 use Rattle.std.proofs.Common.{◌≡◌, sym, ap, ◌∙◌}
 use Rattle.serde_json.specs.Read.{read}
-use Rattle.comm_json.specs.Seen.{line_value}
+use Rattle.comm_json.specs.Behind.{line_value}
 use Rattle.comm_json.proofs.LookUp.{of_utf8, not_utf8}
 use Rattle.comm_json.proofs.reading.read_line.Goals as goal
 

@@ -1,9 +1,9 @@
-use Rattle.std.proofs.Common.{◌≡◌, ◌∷◌, [], ◌++◌, length, Some, None, Ok, sym, ap, ◌∙◌, arith}
+use Rattle.std.proofs.Common.{◌≡◌, length, Some, None, Ok, sym, ap, ◌∙◌, arith}
 use Rattle.std.proofs.lemmas.Result.{err_from_is_err_and}
 use Rattle.serde_json.specs.Find.{get_item}
-use Rattle.comm_json.specs.Seen.{items}
-use Rattle.comm_json.specs.Seen.{seen as of_ref}
-use Rattle.comm_messages.specs.Gives.{or_fault}
+use Rattle.comm_json.specs.Behind.{items}
+use Rattle.comm_json.specs.Behind.{behind as of_ref}
+use Rattle.comm_value.specs.Gives.{or_fault}
 use Rattle.comm_messages.specs.Buffers.{decoded}
 use Rattle.comm_messages.specs.declared.fault.MessageFault.TheVariants.{BadBuffer}
 use Rattle.comm_messages.proofs.BufferLemmas.{one_more, one_fails, none_left, fails_too}

@@ -1,5 +1,5 @@
 use Rattle.std.proofs.Common.{◌≡◌, ◌-◌, length}
-use Rattle.comm_json.specs.Seen.{items, count}
+use Rattle.comm_json.specs.Behind.{items, items_count}
 use Rattle.comm_messages.specs.Buffers.{decoded_from}
 use Rattle.comm_messages.proofs.BufferLemmas.{after, rest}
 use Rattle.comm_messages.proofs.buffers.decoded_all.Given as goal
@@ -8,4 +8,4 @@ abbrev pub invariant-loop-text : goal.invariant-loop-text
 invariant-loop-text l = decoded_from 0 (items l.texts) ≡ after l.all.items (rest (items l.texts) (length l.all.items))
 
 abbrev pub decreases-loop-text : goal.decreases-loop-text
-decreases-loop-text l = count (items l.texts) - length l.all.items
+decreases-loop-text l = items_count (items l.texts) - length l.all.items

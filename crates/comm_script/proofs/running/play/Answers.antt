@@ -1,5 +1,5 @@
-use Rattle.std.proofs.Common.{◌<◌, length, arith}
-use Rattle.comm_script.proofs.Streaming.{if_some, streams_next, streams_kept, streams_ended, begins_streams, begins_piece, begins_last, stops_streams, pauses_streams}
+use Rattle.std.proofs.Common.{◌<◌, ◌≤◌, length, arith}
+use Rattle.comm_script.proofs.Streaming.{if_some, streams_next, streams_kept, streams_ended, begins_streams, begins_piece, begins_last, stops_streams, pauses_streams, short_piece}
 use Rattle.comm_script.proofs.running.play.Goals as goal
 use Rattle.comm_script.proofs.running.play.Goals.{in-Ok+in_ok-play_piece-in-Ok+in_ok-send-in-Ok, in-Err+else-ne}
 
@@ -86,7 +86,17 @@ returns-clause-read g c = λ is limits stock stands.
     if_some _ _ _ (λ input h. stops_streams limits stock input _ _ _ c.loop.session c.loop.number c.loop.pending.items h c.loop.invariant.one_line) (c.loop.invariant.streams limits stock stands)
 
 pub returns-in_err-play_last-in-Ok-eq0-clause-memory : goal.returns-in_err-play_last-in-Ok-eq0-clause-memory
-returns-in_err-play_last-in-Ok-eq0-clause-memory g c = λ is limits stock stands. if_some _ _ _ (λ input h. pauses_streams limits stock input _ _ _ c.loop.session c.loop.number c.loop.pending.items h) (c.loop.invariant.streams limits stock stands)
+returns-in_err-play_last-in-Ok-eq0-clause-memory g c =
+    let few : length c.read.new.buf ≤ 65536 = omega arith in
+    λ is limits stock stands.
+    if_some _ _ _
+    (λ input h. pauses_streams limits stock input _ _ _ _ c.loop.session c.loop.number c.loop.pending.items _ h c.loop.invariant.one_line c.in-Ok-eq0.ensures.bytes.0 (short_piece c.in-Ok-eq0.field-0 c.read.new.buf few))
+    (c.loop.invariant.streams limits stock stands)
 
 pub returns-in_err-play_piece-in-Ok-clause-memory : goal.returns-in_err-play_piece-in-Ok-clause-memory
-returns-in_err-play_piece-in-Ok-clause-memory g c = λ is limits stock stands. if_some _ _ _ (λ input h. pauses_streams limits stock input _ _ _ c.loop.session c.loop.number c.loop.pending.items h) (c.loop.invariant.streams limits stock stands)
+returns-in_err-play_piece-in-Ok-clause-memory g c =
+    let few : length c.read.new.buf ≤ 65536 = omega arith in
+    λ is limits stock stands.
+    if_some _ _ _
+    (λ input h. pauses_streams limits stock input _ _ _ _ c.loop.session c.loop.number c.loop.pending.items _ h c.loop.invariant.one_line c.in-Ok.ensures.bytes.0 (short_piece c.in-Ok.n c.read.new.buf few))
+    (c.loop.invariant.streams limits stock stands)

@@ -1,11 +1,12 @@
 //! A target that answers as it likes, and that counts its ends.
-ghost use Rattle.std.specs.Prelude.{◌≡◌, true, [], None};
+ghost use Rattle.std.specs.Prelude.{◌≡◌, ◌⊎◌, true, [], None, IfOk, IfErr};
+ghost use Rattle.comm_targets.specs.Answers.{IsFreeAnswer, IsFreeFault};
 ghost use Rattle.comm_targets.specs.Meaning.{IsIdle};
 
 use crate::tests::core_steps::steps::{Asked, Step, answers, limits, register};
 use crate::tests::core_steps::words::{Sent, holds, one};
 use comm_core::{Core, StateAnswer};
-use comm_targets::{Answer, Book, Custom, Event, Kind, Target, TargetFault};
+use comm_targets::{Answer, Custom, Event, Kind, OpenComms, Target, TargetFault};
 use comm_value::{Buffers, Dict, Text, Val};
 use std::alloc::{AllocError, Global};
 use std::sync::Arc;
@@ -17,7 +18,7 @@ use std::test::Fail;
 #[derive(Drop)]
 struct Scripted {
     alloc: Global,
-    book: Book,
+    comms: OpenComms,
     ends: Arc<AtomicU64>,
 }
 
@@ -27,7 +28,7 @@ impl Scripted {
     {
         Scripted {
             alloc,
-            book: Book::new(alloc),
+            comms: OpenComms::new(alloc),
             ends,
         }
     }
@@ -44,10 +45,23 @@ fn told(alloc: Global) -> Result<Answer, AllocError> {
     Ok(answer)
 }
 
+/// The answer to an event, or the code by which it is refused.
+fn answer_to(alloc: Global, event: &Event) -> Result<Answer, TargetFault>
+    ensures answers { IfOk result (IsFreeAnswer event.now) }
+    ensures refuses { IfErr result (λ f. (f ≡ TargetFault.Memory) ⊎ IsFreeFault f) }
+{
+    match event {
+        Event::Msg { .. } => Ok(told(alloc)?),
+        Event::Open { body, .. } if body.content().is_empty() => Err(TargetFault::Other(7)),
+        Event::Open { .. } => Ok(Answer::empty(alloc)),
+        _ => Err(TargetFault::Other(1)),
+    }
+}
+
 impl Target for Scripted {
     ghost use Rattle.comm_targets.specs.declared.kind.Kind.TheVariants as kind;
 
-    ghost means = { λ t. record { kind = kind.Free; notes = 0; ids = t.book.ids; staged = t.book.staged } };
+    ghost means = { λ t. record { kind = kind.Free; notes = 0; ids = t.comms.ids; staged = t.comms.staged } };
 
     fn kind(&self) -> Kind {
         Kind::Free
@@ -58,43 +72,29 @@ impl Target for Scripted {
     }
 
     fn idle(&self) -> bool {
-        self.book.is_idle()
+        self.comms.is_idle()
     }
 
     fn prepare(&mut self, event: &Event, _now: Option<&Dict>) -> Result<Answer, TargetFault> {
-        match event {
-            Event::Msg { .. } => {
-                let answer = told(self.alloc)?;
-                self.book.stage(self.alloc, event, &answer)?;
-                Ok(answer)
-            }
-            Event::Open { body, .. } => {
-                if body.content().is_empty() {
-                    return Err(TargetFault::Other(7));
-                }
-                let answer = Answer::empty(self.alloc);
-                self.book.stage(self.alloc, event, &answer)?;
-                Ok(answer)
-            }
-            Event::Launch { .. } => Err(TargetFault::Other(1)),
-            Event::Push { .. } => Err(TargetFault::Other(1)),
-        }
+        let answer = answer_to(self.alloc, event)?;
+        self.comms.stage(self.alloc, event, &answer)?;
+        Ok(answer)
     }
 
     fn commit(&mut self) {
-        self.book.commit();
+        self.comms.commit();
     }
 
     fn abandon(&mut self) {
-        self.book.abandon();
+        self.comms.abandon();
     }
 
     fn close(&mut self, id: &str) {
-        self.book.close(id);
+        self.comms.close(id);
     }
 
     fn stop(&mut self) {
-        let ended = if self.book.is_idle() { 1 } else { 100 };
+        let ended = if self.comms.is_idle() { 1 } else { 100 };
         let _before = self.ends.fetch_add(ended, Ordering::SeqCst);
     }
 }
@@ -131,7 +131,7 @@ const OPENED: [Step; 4] = [
     },
     Step {
         asked: Asked::Message("a"),
-        reply: "custom",
+        reply: "custom true",
         messages: &[],
     },
 ];

@@ -1,10 +1,12 @@
 //! Calls of a manager, whose replies and messages are compared with what is wanted.
 ghost use Rattle.std.specs.Prelude.{◌≡◌, true, IfOk};
 ghost use Rattle.comm_targets.specs.Meaning.{IsIdle};
-ghost use Rattle.comm_core.specs.Ready.{HandsNothingIn};
+ghost use Rattle.comm_core.specs.Ready.{HandsNothingIn, IsReady};
 
 use crate::tests::core_steps::words::{Sent, body, same, shown, wanted, words};
-use comm_core::{Call, Core, Limits, Reply};
+use crate::tests::targets::one_buffer;
+use crate::tests::writing;
+use comm_core::{Call, Core, Finished, Limits, Outgoings, Ready, Reply};
 use comm_messages::Outgoing;
 use comm_targets::Target;
 use comm_value::{Dict, Text};
@@ -21,8 +23,10 @@ pub(super) fn limits(comms: usize) -> Limits {
     }
 }
 
-/// What is asked of the comm or the target of a name. A message's data is `{"n":1}`, and so is that of an opening; a launch is
-/// that of the comm 67e55044-10b1-426f-9247-bb680e5fe0c8.
+/// What is asked of the comm or the target of a name. A message's data is `{"n":1}`, and so is that of an opening, but for those with
+/// data of their own, which are JSON and come with one buffer of the bytes 1 and 2. A launch is that of the comm
+/// 67e55044-10b1-426f-9247-bb680e5fe0c8.
+#[derive(Drop)]
 pub(super) enum Asked {
     Open {
         id: &'static str,
@@ -32,7 +36,16 @@ pub(super) enum Asked {
         id: &'static str,
         target: &'static str,
     },
+    OpenWith {
+        id: &'static str,
+        target: &'static str,
+        data: &'static str,
+    },
     Message(&'static str),
+    MessageWith {
+        id: &'static str,
+        data: &'static str,
+    },
     Close(&'static str),
     Unregister(&'static str),
     Launch(&'static str),
@@ -42,6 +55,7 @@ pub(super) enum Asked {
 }
 
 /// What is asked, and the reply and the messages that are wanted.
+#[derive(Drop)]
 pub(super) struct Step {
     pub asked: Asked,
     pub reply: &'static str,
@@ -58,6 +72,28 @@ fn open(alloc: Global, id: &str, target: &str, empty: bool) -> Result<Call, Fail
         id,
         target,
         version: None,
+        body,
+    })
+}
+
+fn open_with(alloc: Global, id: &str, target: &str, data: &str) -> Result<Call, Fail>
+    ensures { IfOk result HandsNothingIn }
+{
+    let body = writing::body(alloc, data, one_buffer(alloc)?)?;
+    Ok(Call::Open {
+        id: Text::copy_of(alloc, id)?,
+        target: Text::copy_of(alloc, target)?,
+        version: Some(Text::copy_of(alloc, "2.0.0")?),
+        body,
+    })
+}
+
+fn message_with(alloc: Global, id: &str, data: &str) -> Result<Call, Fail>
+    ensures { IfOk result HandsNothingIn }
+{
+    let body = writing::body(alloc, data, one_buffer(alloc)?)?;
+    Ok(Call::Msg {
+        id: Text::copy_of(alloc, id)?,
         body,
     })
 }
@@ -97,13 +133,16 @@ fn push(alloc: Global, id: &str) -> Result<Call, Fail>
     Ok(Call::Push { id, state })
 }
 
-fn call_of(alloc: Global, asked: &Asked) -> Result<Call, Fail>
+/// The call that asks for it.
+pub(super) fn call_of(alloc: Global, asked: &Asked) -> Result<Call, Fail>
     ensures { IfOk result HandsNothingIn }
 {
     match asked {
         Asked::Open { id, target } => open(alloc, id, target, false),
         Asked::OpenWithoutData { id, target } => open(alloc, id, target, true),
+        Asked::OpenWith { id, target, data } => open_with(alloc, id, target, data),
         Asked::Message(id) => message(alloc, id),
+        Asked::MessageWith { id, data } => message_with(alloc, id, data),
         Asked::Close(id) => Ok(Call::Close {
             id: Text::copy_of(alloc, id)?,
         }),
@@ -119,10 +158,19 @@ fn call_of(alloc: Global, asked: &Asked) -> Result<Call, Fail>
     }
 }
 
+// The reply and the messages, and copies of them.
 fn is_wanted(alloc: Global, reply: &Reply, outgoing: &[Outgoing], step: &Step) -> Result<(), Fail> {
     let got = shown(alloc, reply, outgoing)?;
     let want = wanted(alloc, step.reply, step.messages)?;
-    same(alloc, &got, &want)
+    same(alloc, &got, &want)?;
+    let copy = copies(alloc, reply, outgoing)?;
+    same(alloc, &copy, &want)
+}
+
+fn copies(alloc: Global, reply: &Reply, outgoing: &[Outgoing]) -> Result<String, Fail> {
+    let reply = reply.copy(alloc)?;
+    let outgoing = Outgoings::copy_of(alloc, outgoing)?;
+    shown(alloc, &reply, outgoing.as_slice())
 }
 
 fn answer<T: Target>(alloc: Global, core: &mut Core<T>, step: &Step) -> Result<(), Fail>
@@ -149,6 +197,56 @@ pub(super) fn answers<T: Target>(
     for step in steps {
         answer(alloc, core, step)?;
     }
+    Ok(())
+}
+
+/// Makes the change that stands ready, and ends a target that it takes out.
+pub(super) fn made<T: Target>(core: &mut Core<T>, ready: Ready<T>) -> (Reply, Vec<Outgoing>)
+    requires ready { IsReady core.old ready }
+    ensures { core.new.settled ≡ true }
+{
+    let Finished {
+        reply,
+        outgoing,
+        ended,
+        back: _,
+    } = core.finish(ready);
+    if let Some(held) = ended {
+        held.end();
+    }
+    (reply, outgoing)
+}
+
+/// Asks in two steps, of which the second makes the change.
+pub(super) fn answer_in_two<T: Target>(
+    alloc: Global,
+    core: &mut Core<T>,
+    step: &Step,
+) -> Result<(), Fail>
+    requires settled { core.old.settled ≡ true }
+    ensures { core.new.settled ≡ true }
+{
+    let call = call_of(alloc, &step.asked)?;
+    let ready = core.begin(call)?;
+    let (reply, outgoing) = made(core, ready);
+    let done = is_wanted(alloc, &reply, &outgoing, step);
+    drop(reply);
+    drop(outgoing);
+    done
+}
+
+/// Asks, and takes it back.
+pub(super) fn take_back<T: Target>(
+    alloc: Global,
+    core: &mut Core<T>,
+    asked: &Asked,
+) -> Result<(), Fail>
+    requires settled { core.old.settled ≡ true }
+    ensures { core.new.settled ≡ true }
+{
+    let call = call_of(alloc, asked)?;
+    let ready = core.begin(call)?;
+    let _back = core.withdraw(ready);
     Ok(())
 }
 

@@ -1,6 +1,8 @@
 //! What the tests send and compare, as values and in words.
-use comm_core::{Refusal, Reply};
+use crate::tests::messages::push_bytes;
+use comm_core::{Refusal, Reply, StateAnswer};
 use comm_messages::{Body, Outgoing, Parent, write_message};
+use comm_targets::Custom;
 use comm_value::{Buffers, Dict, Text, Val, Whole};
 use std::alloc::{AllocError, Global};
 use std::test::Fail;
@@ -37,7 +39,7 @@ pub(super) fn words(alloc: Global, reply: &Reply) -> Result<String, AllocError> 
             "refused too_many_comms",
         ),
         Reply::OpenRefused(Refusal::Fault(fault)) => format!(in alloc; "refused, {fault}"),
-        Reply::Delivered(Some(_)) => String::from_str(alloc, "custom"),
+        Reply::Delivered(Some(custom)) => custom_words(alloc, custom),
         Reply::Delivered(None) => String::from_str(alloc, "delivered"),
         Reply::Fault(fault) => format!(in alloc; "fault, {fault}"),
         Reply::NoComm => String::from_str(alloc, "no_comm"),
@@ -46,6 +48,33 @@ pub(super) fn words(alloc: Global, reply: &Reply) -> Result<String, AllocError> 
         Reply::NoTarget => String::from_str(alloc, "no_target"),
         Reply::Launched => String::from_str(alloc, "launched"),
         Reply::NotWidget => String::from_str(alloc, "not_widget"),
+    }
+}
+
+/// What a caller is handed: the value, and the bytes of each buffer.
+pub(super) fn custom_words(alloc: Global, custom: &Custom) -> Result<String, AllocError> {
+    let mut json = Vec::new(alloc);
+    custom.content.write_json(&mut json)?;
+    let json = String::from_utf8_lossy(alloc, json.as_slice())?;
+    let mut text = String::from_str(alloc, "custom ")?;
+    text.push_str(json.as_str())?;
+    push_bytes(alloc, &mut text, &custom.buffers)?;
+    Ok(text)
+}
+
+/// A dict as JSON.
+pub(super) fn dict_words(alloc: Global, dict: &Dict) -> Result<String, AllocError> {
+    let mut json = Vec::new(alloc);
+    dict.write_json(&mut json)?;
+    String::from_utf8_lossy(alloc, json.as_slice())
+}
+
+/// The state of a comm in words.
+pub(super) fn state_words(alloc: Global, state: &StateAnswer) -> Result<String, AllocError> {
+    match state {
+        StateAnswer::NoComm => String::from_str(alloc, "no_comm"),
+        StateAnswer::NoState => String::from_str(alloc, "no_state"),
+        StateAnswer::State(state) => dict_words(alloc, state),
     }
 }
 
@@ -103,6 +132,7 @@ pub(super) fn holds(fact: bool) -> Result<(), Fail> {
 }
 
 /// A message that is wanted.
+#[derive(Drop)]
 pub(super) struct Sent {
     pub kind: &'static str,
     pub id: &'static str,

@@ -152,7 +152,8 @@ fn a_target_ends_after_a_write_fault(rt: HostRuntime) -> Result<(), Fail> {
     panic!(rt; "it never answered");
 }
 
-/// An allocation is refused. Tells whether there were fewer. What was said tells whether the target had been registered.
+/// An allocation is refused. Tells whether there were fewer. What was said tells whether the target had been registered. The arena for
+/// lines asks again for less where it is refused a chunk, so a refusal needn't end the script.
 fn ends_without_memory(rt: &impl Abort, alloc: Global, number: u32) -> Result<bool, Fail> {
     let ends = Arc::new(alloc, AtomicU64::new(0))?;
     let mut reader = Pieces::new(SCRIPT, 64, 0, ErrorKind::Other);
@@ -163,8 +164,8 @@ fn ends_without_memory(rt: &impl Abort, alloc: Global, number: u32) -> Result<bo
     let ended = ends.load(Ordering::SeqCst);
     assert!(rt; ended <= 1, "at {number}");
     assert!(rt; writer.taken().is_empty() || ended == 1, "at {number}");
-    if is_whole {
-        assert!(rt; result == Ok(()) && ended == 1);
+    if is_whole || result == Ok(()) {
+        assert!(rt; result == Ok(()) && ended == 1, "at {number}");
     } else {
         assert!(rt; result == Err(RunFault::Memory), "at {number}");
     }

@@ -69,16 +69,17 @@ out {"buffers":[],"call":4,"client":0,"content":{"comm_id":"a","data":{}},"heade
 bad 7 not_json
 "#;
 
-/// An allocation is refused. Tells whether there were fewer.
+/// An allocation is refused. Tells whether there were fewer. The arena for lines asks again for less where it is refused a chunk, so a
+/// refusal needn't end the script; then nothing is missing from what it gives.
 fn is_played_whole(rt: &impl Abort, alloc: Global, number: u32) -> Result<bool, Fail> {
     let mut reader = Pieces::new(SCRIPT, 64, 0, ErrorKind::Other);
     let mut writer = Sink::new(alloc, ROOM, ROOM, 0, Then::TakeNothing)?;
     let _is_heard = refuse(alloc, number);
     let result = play(alloc, &mut reader, &mut writer, limits(MOST));
     let is_whole = !was_refused(alloc);
-    if is_whole {
+    if is_whole || result == Ok(()) {
         assert!(rt; result == Ok(()));
-        assert!(rt; writer.taken() == ANSWERS);
+        assert!(rt; writer.taken() == ANSWERS, "at {number}");
     } else {
         assert!(rt; result == Err(RunFault::Memory), "at {number}");
         assert!(rt; ANSWERS.starts_with(writer.taken()), "at {number}");
@@ -86,16 +87,18 @@ fn is_played_whole(rt: &impl Abort, alloc: Global, number: u32) -> Result<bool, 
     Ok(is_whole)
 }
 
-/// The first allocation is refused, then the second, and so on until none is left to refuse. A heap that refuses nothing plays once.
+/// The first allocation is refused, then the second, and so on until none is left to refuse, and nothing leaks. A heap that refuses
+/// nothing plays once.
 #[test]
 fn refused_run(rt: HostRuntime) -> Result<(), Fail> {
     let alloc = rt.alloc();
     for number in 1..100_000u32 {
         mark(alloc);
-        if is_played_whole(&rt, alloc, number)? {
+        let is_whole = is_played_whole(&rt, alloc, number)?;
+        assert!(rt; !has_leaked(alloc), "at {number}");
+        if is_whole {
             return Ok(());
         }
-        assert!(rt; !has_leaked(alloc), "at {number}");
     }
     panic!(rt; "it never answered");
 }

@@ -1,8 +1,8 @@
-use Rattle.std.proofs.Common.{◌++◌, refl, sym, ap, ◌∙◌, arith}
+use Rattle.std.proofs.Common.{◌++◌, sym, ap, ◌∙◌, arith}
 use Rattle.serde_json.specs.Written.{members_text}
 use Rattle.comm_value.specs.ToJson.{json_members}
 use Rattle.comm_value.specs.View.{members_of}
-use Rattle.comm_value.proofs.Flat.{opened, next_is, closed, none_left}
+use Rattle.comm_value.proofs.Flat.{opened, closed}
 use Rattle.comm_value.proofs.Smaller.{value_smaller}
 use Rattle.comm_value.proofs.json_text.+json_text.Goals as goal
 

@@ -1,4 +1,4 @@
-use Rattle.std.proofs.Common.{ℕ, ◌/◌, ap, sym, ◌∙◌, arith}
+use Rattle.std.proofs.Common.{◌/◌, ap, sym, ◌∙◌, arith}
 use Rattle.std.specs.List.{insert as list_insert}
 use Rattle.comm_value.proofs.Flat.{one_behind, two_behind, filled_let_in, filled_two, not_empty}
 use Rattle.comm_value.proofs.pieces.let_in.Goals as goal

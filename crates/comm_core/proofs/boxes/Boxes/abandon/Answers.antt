@@ -1,5 +1,5 @@
 use Rattle.std.proofs.Common.{ap, ◌∙◌, refl}
-use Rattle.comm_targets.specs.Meaning.{Meaning, abandons}
+use Rattle.comm_targets.specs.Meaning.{Meaning, after_abandon}
 use Rattle.comm_core.specs.Tables.{Table}
 use Rattle.comm_core.specs.Machine.{with_at}
 use Rattle.comm_core.proofs.Boxed.{held, held-is, written, not_there}
@@ -17,7 +17,7 @@ returns-in-Some-clause-all g c = λ m is.
     _ c.in-Some.i c.index_mut.result.now c.place_of.ensures c.in-Some.is c.index_mut.ensures.value m is in
     written (λ n. n.name) (λ n. n.held) c.self.inside.all.items _ _ all
     _ c.in-Some.i c.index_mut.result.now c.place_of.ensures c.in-Some.is c.index_mut.ensures.value _ refl
-    ∙ ap (with_at c.args.self.now.all c.args.name.now) (c.abandon.ensures ∙ ap abandons same)
+    ∙ ap (with_at c.args.self.now.all c.args.name.now) (c.abandon.ensures ∙ ap after_abandon same)
 
 pub returns-in_default-clause-all : goal.returns-in_default-clause-all
 returns-in_default-clause-all g c = λ m is.

@@ -1,5 +1,5 @@
 use Rattle.std.proofs.Common.{length}
-use Rattle.comm_core.specs.Ready.{AllAgree}
+use Rattle.comm_core.proofs.Stopping.{AllAgree}
 use Rattle.comm_core.proofs.boxes.Boxes.end_all.Given as goal
 
 abbrev pub invariant-loop-name : goal.invariant-loop-name

@@ -1,6 +1,6 @@
 use Rattle.std.proofs.Common.{ap, sym, ◌∙◌, option_map}
-use Rattle.comm_targets.specs.Meaning.{Meaning}
-use Rattle.comm_core.specs.Step.{holds_widget, is_widget}
+use Rattle.comm_targets.specs.Meaning.{Meaning, is_widget}
+use Rattle.comm_core.specs.Step.{holds_widget}
 use Rattle.comm_core.specs.Tables.{Table, registered_of}
 use Rattle.comm_core.proofs.Boxed.{held, absent}
 use Rattle.comm_core.proofs.Names.{target_at}

@@ -1,6 +1,7 @@
-use Rattle.std.proofs.Common.{◌<◌, None, [], ap, sym, ◌∙◌, arith, length}
+use Rattle.std.proofs.Common.{◌<◌, [], ap, sym, ◌∙◌, arith, length}
 use Rattle.comm_tables.proofs.Walking.{walked_entry, walked_gap}
-use Rattle.comm_core.specs.Reads.{in_order, pairs_in}
+use Rattle.comm_core.specs.Kept.{pairs_of}
+use Rattle.comm_core.specs.Reads.{in_order}
 use Rattle.comm_core.specs.Tables.{Opens}
 use Rattle.comm_core.proofs.Closing.{listed_one}
 use Rattle.comm_core.proofs.comms.Comms.in_order.Goals as goal
@@ -20,5 +21,5 @@ loop-i-preserved c =
       | in_default w ↦
           let within : c.loop-i.i < length c.self.inside.all.places = grind (arith, c.loop-i-test.true, c.places-i-end.ensures) in
           let gap = w.in_default.ensures.gap within in
-          rw w.all-is (c.loop-i.invariant ∙ sym (ap (λ (l : Opens). in_order (pairs_in l None)) (walked_gap c.self.inside.all.places c.loop-i.i gap.0 gap.1)))
+          rw w.all-is (c.loop-i.invariant ∙ sym (ap (λ (l : Opens). in_order (pairs_of l)) (walked_gap c.self.inside.all.places c.loop-i.i gap.0 gap.1)))
     ]

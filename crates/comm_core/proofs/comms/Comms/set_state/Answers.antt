@@ -2,8 +2,7 @@ use Rattle.std.proofs.Common.{◌≡◌, Option, None, Some, refl, ap, sym, rule
 use Rattle.std.specs.Str.{bytes_eq}
 use Rattle.std.specs.Map.{lookup}
 use Rattle.comm_tables.specs.Table.{entries}
-use Rattle.comm_core.specs.Kept.{IsCurrent}
-use Rattle.comm_core.specs.Reads.{pairs_in}
+use Rattle.comm_core.specs.Kept.{IsCurrent, pairs_of}
 use Rattle.comm_core.specs.declared.comm.Comm.{Comm}
 use Rattle.comm_core.proofs.Kept.{current_with_state, still_current}
 use Rattle.comm_core.proofs.comms.Comms.set_state.Goals as goal
@@ -12,7 +11,7 @@ pub invariant_of-self : goal.invariant_of-self
 invariant_of-self c =
     let before = c.self.inside in
     (elim (lookup (bytes_eq c.args.id.now) (entries before.all)) as (λ o. lookup (bytes_eq c.args.id.now) (entries before.all) ≡ o → IsCurrent before.kept (entries c.update.new.self)) [
-      | None ↦ λ none. still_current before.kept (entries before.all) _ c.self.invariant (ap (λ es. pairs_in es None) (c.update.ensures.absent none))
+      | None ↦ λ none. still_current before.kept (entries before.all) _ c.self.invariant (ap pairs_of (c.update.ensures.absent none))
       | Some x ↦ λ found.
           let put = c.update.ensures.entries x found in
           let same : put.0.target ≡ x.target = search (rules, put.1) in

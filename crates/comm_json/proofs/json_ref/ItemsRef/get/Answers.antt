@@ -1,7 +1,7 @@
 use Rattle.std.proofs.Common.{Some, ap, ◌∙◌, arith}
 use Rattle.serde_json.specs.View.{view}
 use Rattle.json.specs.Value.{value_view}
-use Rattle.comm_json.specs.Seen.{data_of}
+use Rattle.comm_json.specs.Behind.{data_of}
 use Rattle.json.specs.declared.value.Value.{Value}
 use Rattle.serde_json.proofs.Views.{get_item_within, get_item_past}
 use Rattle.comm_json.proofs.LookUp.{item_at, item_past, count_of, count_of_owned}

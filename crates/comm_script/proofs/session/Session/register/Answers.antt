@@ -3,28 +3,30 @@ use Rattle.std.specs.Prelude.{option_map, option_to_list}
 use Rattle.comm_targets.specs.Meaning.{Meaning}
 use Rattle.comm_core.specs.declared.call.Call.{Call}
 use Rattle.comm_core.specs.declared.call.Call.TheVariants as call
+use Rattle.comm_core.specs.declared.reply.Reply.{Reply}
 use Rattle.comm_core.specs.Machine.{Registered}
 use Rattle.comm_core.specs.Step.{Stepped}
 use Rattle.comm_core.specs.Ready as core
-use Rattle.comm_script.specs.Stock.{first_of, rest_of, registered_of}
-use Rattle.comm_script.specs.Played.{Turn, registered, stocked}
+use Rattle.comm_core.specs.Tables.{registered_of}
+use Rattle.comm_script.specs.Stock.{first_of, rest_of}
+use Rattle.comm_script.specs.Played.{Turn, registered, restocked}
 use Rattle.comm_script.specs.Session.{Stands}
 use Rattle.comm_script.specs.declared.session.Session.{Session}
-use Rattle.comm_script.proofs.Turns.{step_of, stands_grown, first_fits, rest_without, registered_is, called_is, mapped, unasked}
+use Rattle.comm_script.proofs.Turns.{step_of, stands_called, first_fits, rest_without, restocked_is, mapped, unasked}
 use Rattle.comm_script.proofs.session.Session.register.Goals as goal
 
 pub returns-in_ok-append_bad-in-None-clause-stands : goal.returns-in_ok-append_bad-in-None-clause-stands
 returns-in_ok-append_bad-in-None-clause-stands g c = λ limits now stands.
-    let none : first_of c.args.word now.stock ≡ None = ap (first_of c.args.word) (sym stands.stock) ∙ sym c.in-None.ensures.taken in
+    let none : first_of c.args.kind now.stock ≡ None = ap (first_of c.args.kind) (sym stands.stock) ∙ sym c.in-None.ensures.taken in
     let kept : Session g.row.T.Denot = record { limits = c.args.self.now.limits; core = c.args.self.now.core; stock = c.take.new.self; changes = c.args.self.now.changes; made = c.args.self.now.made; room = c.args.self.now.room } in
     subst (λ (t : Turn). Stands limits t.after kept)
-    (sym (ap (registered limits now c.args.number c.args.client c.args.word c.args.name) none))
+    (sym (ap (registered limits now c.args.number c.args.client c.args.kind c.args.name) none))
     (record {
       same = stands.same;
       limit = stands.limit;
       machine = stands.machine;
       exact = stands.exact;
-      stock = c.in-None.ensures.targets ∙ rest_without c.args.word c.args.self.now.stock.targets (sym c.in-None.ensures.taken) ∙ stands.stock;
+      stock = c.in-None.ensures.targets ∙ rest_without c.args.kind c.args.self.now.stock.targets (sym c.in-None.ensures.taken) ∙ stands.stock;
       changes = stands.changes;
       made = stands.made;
     })
@@ -36,17 +38,18 @@ returns-in_ok-answer-in-Ok-clause-stands g c = λ limits now stands.
     let asked : Call = call.Register c.args.name m.kind m.notes in
     let S : Stepped = record { reply = c.in-Ok.reply; outgoing = []; next = core.machine c.register.new.self } in
     let counted = c.answer.ensures.counted in
-    let first : first_of c.args.word now.stock ≡ Some (registered_of m) = ap (first_of c.args.word) (sym stands.stock) ∙ sym c.in-Some.ensures.taken in
+    let first : first_of c.args.kind now.stock ≡ Some (registered_of m) = ap (first_of c.args.kind) (sym stands.stock) ∙ sym c.in-Some.ensures.taken in
     let is = step_of limits now c.args.self.now asked None S c.exact_machines_leave_no_choice.ensures stands (unasked c.args.self.now.core.limit (core.machine c.args.self.now.core) c.args.name m.kind m.notes) c.in-Ok.ensures.step in
-    let stock : List Registered = rest_of c.args.word now.stock ++ option_to_list (option_map registered_of (core.back_of c.in-Ok.reply (Some m))) in
-    let shelf : c.put_back.new.self.targets ≡ stock =
+    let left : Reply → List Registered = restocked (registered_of m) (rest_of c.args.kind now.stock) in
+    let shelf : c.put_back.new.self.targets ≡ left S.reply =
     c.put_back.ensures
-    ∙ ap (λ rest. rest ++ option_to_list (option_map (λ t. registered_of (g.T.Target.means t)) c.in-Ok.back)) (c.in-Some.ensures.targets ∙ ap (rest_of c.args.word) stands.stock)
-    ∙ ap (λ o. rest_of c.args.word now.stock ++ option_to_list o) (mapped g.T.Target.means c.in-Ok.back ∙ ap (option_map registered_of) c.in-Ok.ensures.back) in
+    ∙ ap (λ rest. rest ++ option_to_list (option_map (λ t. registered_of (g.T.Target.means t)) c.in-Ok.back)) (c.in-Some.ensures.targets ∙ ap (rest_of c.args.kind) stands.stock)
+    ∙ ap (λ o. rest_of c.args.kind now.stock ++ option_to_list o) (mapped g.T.Target.means c.in-Ok.back ∙ ap (option_map registered_of) c.in-Ok.ensures.back)
+    ∙ sym (restocked_is m (rest_of c.args.kind now.stock) S.reply) in
     subst (λ (t : Turn). Stands limits t.after c.answer.new.self)
-    (sym (registered_is limits now c.args.number c.args.client c.args.word c.args.name m S first is ∙ ap (λ t. stocked t stock) (called_is limits now c.args.client asked S is)))
-    (stands_grown limits now c.args.client asked S c.args.self.now c.answer.new.self stock stands is inside c.requires.client (ap (λ (s : Session g.row.T.Denot). s.limits) counted)
+    (sym (ap (registered limits now c.args.number c.args.client c.args.kind c.args.name) first))
+    (stands_called limits now c.args.client asked left S c.args.self.now c.answer.new.self stands is inside c.requires.client (ap (λ (s : Session g.row.T.Denot). s.limits) counted)
     (ap (λ (s : Session g.row.T.Denot). s.core.limit) counted ∙ c.register.ensures.limit) (ap (λ (s : Session g.row.T.Denot). core.machine s.core) counted)
     (c.steps_keep_machines_exact.ensures c.args.self.now.core.limit (core.machine c.args.self.now.core) asked None S stands.exact
-    (first_fits c.args.word c.args.self.now.stock.targets (registered_of m) (sym c.in-Some.ensures.taken)) c.in-Ok.ensures.step) (ap (λ (s : Session g.row.T.Denot). s.stock.targets) counted ∙ shelf)
+    (first_fits c.args.kind c.args.self.now.stock.targets (registered_of m) (sym c.in-Some.ensures.taken)) c.in-Ok.ensures.step) (ap (λ (s : Session g.row.T.Denot). s.stock.targets) counted ∙ shelf)
     (ap (λ (s : Session g.row.T.Denot). s.changes) counted) (ap (λ (s : Session g.row.T.Denot). s.made) counted))

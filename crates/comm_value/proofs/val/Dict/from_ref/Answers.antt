@@ -1,5 +1,5 @@
 use Rattle.std.proofs.Common.{◌≡◌, Some, false}
-use Rattle.comm_json.specs.Seen.{members}
+use Rattle.comm_json.specs.Behind.{members}
 use Rattle.comm_value.specs.FromJson.{members_of}
 use Rattle.comm_value.specs.Places.{members_have_bytes}
 use Rattle.comm_value.proofs.Lists.{if_ok}

@@ -4,12 +4,12 @@ use denote.Param.SendFields.{declared_send}
 use denote.Param.Sent.{Sends}
 use Rattle.std.proofs.Crossing
 use Rattle.std.proofs.alloc.Global.TheSendSync as global
-use Rattle.comm_targets.proofs.Sends.{book_sends}
+use Rattle.comm_targets.proofs.Sends.{open_comms_sends}
 use Rattle.comm_tests.specs.contracts.tests.targets.Strict as strict
 use Rattle.comm_tests.proofs.tests.targets.fault_at.OwnLists as own
 
 strict_sends : IsSend strict.the_row
-strict_sends = search (book_sends, global.the_field_send, Crossing.crosses, sendable) depth 60 fits 20000
+strict_sends = search (open_comms_sends, global.the_field_send, Crossing.crosses, sendable) depth 60 fits 20000
 
 pub sends-part-1-1 : Sends own.part-1-1
 sends-part-1-1 i = arg_send _ Exit.no _ strict_sends

@@ -3,12 +3,12 @@ use denote.Param.Send.{IsSend, arg_send, sendable}
 use denote.Param.Sent.{Sends}
 use Rattle.std.proofs.Crossing
 use Rattle.std.proofs.alloc.Global.TheSendSync as global
-use Rattle.comm_targets.proofs.Sends.{book_sends}
+use Rattle.comm_targets.proofs.Sends.{open_comms_sends}
 use Rattle.comm_tests.specs.contracts.tests.core_steps.free.Scripted as scripted
 use Rattle.comm_tests.proofs.tests.core_steps.free.a_free_target.OwnLists as own
 
 scripted_sends : IsSend scripted.the_row
-scripted_sends = search (book_sends, global.the_field_send, Crossing.crosses, sendable) depth 60 fits 20000
+scripted_sends = search (open_comms_sends, global.the_field_send, Crossing.crosses, sendable) depth 60 fits 20000
 
 pub sends-part-1-1 : Sends own.part-1-1
 sends-part-1-1 i = arg_send _ Exit.no _ scripted_sends

@@ -1,0 +1,131 @@
+-- How a call is planned, and how the plan is carried out; for proofs and private clauses.
+use Rattle.std.specs.Prelude.{◌≡◌, ◌<◌, ℕ, Bool, true, false, List, Option, None, Some, Ok, Err, is_some, option_map, if◌then◌else◌}
+use Rattle.std.specs.Str.{bytes_eq}
+use Rattle.comm_messages.specs.declared.outgoing.Outgoing.{Outgoing}
+use Rattle.comm_targets.specs.Meaning.{Meaning, IsIdle}
+use Rattle.comm_targets.specs.declared.staged_event.StagedEvent.{StagedEvent}
+use Rattle.comm_targets.specs.declared.event.Event.{Event}
+use Rattle.comm_targets.specs.declared.event.Event.TheVariants as event
+use Rattle.comm_targets.specs.declared.fault.TargetFault.{TargetFault}
+use Rattle.comm_targets.specs.declared.fault.TargetFault.TheVariants as fault
+use Rattle.comm_core.specs.Machine.{Name, Machine, at, has}
+use Rattle.comm_core.specs.Step.{Outcome, Verdict, Done, Asked, step, asks, stepped, answered, with_target, without_target, without_comm, holds_widget, Allowed}
+use Rattle.comm_core.specs.Tables.{Targets, Opens, Agrees, AnswerIsStaged, HaveStaged, unstaged, emptied, ended_of, machine_of, targets_of}
+use Rattle.comm_core.specs.declared.comm.Comm.{Comm}
+use Rattle.comm_core.specs.declared.question.Question.{Question}
+use Rattle.comm_core.specs.declared.call.Call.{Call}
+use Rattle.comm_core.specs.declared.reply.Reply.{Reply}
+use Rattle.comm_core.specs.declared.plan.Plan.{Plan}
+use Rattle.comm_core.specs.declared.plan.Plan.TheVariants.{Nothing, Register, Unregister, Close, Commit}
+use Rattle.comm_core.specs.declared.plan.Judged.{Judged}
+use Rattle.comm_core.specs.declared.plan.Judged.TheVariants as judged
+
+-- ---- the tables
+
+-- the tables agree; where no call stands ready nothing is staged, else there is room for one more target and one more comm
+pub record IsSound (boxes : Targets) (free : ℕ) (comms : Opens) (spare : ℕ) (settled : Bool) : Type 0 where
+  pub agrees : Agrees (unstaged boxes) comms
+  pub nothing_staged : settled ≡ true → HaveStaged boxes (λ _. None)
+  pub room : settled ≡ false → 0 < free
+  pub space : settled ≡ false → 0 < spare
+
+-- the tables agree, nothing is staged, and they mean this machine
+abbrev pub Carried : Targets → Opens → Machine → Type 0
+Carried boxes comms m = Agrees (unstaged boxes) comms × HaveStaged boxes (λ _. None) × (machine_of boxes comms ≡ m)
+
+-- ---- a plan
+
+-- the machine after the plan is carried out
+abbrev pub planned : Machine → Plan → Option Outcome → Machine
+planned m (Register name kind notes) o = with_target m name kind notes
+planned m (Unregister name) o = without_target m name
+planned m (Close id) o = without_comm m id
+planned m (Commit q) (Some (Ok a)) = (answered m q.name q.event a).next
+planned m plan o = m
+
+abbrev pub verdict_of : Machine → Judged → Verdict
+verdict_of m (judged.Done r out plan) = Done r out.items (planned m plan None)
+verdict_of m (judged.Asked q) = Asked q
+
+-- what is staged in the target of this name
+abbrev pub staged_by : Plan → Option Outcome → Name → Option StagedEvent
+staged_by (Commit q) (Some (Ok a)) name = if bytes_eq name q.name then Some (record { event = q.event; answer = a }) else None
+staged_by plan o name = None
+
+-- a comm is opened that isn't there, or told that is the target's
+abbrev pub SuitsComms : Opens → Name → Event → Type 0
+SuitsComms comms name (event.Open id version body) = at comms id ≡ None
+SuitsComms comms name (event.Launch id state) = at comms id ≡ None
+SuitsComms comms name (event.Msg id body) = (c : Comm) × (at comms id ≡ Some c) × (c.target ≡ name)
+SuitsComms comms name (event.Push id state) = (c : Comm) × (at comms id ≡ Some c) × (c.target ≡ name)
+
+-- the kernel's own events are for widgets
+abbrev pub SuitsKind : Targets → Name → Event → Type 0
+SuitsKind boxes name (event.Open id version body) = Unit {0}
+SuitsKind boxes name (event.Msg id body) = Unit {0}
+SuitsKind boxes name (event.Launch id state) = holds_widget (at (targets_of boxes) name) ≡ true
+SuitsKind boxes name (event.Push id state) = holds_widget (at (targets_of boxes) name) ≡ true
+
+-- a widget refuses neither of the kernel's own events
+abbrev pub CanRefuse : Event → Type 0
+CanRefuse (event.Launch id state) = ⊥
+CanRefuse (event.Push id state) = ⊥
+CanRefuse e = Unit {0}
+
+-- the target is there, and may be asked this
+pub record CanAsk (boxes : Targets) (comms : Opens) (q : Question) : Type 0 where
+  pub here : has (targets_of boxes) q.name ≡ true
+  pub comms_suit : SuitsComms comms q.name q.event
+  pub kind_suits : SuitsKind boxes q.name q.event
+
+-- the target that a register hands in is idle, and of the kind and with the notes of the call
+abbrev pub IsNewcomer : Targets → Name → Option Meaning → Meaning → Type 0
+IsNewcomer boxes name boxed m = (boxed ≡ Some m) × (at boxes name ≡ None) × IsIdle m
+
+-- the plan can be carried out on these tables
+abbrev pub Suits : Targets → Opens → Option Meaning → Plan → Option Outcome → Type 0
+Suits boxes comms boxed (Register name kind notes) o = (m : Meaning) × IsNewcomer boxes name boxed m × (m.kind ≡ kind) × (m.notes ≡ notes)
+Suits boxes comms boxed (Commit q) (Some (Ok a)) = (is_some (at boxes q.name) ≡ true) × SuitsComms comms q.name q.event
+Suits boxes comms boxed (Commit q) o = ⊥
+Suits boxes comms boxed plan o = Unit {0}
+
+-- the target that a plan ends, with its comms closed
+abbrev pub ended_by : Targets → Plan → Option Meaning
+ended_by boxes (Unregister name) = option_map emptied (at boxes name)
+ended_by boxes plan = None
+
+-- the target that is handed back
+abbrev pub back_by : Plan → Option Meaning → Option Meaning
+back_by (Register name kind notes) boxed = None
+back_by plan boxed = boxed
+
+-- ---- what comes of a call
+
+-- what a call comes to can be carried out, or asked
+abbrev pub IsFeasible : Targets → Opens → Call → Judged → Type 0
+IsFeasible boxes comms c (judged.Done r out plan) = Suits (unstaged boxes) comms None plan None × (ended_by boxes plan ≡ ended_of boxes c)
+IsFeasible boxes comms c (judged.Asked q) = CanAsk boxes comms q × ((bs : Targets) → ended_of bs c ≡ None)
+
+-- What came of a question: reply and outgoing of the step, an outcome that is allowed, and what is staged now.
+pub record HasAnswered (old : Targets) (comms : Opens) (q : Question) (o : Option Outcome) (r : Reply) (out : List Outgoing) (plan : Plan) (new : Targets) : Type 0 where
+  pub step_is : stepped (machine_of old comms) (Asked q) o ≡ Some (record { reply = r; outgoing = out; next = planned (machine_of old comms) plan o })
+  pub allowed : Allowed (machine_of old comms) (Some q) o
+  pub staged : AnswerIsStaged new (Some q) o
+  pub stages : HaveStaged new (staged_by plan o)
+  pub unstaged_is : unstaged new ≡ unstaged old
+  pub suits : Suits (unstaged new) comms None plan o
+  pub ended : ended_by new plan ≡ None
+
+-- What came of a call: reply and outgoing of the step, an outcome that is allowed, and what is staged now.
+pub record HasCome (limit : ℕ) (old : Targets) (comms : Opens) (c : Call) (o : Option Outcome) (r : Reply) (out : List Outgoing) (plan : Plan) (new : Targets) : Type 0 where
+  pub step_is : step limit (machine_of old comms) c o ≡ Some (record { reply = r; outgoing = out; next = planned (machine_of old comms) plan o })
+  pub allowed : Allowed (machine_of old comms) (asks limit (machine_of old comms) c) o
+  pub staged : AnswerIsStaged new (asks limit (machine_of old comms) c) o
+  pub stages : HaveStaged new (staged_by plan o)
+  pub unstaged_is : unstaged new ≡ unstaged old
+  pub suits : Suits (unstaged new) comms None plan o
+  pub ended : ended_by new plan ≡ ended_of new c
+
+abbrev pub is_memory : TargetFault → Bool
+is_memory fault.Memory = true
+is_memory f = false

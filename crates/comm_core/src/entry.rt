@@ -1,0 +1,126 @@
+//! What a history is made of.
+ghost use Rattle.std.specs.Prelude.{◌≡◌, IfOk};
+ghost use Rattle.std.specs.Arc.{arc_value};
+ghost use Rattle.comm_core.specs.declared.entry.Entry.TheVariants.{Change};
+
+use crate::call::Call;
+use crate::manager::Ready;
+use crate::reply::Reply;
+use comm_messages::Outgoing;
+use comm_targets::{Answer, Target, TargetFault};
+use std::alloc::{AllocError, Global};
+use std::marker::Model;
+use std::sync::Arc;
+
+/// What goes out, in its order.
+#[derive(Drop)]
+pub struct Outgoings {
+    all: Vec<Outgoing>,
+}
+
+impl Model for Outgoings {
+    ghost use Rattle.std.specs.Prelude.{List};
+    ghost use Rattle.std.specs.Coded.{coded_list};
+    ghost use Rattle.comm_messages.specs.declared.outgoing.Outgoing.{Outgoing};
+    ghost use Rattle.comm_messages.specs.contracts.outgoing.Outgoing as outgoing;
+
+    ghost Value = { List Outgoing };
+
+    ghost coded = { coded_list outgoing.the_row.coded };
+
+    ghost view = { λ o. o.all.items };
+}
+
+/// An entry of a history.
+#[derive(Drop)]
+pub enum Entry {
+    /// The call of a client, by its number among that client's calls, from 1, with what a target gave where one was asked, the
+    /// reply, and what went out.
+    Change {
+        client: u8,
+        number: u64,
+        call: Call,
+        outcome: Option<Result<Answer, TargetFault>>,
+        reply: Reply,
+        outgoing: Outgoings,
+    },
+    /// The end closes a history.
+    End,
+}
+
+impl Outgoings {
+    /// These messages, which are moved in.
+    pub fn new(all: Vec<Outgoing>) -> Outgoings
+        ensures { result ≡ all.items }
+    {
+        Outgoings { all }
+    }
+
+    /// The same messages, shared.
+    pub fn copy_of(alloc: Global, messages: &[Outgoing]) -> Result<Outgoings, AllocError>
+        ensures { IfOk result (λ o. o ≡ messages.now) }
+    {
+        let mut all = Vec::with_capacity(alloc, messages.len())?;
+        for message in messages {
+            all.push(message.copy(alloc)?)?;
+        }
+        Ok(Outgoings { all })
+    }
+
+    pub fn as_slice(&self) -> &[Outgoing]
+        ensures { result.now ≡ self.now }
+    {
+        self.all.as_slice()
+    }
+
+    /// The messages, which are moved out.
+    pub fn into_vec(self) -> Vec<Outgoing>
+        ensures { result.items ≡ self }
+    {
+        let Outgoings { all } = self;
+        all
+    }
+}
+
+/// What a target gave, shared.
+pub fn outcome_copy(
+    alloc: Global,
+    outcome: &Option<Result<Answer, TargetFault>>,
+) -> Result<Option<Result<Answer, TargetFault>>, AllocError>
+    ensures { IfOk result (λ o. o ≡ outcome.now) }
+{
+    match outcome {
+        Some(Ok(answer)) => Ok(Some(Ok(answer.copy(alloc)?))),
+        Some(Err(fault)) => Ok(Some(Err(*fault))),
+        None => Ok(None),
+    }
+}
+
+impl<T: Target> Ready<T> {
+    /// The entry of this change in a history: who asks for it, by the client and the call's number among that client's calls, the
+    /// very call, what the target gave, the reply and what goes out. What these carry is shared. An error says that memory ran out.
+    pub fn entry(
+        &self,
+        alloc: Global,
+        client: u8,
+        number: u64,
+    ) -> Result<Arc<Entry, Global>, AllocError>
+        ensures { IfOk result (λ e. arc_value e ≡ Change client number self.now.call self.now.outcome self.now.reply self.now.outgoing) }
+    {
+        let call = self.call.copy(alloc)?;
+        let outcome = outcome_copy(alloc, &self.begun.outcome)?;
+        let reply = self.begun.reply.copy(alloc)?;
+        let outgoing = Outgoings::copy_of(alloc, &self.begun.outgoing)?;
+        Ok(Arc::new(
+            alloc,
+            Entry::Change {
+                client,
+                number,
+                call,
+                outcome,
+                reply,
+                outgoing,
+            },
+        )?)
+    }
+}

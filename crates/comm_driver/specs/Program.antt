@@ -1,0 +1,28 @@
+-- The program: what it plays within, what it has in stock, and its exit status.
+use Rattle.std.specs.Prelude.{ℕ, List, [], ◌∷◌, Result, Ok, Err, ⊤}
+use Rattle.comm_targets.specs.declared.kind.Kind.{Kind}
+use Rattle.comm_targets.specs.declared.kind.Kind.TheVariants.{Echo, Counter, Widget}
+use Rattle.comm_core.specs.declared.limits.Limits.{Limits}
+use Rattle.comm_core.specs.Machine.{Registered}
+use Rattle.comm_script.specs.declared.fault.RunFault.{RunFault}
+use Rattle.comm_script.specs.declared.fault.RunFault.TheVariants.{Read, Write, Memory, BadLimits}
+
+abbrev pub program_limits : Limits
+program_limits = record { clients = 4; comms = 4096; history = 1000000; outbox = 64 }
+
+-- a target that no message has come to
+abbrev pub new_target : Kind → Registered
+new_target kind = record { kind = kind; notes = 0 }
+
+-- two targets of each kind
+abbrev pub program_stock : List Registered
+program_stock =
+    new_target Echo ∷ new_target Echo ∷ new_target Counter ∷ new_target Counter ∷ new_target Widget ∷ new_target Widget ∷ []
+
+-- 1: the script couldn't be read, or the answers couldn't be written; 2: there was no memory
+abbrev pub status_of : Result ⊤ RunFault → ℕ
+status_of (Ok done) = 0
+status_of (Err Read) = 1
+status_of (Err Write) = 1
+status_of (Err Memory) = 2
+status_of (Err BadLimits) = 2

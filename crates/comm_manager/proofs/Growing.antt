@@ -1,0 +1,158 @@
+-- One entry more: the history stays legal, the totals are those of its clients, and the tables rest after it.
+use Rattle.std.proofs.Common.{◌≡◌, ℕ, zero, suc, ◌+◌, ◌<◌, ◌≤◌, ◌==◌, Bool, true, false, cond, List, [], ◌∷◌, ◌++◌, length, Option, None, Some, slice_index, slice_set, refl, ap, sym, subst, ◌∙◌, arith, append_assoc, length-append}
+use Rattle.std.specs.List.{filter, count_by}
+use Rattle.std.proofs.lemmas.Bool.Decides.{nat_tests}
+use Rattle.std.proofs.lemmas.List.Elements.{filter-append}
+use Rattle.comm_messages.specs.declared.outgoing.Outgoing.{Outgoing}
+use Rattle.comm_core.specs.Machine.{Machine}
+use Rattle.comm_core.specs.Step.{Outcome, Stepped, Allowed, asks, step}
+use Rattle.comm_core.specs.History.{Follows, IsLegal, applied, has_end, is_of, mine, next_of, replay}
+use Rattle.comm_core.specs.Ready.{CoreValue, Readied, IsReady, machine}
+use Rattle.comm_core.specs.declared.call.Call.{Call}
+use Rattle.comm_core.specs.declared.entry.Entry.{Entry}
+use Rattle.comm_core.specs.declared.entry.Entry.TheVariants.{Change, End}
+use Rattle.comm_core.specs.declared.limits.Limits.{Limits}
+use Rattle.comm_core.specs.declared.reply.Reply.{Reply}
+use Rattle.comm_manager.specs.Kept.{IsKept, Rests, counts}
+
+-- ---- the entries of a client
+
+length_either_le : (b : Bool) (x : Entry) (ys es : List Entry) → length ys ≤ length es → length (cond b (x ∷ ys) ys) ≤ length (x ∷ es)
+length_either_le true x ys es h = omega arith
+length_either_le false x ys es h = omega arith
+
+length_filter_le : (p : Entry → Bool) (es : List Entry) → length (filter p es) ≤ length es
+length_filter_le p [] = omega arith
+length_filter_le p (x ∷ es) =
+    let h = length_filter_le p es in
+    length_either_le (p x) x (filter p es) es h
+
+pub mine_le : (es : List Entry) (c : ℕ) → length (mine es c) ≤ length es
+mine_le es c = length_filter_le (is_of c) es
+
+mine-snoc : (es : List Entry) (e : Entry) (c : ℕ) → length (mine (es ++ e ∷ []) c) ≡ length (mine es c) + length (cond (is_of c e) (e ∷ []) [])
+mine-snoc es e c = ap length (filter-append (is_of c) es (e ∷ [])) ∙ length-append (mine es c) (cond (is_of c e) (e ∷ []) [])
+
+pub known : (es : List Entry) (c n : ℕ) → c < 4 → slice_index (counts es) c ≡ n → length (mine es c) ≡ n
+known es zero n low at = at
+known es (suc zero) n low at = at
+known es (suc (suc zero)) n low at = at
+known es (suc (suc (suc zero))) n low at = at
+known es (suc (suc (suc (suc c)))) n low at = absurd (omega arith)
+
+counts_more : (es : List Entry) (c n : ℕ) (k : Call) (o : Option Outcome) (r : Reply) (out : List Outgoing) → c < 4 → length (mine es c) ≡ n
+    → slice_set (counts es) c (n + 1) ≡ counts (es ++ Change c (n + 1) k o r out ∷ [])
+counts_more es zero n k o r out low at =
+    let e = Change 0 (n + 1) k o r out in
+    let a : n + 1 ≡ length (mine (es ++ e ∷ []) 0) = omega (arith, mine-snoc es e 0) in
+    let b : length (mine es 1) ≡ length (mine (es ++ e ∷ []) 1) = omega (arith, mine-snoc es e 1) in
+    let d : length (mine es 2) ≡ length (mine (es ++ e ∷ []) 2) = omega (arith, mine-snoc es e 2) in
+    let f : length (mine es 3) ≡ length (mine (es ++ e ∷ []) 3) = omega (arith, mine-snoc es e 3) in
+    cc
+counts_more es (suc zero) n k o r out low at =
+    let e = Change 1 (n + 1) k o r out in
+    let a : length (mine es 0) ≡ length (mine (es ++ e ∷ []) 0) = omega (arith, mine-snoc es e 0) in
+    let b : n + 1 ≡ length (mine (es ++ e ∷ []) 1) = omega (arith, mine-snoc es e 1) in
+    let d : length (mine es 2) ≡ length (mine (es ++ e ∷ []) 2) = omega (arith, mine-snoc es e 2) in
+    let f : length (mine es 3) ≡ length (mine (es ++ e ∷ []) 3) = omega (arith, mine-snoc es e 3) in
+    cc
+counts_more es (suc (suc zero)) n k o r out low at =
+    let e = Change 2 (n + 1) k o r out in
+    let a : length (mine es 0) ≡ length (mine (es ++ e ∷ []) 0) = omega (arith, mine-snoc es e 0) in
+    let b : length (mine es 1) ≡ length (mine (es ++ e ∷ []) 1) = omega (arith, mine-snoc es e 1) in
+    let d : n + 1 ≡ length (mine (es ++ e ∷ []) 2) = omega (arith, mine-snoc es e 2) in
+    let f : length (mine es 3) ≡ length (mine (es ++ e ∷ []) 3) = omega (arith, mine-snoc es e 3) in
+    cc
+counts_more es (suc (suc (suc zero))) n k o r out low at =
+    let e = Change 3 (n + 1) k o r out in
+    let a : length (mine es 0) ≡ length (mine (es ++ e ∷ []) 0) = omega (arith, mine-snoc es e 0) in
+    let b : length (mine es 1) ≡ length (mine (es ++ e ∷ []) 1) = omega (arith, mine-snoc es e 1) in
+    let d : length (mine es 2) ≡ length (mine (es ++ e ∷ []) 2) = omega (arith, mine-snoc es e 2) in
+    let f : n + 1 ≡ length (mine (es ++ e ∷ []) 3) = omega (arith, mine-snoc es e 3) in
+    cc
+counts_more es (suc (suc (suc (suc c)))) n k o r out low at = absurd (omega arith)
+
+-- ---- an end
+
+has_end-snoc : (es : List Entry) (c n : ℕ) (k : Call) (o : Option Outcome) (r : Reply) (out : List Outgoing) → has_end es ≡ false → has_end (es ++ Change c n k o r out ∷ []) ≡ false
+has_end-snoc [] c n k o r out h = refl
+has_end-snoc (End ∷ es) c n k o r out h = h
+has_end-snoc (Change c1 n1 k1 o1 r1 out1 ∷ es) c n k o r out h = has_end-snoc es c n k o r out h
+
+-- ---- what is kept of a client
+
+pub count_is : (limits : Limits) (h : List Entry) (core : CoreValue) (books : List ℕ) (c n : ℕ) → IsKept limits h core books → c < 4 → slice_index books c ≡ n → length (mine h c) ≡ n
+count_is limits h core books c n kept low at = known h c n low (subst (λ (l : List ℕ). slice_index l c ≡ n) kept.totals_are at)
+
+pub small : (limits : Limits) (h : List Entry) (core : CoreValue) (books : List ℕ) (c n : ℕ) → IsKept limits h core books → c < 4 → slice_index books c ≡ n → n ≤ 4294967295
+small limits h core books c n kept low at =
+    let a = count_is limits h core books c n kept low at in
+    let b = mine_le h c in
+    let d = kept.few in
+    let e = kept.allowed.5 in
+    omega arith
+
+-- ---- one change more
+
+-- the laws of legal histories, and of replays
+abbrev pub Grows : Type 0
+Grows = (clients comms : ℕ) (es : List Entry) (e : Entry) → IsLegal clients comms es → Follows clients comms es e → IsLegal clients comms (es ++ e ∷ [])
+
+abbrev pub Replays : Type 0
+Replays = (comms : ℕ) (es : List Entry) (e : Entry) → replay comms (es ++ e ∷ []) ≡ applied comms (replay comms es) e
+
+module _ (limits : Limits) (h : List Entry) (core begun core' : CoreValue) (books : List ℕ) (c n : ℕ) (d : Readied)
+    (kept : IsKept limits h core books) (below : c < limits.clients) (low : c < 4) (at : slice_index books c ≡ n)
+    (ready : IsReady begun d) (same : machine begun ≡ machine core) (limit_is : begun.limit ≡ core.limit)
+    (done : step begun.limit (machine begun) d.call d.outcome ≡ Some (record { reply = d.reply; outgoing = d.outgoing; next = machine core' })) where
+  abbrev pub entry : Entry
+  entry = Change c (n + 1) d.call d.outcome d.reply d.outgoing
+
+  number_is : length (mine h c) ≡ n
+  number_is = count_is limits h core books c n kept low at
+
+  here : machine begun ≡ replay limits.comms h
+  here = same ∙ kept.rests.machine_is
+
+  within : begun.limit ≡ limits.comms
+  within = limit_is ∙ kept.rests.limit_is
+
+  -- the step at the end of the history
+  stepped : step limits.comms (replay limits.comms h) d.call d.outcome ≡ Some (record { reply = d.reply; outgoing = d.outgoing; next = machine core' })
+  stepped =
+      subst (λ (m : Machine). step limits.comms m d.call d.outcome ≡ Some (record { reply = d.reply; outgoing = d.outgoing; next = machine core' })) here
+      (subst (λ (l : ℕ). step l (machine begun) d.call d.outcome ≡ Some (record { reply = d.reply; outgoing = d.outgoing; next = machine core' })) within done)
+
+  after : applied limits.comms (replay limits.comms h) entry ≡ machine core'
+  after = ap (next_of (replay limits.comms h)) stepped
+
+  allowed_here : Allowed (replay limits.comms h) (asks limits.comms (replay limits.comms h) d.call) d.outcome
+  allowed_here =
+      subst (λ (m : Machine). Allowed m (asks limits.comms m d.call) d.outcome) here
+      (subst (λ (l : ℕ). Allowed (machine begun) (asks l (machine begun) d.call) d.outcome) within ready.allowed)
+
+  follows : Follows limits.clients limits.comms h entry
+  follows = (
+    kept.going,
+    below,
+    ap (λ k. k + 1) (sym number_is),
+    allowed_here,
+    (record { reply = d.reply; outgoing = d.outgoing; next = machine core' }, stepped, refl, refl),
+  )
+
+  pub kept_more : (h' : List Entry) (books' : List ℕ) → Grows → Replays → length h < limits.history → core'.settled ≡ true → core'.limit ≡ begun.limit
+      → h' ≡ h ++ entry ∷ [] → books' ≡ slice_set books c (n + 1) → IsKept limits h' core' books'
+  kept_more h' books' grows replays room settled limit' his bis =
+      let long : length h' ≡ length h + 1 = ap length his ∙ length-append h (entry ∷ []) in
+      record {
+        legal = subst (λ (l : List Entry). IsLegal limits.clients limits.comms l) (sym his) (grows limits.clients limits.comms h entry kept.legal follows);
+        going = subst (λ (l : List Entry). has_end l ≡ false) (sym his) (has_end-snoc h c (n + 1) d.call d.outcome d.reply d.outgoing kept.going);
+        rests = record {
+          settled = settled;
+          limit_is = limit' ∙ within;
+          machine_is = sym after ∙ sym (replays limits.comms h entry) ∙ ap (replay limits.comms) (sym his);
+        };
+        totals_are = bis ∙ ap (λ (l : List ℕ). slice_set l c (n + 1)) kept.totals_are ∙ counts_more h c n d.call d.outcome d.reply d.outgoing low number_is ∙ ap counts (sym his);
+        few = omega arith;
+        allowed = kept.allowed;
+      }

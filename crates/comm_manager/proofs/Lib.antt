@@ -1,0 +1,5 @@
+pub mod Crossing
+pub mod Entries
+pub mod Gathering
+pub mod Growing
+pub mod Here

@@ -1,0 +1,26 @@
+-- What the lock keeps.
+use Rattle.std.specs.Prelude.{ℕ, ◌≡◌, ◌≤◌, true, false, List, [], ◌∷◌, length}
+use Rattle.comm_core.specs.Limits.{AreAllowed}
+use Rattle.comm_core.specs.History.{IsLegal, has_end, mine, replay}
+use Rattle.comm_core.specs.Ready.{CoreValue, machine}
+use Rattle.comm_core.specs.declared.entry.Entry.{Entry}
+use Rattle.comm_core.specs.declared.limits.Limits.{Limits}
+
+-- how many entries of each client there are, of the clients 0 to 3
+abbrev pub counts : List Entry → List ℕ
+counts history = length (mine history 0) ∷ length (mine history 1) ∷ length (mine history 2) ∷ length (mine history 3) ∷ []
+
+-- No change stands ready, so the targets mean the machine and nothing is staged (`Core::settled`), and the machine is that after the history.
+pub record Rests (limit : ℕ) (history : List Entry) (core : CoreValue) : Type 0 where
+  pub settled : core.settled ≡ true
+  pub limit_is : core.limit ≡ limit
+  pub machine_is : machine core ≡ replay limit history
+
+-- The history is legal and not ended, within the limits; the tables rest after it; the totals are those of its clients.
+pub record IsKept (limits : Limits) (history : List Entry) (core : CoreValue) (totals : List ℕ) : Type 0 where
+  pub legal : IsLegal limits.clients limits.comms history
+  pub going : has_end history ≡ false
+  pub rests : Rests limits.comms history core
+  pub totals_are : totals ≡ counts history
+  pub few : length history ≤ limits.history
+  pub allowed : AreAllowed limits

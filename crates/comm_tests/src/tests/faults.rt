@@ -1,0 +1,138 @@
+//! What each fault says.
+use comm_core::NewFault;
+use comm_messages::{Field, MessageFault};
+use comm_targets::TargetFault;
+use comm_value::ValueFault;
+use std::alloc::Global;
+use std::fmt::Display;
+use std::process::Abort;
+use std::test::Fail;
+
+const VALUES: [(ValueFault, &str); 6] = [
+    (
+        ValueFault::NotWhole,
+        "a number is not a whole number from -9223372036854775808 to 18446744073709551615",
+    ),
+    (
+        ValueFault::BadPath(0),
+        "path 0 of the buffer paths can't be read or has no place in the state",
+    ),
+    (
+        ValueFault::BadPath(18_446_744_073_709_551_615),
+        "path 18446744073709551615 of the buffer paths can't be read or has no place in the state",
+    ),
+    (
+        ValueFault::BufferMissing(0),
+        "there is no buffer for path 0 of the buffer paths",
+    ),
+    (
+        ValueFault::BufferMissing(12),
+        "there is no buffer for path 12 of the buffer paths",
+    ),
+    (ValueFault::Memory, "out of memory"),
+];
+
+const MESSAGES: [(MessageFault, &str); 14] = [
+    (MessageFault::NotJson, "the line is not a JSON object"),
+    (MessageFault::NoType, "`header` has no text `msg_type`"),
+    (
+        MessageFault::UnknownType,
+        "`msg_type` names no message of a comm",
+    ),
+    (
+        MessageFault::BadContent(Field::Content),
+        "`content` is not an object",
+    ),
+    (
+        MessageFault::BadContent(Field::CommId),
+        "`comm_id` in `content` is not a text",
+    ),
+    (
+        MessageFault::BadContent(Field::TargetName),
+        "`target_name` in `content` is not a text",
+    ),
+    (
+        MessageFault::BadContent(Field::Body),
+        "`data` in `content` is not an object",
+    ),
+    (
+        MessageFault::BadContent(Field::Metadata),
+        "`metadata` is not an object",
+    ),
+    (
+        MessageFault::BadContent(Field::Buffers),
+        "`buffers` is not a list",
+    ),
+    (
+        MessageFault::NotWhole,
+        "a number in `data` is not a whole number from -2^63 to 2^64 - 1",
+    ),
+    (
+        MessageFault::BadBuffer(0),
+        "buffer 0 is not a text in base64",
+    ),
+    (
+        MessageFault::BadBuffer(7),
+        "buffer 7 is not a text in base64",
+    ),
+    (
+        MessageFault::BadClient,
+        "`client` is not a whole number below the number of clients",
+    ),
+    (MessageFault::Memory, "memory ran out"),
+];
+
+const TARGETS: [(TargetFault, &str); 12] = [
+    (TargetFault::WrongVersion, "the metadata's version isn't 2"),
+    (TargetFault::NoState, "the data has no state"),
+    (TargetFault::BadState, "the state isn't a dict"),
+    (
+        TargetFault::BadPath(0),
+        "buffer path 0 can't be read or placed",
+    ),
+    (
+        TargetFault::BadPath(3),
+        "buffer path 3 can't be read or placed",
+    ),
+    (
+        TargetFault::BufferMissing(0),
+        "there is no buffer for buffer path 0",
+    ),
+    (
+        TargetFault::BufferMissing(5),
+        "there is no buffer for buffer path 5",
+    ),
+    (TargetFault::NoMethod, "the data has no method"),
+    (TargetFault::UnknownMethod, "the method isn't known"),
+    (TargetFault::Other(0), "the target refused with code 0"),
+    (
+        TargetFault::Other(4_294_967_295),
+        "the target refused with code 4294967295",
+    ),
+    (TargetFault::Memory, "memory ran out"),
+];
+
+const NEW: [(NewFault, &str); 2] = [
+    (
+        NewFault::BadLimits,
+        "a limit is out of its bounds: clients 1 to 4, comms 1 to 4096, history 1 to 4294967295, outbox 1 to 65536",
+    ),
+    (NewFault::Memory, "memory ran out"),
+];
+
+fn say<F: Display>(rt: &impl Abort, alloc: Global, rows: &[(F, &str)]) -> Result<(), Fail> {
+    for (fault, want) in rows {
+        let text = format!(in alloc; "{fault}")?;
+        assert_eq!(rt; text.as_str(), *want);
+    }
+    Ok(())
+}
+
+#[test]
+fn each_fault_says_what_was_wrong_and_where(rt: HostRuntime) -> Result<(), Fail> {
+    let alloc = rt.alloc();
+    say(&rt, alloc, &VALUES)?;
+    say(&rt, alloc, &MESSAGES)?;
+    say(&rt, alloc, &TARGETS)?;
+    say(&rt, alloc, &NEW)
+}

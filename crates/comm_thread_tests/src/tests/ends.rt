@@ -1,0 +1,239 @@
+//! How a manager ends: a shutdown that lacks a client, one that is tried again, and one that gives nothing back.
+ghost use Rattle.std.specs.Prelude.{◌≡◌, [], None};
+ghost use Rattle.comm_targets.specs.Meaning.{IsIdle};
+
+use crate::tests::named::{Play, named};
+use crate::tests::words::{Told, Wrong, answer, empty, holds, limits, shut};
+use comm_manager::{Client, Manager, Naming, ShutdownRefused};
+use comm_targets::{Answer, Echo, Event, Kind, Target, TargetFault};
+use comm_value::{Dict, Text};
+use std::alloc::Global;
+use std::sync::atomic::{AtomicU64, Ordering};
+use std::sync::{Arc, Wait};
+use std::test::*;
+use std::thread::Threads;
+
+// A shutdown without this client is refused, and one with it isn't.
+fn shut_with<J: Naming, T: Target, R: Wait>(
+    rt: &R,
+    manager: Manager<J, T>,
+    clients: Vec<Client<J>>,
+    other: Client<J>,
+) -> Result<(), Wrong> {
+    match manager.shutdown(rt, clients) {
+        Ok(_) => Err(Wrong),
+        Err(refused) => {
+            let ShutdownRefused {
+                cause: _cause,
+                manager,
+                mut clients,
+            } = refused;
+            let is_whole = clients.push(other).is_ok() && clients.len() == 2;
+            let farewell = shut(rt, manager, clients)?;
+            holds(is_whole && farewell.history.is_empty() && farewell.untaken.is_empty())
+        }
+    }
+}
+
+/// A manager of two clients: a shutdown with one of them, and then with both.
+pub fn shut_twice<J: Naming, T: Target, R: Wait>(
+    rt: &R,
+    manager: Manager<J, T>,
+    clients: Vec<Client<J>>,
+) -> Result<(), Wrong> {
+    let mut clients = clients;
+    match clients.pop() {
+        Some(last) => shut_with(rt, manager, clients, last),
+        None => {
+            manager.discard(rt);
+            Err(Wrong)
+        }
+    }
+}
+
+#[test]
+fn a_client_is_missing(rt: HostRuntime) -> Result<(), Fail> {
+    let alloc = rt.alloc();
+    let target = Echo::new(alloc);
+    let other = Echo::new(alloc);
+    named(
+        &rt,
+        alloc,
+        limits(2, 10, 10),
+        Play::ShutTwice,
+        target,
+        other,
+    )
+    .map_err(|_| Fail::new("a client is missing"))
+}
+
+/// An echo that counts its ends: 1 for each where no comm is open, else 100.
+#[derive(Drop)]
+struct Counted {
+    echo: Echo,
+    ends: Arc<AtomicU64>,
+}
+
+impl Counted {
+    fn new(alloc: Global, ends: Arc<AtomicU64>) -> Counted
+        ensures { ⟦<Counted as Target>⟧.means result ≡ record { kind = Kind.Echo; notes = 0; ids = []; staged = None } }
+    {
+        Counted {
+            echo: Echo::new(alloc),
+            ends,
+        }
+    }
+}
+
+impl Target for Counted {
+    ghost means = { λ c. ⟦<Echo as Target>⟧.means c.echo };
+
+    fn kind(&self) -> Kind {
+        self.echo.kind()
+    }
+
+    fn notes(&self) -> u64 {
+        self.echo.notes()
+    }
+
+    fn idle(&self) -> bool {
+        self.echo.idle()
+    }
+
+    fn prepare(&mut self, event: &Event, now: Option<&Dict>) -> Result<Answer, TargetFault> {
+        self.echo.prepare(event, now)
+    }
+
+    fn commit(&mut self) {
+        self.echo.commit();
+    }
+
+    fn abandon(&mut self) {
+        self.echo.abandon();
+    }
+
+    fn close(&mut self, id: &str) {
+        self.echo.close(id);
+    }
+
+    fn stop(&mut self) {
+        let ended = if self.echo.idle() { 1 } else { 100 };
+        let _before = self.ends.fetch_add(ended, Ordering::SeqCst);
+    }
+}
+
+/// How a manager ends, in which a target has an open comm.
+#[derive(Clone, Copy)]
+pub enum How {
+    Unregister,
+    Shutdown,
+    Discard,
+}
+
+// Registers the target and opens a comm.
+fn begun<J: Naming, T: Target, R: Wait>(
+    rt: &R,
+    alloc: Global,
+    manager: &Manager<J, T>,
+    client: &mut Client<J>,
+    target: T,
+) -> Result<(), Wrong>
+    requires { IsIdle (T.means target) }
+{
+    let name = Text::copy_of(alloc, "t")?;
+    let is_registered = client.register(rt, manager, name, target).is_ok();
+    holds(is_registered)?;
+    let id = Text::copy_of(alloc, "a")?;
+    let name = Text::copy_of(alloc, "t")?;
+    let opened = client.open_comm(rt, manager, id, name, None, empty(alloc));
+    holds(answer(opened) == Told::Opened(2))
+}
+
+fn unregistered<J: Naming, T: Target, R: Wait>(
+    rt: &R,
+    alloc: Global,
+    manager: &Manager<J, T>,
+    client: &mut Client<J>,
+) -> Result<(), Wrong> {
+    let name = Text::copy_of(alloc, "t")?;
+    holds(answer(client.unregister(rt, manager, name)) == Told::Unregistered(3))
+}
+
+// The manager ends as it is told.
+fn ended<J: Naming, T: Target, R: Wait>(
+    rt: &R,
+    how: How,
+    manager: Manager<J, T>,
+    clients: Vec<Client<J>>,
+) -> Result<(), Wrong> {
+    match how {
+        How::Shutdown => {
+            let farewell = shut(rt, manager, clients)?;
+            holds(farewell.history.len() == 2 && farewell.untaken.len() == 2)
+        }
+        How::Unregister | How::Discard => {
+            manager.discard(rt);
+            Ok(())
+        }
+    }
+}
+
+/// A manager ends in which a target has an open comm.
+pub fn ending<J: Naming, T: Target, R: Wait>(
+    rt: &R,
+    alloc: Global,
+    manager: Manager<J, T>,
+    clients: Vec<Client<J>>,
+    how: How,
+    target: T,
+) -> Result<(), Wrong>
+    requires { IsIdle (T.means target) }
+{
+    let mut clients = clients;
+    let Some(mut client) = clients.pop() else {
+        manager.discard(rt);
+        return Err(Wrong);
+    };
+    let done = begun(rt, alloc, &manager, &mut client, target);
+    let gone = match how {
+        How::Unregister => unregistered(rt, alloc, &manager, &mut client),
+        How::Shutdown | How::Discard => Ok(()),
+    };
+    let is_back = clients.push(client).is_ok();
+    let end = ended(rt, how, manager, clients);
+    done?;
+    gone?;
+    end?;
+    holds(is_back)
+}
+
+// The target ends once, when no comm of it is open.
+fn ends_once<R: Threads + Wait + Sync>(rt: &R, alloc: Global, how: How) -> Result<(), Wrong> {
+    let ends = Arc::new(alloc, AtomicU64::new(0))?;
+    let target = Counted::new(alloc, Arc::try_clone(&ends)?);
+    let other = Counted::new(alloc, Arc::try_clone(&ends)?);
+    named(
+        rt,
+        alloc,
+        limits(1, 10, 10),
+        Play::Ending(how),
+        target,
+        other,
+    )?;
+    holds(ends.load(Ordering::SeqCst) == 1)
+}
+
+#[test]
+fn a_target_ends_at_an_unregister(rt: HostRuntime) -> Result<(), Fail> {
+    ends_once(&rt, rt.alloc(), How::Unregister).map_err(|_| Fail::new("at an unregister"))
+}
+
+#[test]
+fn a_target_ends_at_a_shutdown(rt: HostRuntime) -> Result<(), Fail> {
+    ends_once(&rt, rt.alloc(), How::Shutdown).map_err(|_| Fail::new("at a shutdown"))
+}
+
+#[test]
+fn a_target_ends_at_a_discard(rt: HostRuntime) -> Result<(), Fail> {
+    ends_once(&rt, rt.alloc(), How::Discard).map_err(|_| Fail::new("at a discard"))
+}

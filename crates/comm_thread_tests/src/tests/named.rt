@@ -1,0 +1,69 @@
+//! Each test opens a manager, and plays one of these with it. One call picks the manager's name.
+ghost use Rattle.std.specs.Prelude.{◌≡◌};
+ghost use Rattle.comm_targets.specs.Meaning.{IsIdle};
+ghost use Rattle.comm_manager.specs.Names.{Named};
+
+use crate::tests::calls::toured;
+use crate::tests::ends::{How, ending, shut_twice};
+use crate::tests::limits::{Limit, limited};
+use crate::tests::threads::threaded;
+use crate::tests::words::Wrong;
+use comm_core::Limits;
+use comm_manager::{Manager, Naming, Opening};
+use comm_targets::Target;
+use std::alloc::Global;
+use std::marker::Brand;
+use std::sync::Wait;
+use std::thread::Threads;
+
+/// What is played.
+#[derive(Clone, Copy)]
+pub enum Play {
+    Threads,
+    Limit(Limit),
+    ShutTwice,
+    Ending(How),
+    Tour,
+}
+
+fn opened<J: Naming + Send + Sync, T: Target, R: Threads + Wait + Sync>(
+    rt: &R,
+    alloc: Global,
+    opening: Opening,
+    play: Play,
+    target: T,
+    other: T,
+) -> Result<(), Wrong>
+    requires named { Named opening J.ledgers J.limits }
+    requires target { IsIdle (T.means target) }
+    requires other { IsIdle (T.means other) }
+{
+    let Ok((manager, clients)) = Manager::<J, T>::open(alloc, opening) else {
+        return Err(Wrong);
+    };
+    match play {
+        Play::Threads => threaded(rt, alloc, manager, clients, target),
+        Play::Limit(limit) => limited(rt, alloc, manager, clients, limit),
+        Play::ShutTwice => shut_twice(rt, manager, clients),
+        Play::Ending(how) => ending(rt, alloc, manager, clients, how, target),
+        Play::Tour => toured(rt, alloc, manager, clients, target, other),
+    }
+}
+
+/// Plays it with a manager of these limits, and two targets.
+pub fn named<T: Target, R: Threads + Wait + Sync>(
+    rt: &R,
+    alloc: Global,
+    limits: Limits,
+    play: Play,
+    target: T,
+    other: T,
+) -> Result<(), Wrong>
+    requires target { IsIdle (T.means target) }
+    requires other { IsIdle (T.means other) }
+{
+    match Opening::new(limits) {
+        Ok(opening) => opened::<Brand, T, R>(rt, alloc, opening, play, target, other),
+        Err(_) => Err(Wrong),
+    }
+}

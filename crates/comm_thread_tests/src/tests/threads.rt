@@ -1,0 +1,281 @@
+//! Two threads and four over one manager: each answered change stands once in the one history.
+ghost use Rattle.comm_targets.specs.Meaning.{IsIdle};
+
+use crate::tests::named::{Play, named};
+use crate::tests::words::{Told, Wrong, answer, counted, empty, holds, limits, shut, whose};
+use comm_core::Entry;
+use comm_manager::{Client, Farewell, Manager, Naming};
+use comm_targets::{Counter, Target};
+use comm_value::Text;
+use std::alloc::Global;
+use std::sync::{Arc, Wait};
+use std::test::*;
+use std::thread::{Threads, join};
+
+// Opens a comm, sends a message where that is wanted, and closes the comm.
+fn visit<J: Naming, T: Target, R: Wait>(
+    rt: &R,
+    alloc: Global,
+    manager: &Manager<J, T>,
+    client: &mut Client<J>,
+    id: &str,
+    speaks: bool,
+) -> Result<(), Wrong> {
+    let name = Text::copy_of(alloc, "n")?;
+    let key = Text::copy_of(alloc, id)?;
+    let opened = client.open_comm(rt, manager, key, name, None, empty(alloc));
+    holds(matches!(answer(opened), Told::Opened(_)))?;
+    if speaks {
+        let key = Text::copy_of(alloc, id)?;
+        let said = client.message(rt, manager, key, empty(alloc));
+        holds(matches!(answer(said), Told::Delivered(_)))?;
+    }
+    let key = Text::copy_of(alloc, id)?;
+    let closed = client.close_comm(rt, manager, key);
+    holds(matches!(answer(closed), Told::Closed(_)))
+}
+
+// A client in a thread of its own: 50 visits. It comes back, with whether all went well.
+fn worked<J: Naming, T: Target, R: Wait>(
+    rt: &R,
+    alloc: Global,
+    manager: &Manager<J, T>,
+    mut client: Client<J>,
+    id: &str,
+    speaks: bool,
+) -> (Client<J>, bool) {
+    for _ in 0..50u8 {
+        if visit(rt, alloc, manager, &mut client, id, speaks).is_err() {
+            return (client, false);
+        }
+    }
+    (client, true)
+}
+
+fn registered<J: Naming, T: Target, R: Wait>(
+    rt: &R,
+    alloc: Global,
+    manager: &Manager<J, T>,
+    client: &mut Client<J>,
+    target: T,
+) -> Result<(), Wrong>
+    requires { IsIdle (T.means target) }
+{
+    let name = Text::copy_of(alloc, "n")?;
+    match client.register(rt, manager, name, target) {
+        Ok((answered, back)) => holds(answered.number == 1 && back.is_none()),
+        Err(_) => Err(Wrong),
+    }
+}
+
+// Two clients work in threads of their own.
+fn both<J: Naming + Send + Sync, T: Target, R: Threads + Wait + Sync>(
+    rt: &R,
+    alloc: Global,
+    manager: &Manager<J, T>,
+    clients: (Client<J>, Client<J>),
+    ids: (&'static str, &'static str),
+    speaks: bool,
+) -> ((Client<J>, bool), (Client<J>, bool)) {
+    let (zero, one) = clients;
+    let (first, second) = ids;
+    join(
+        rt,
+        move || worked(rt, alloc, manager, zero, first, speaks),
+        move || worked(rt, alloc, manager, one, second, speaks),
+    )
+}
+
+// Four clients do: two threads start two more.
+fn all_four<J: Naming + Send + Sync, T: Target, R: Threads + Wait + Sync>(
+    rt: &R,
+    alloc: Global,
+    manager: &Manager<J, T>,
+    first: (Client<J>, Client<J>),
+    second: (Client<J>, Client<J>),
+) -> (
+    ((Client<J>, bool), (Client<J>, bool)),
+    ((Client<J>, bool), (Client<J>, bool)),
+) {
+    join(
+        rt,
+        move || both(rt, alloc, manager, first, ("a", "b"), true),
+        move || both(rt, alloc, manager, second, ("c", "d"), true),
+    )
+}
+
+fn played_by_two<J: Naming + Send + Sync, T: Target, R: Threads + Wait + Sync>(
+    rt: &R,
+    alloc: Global,
+    manager: &Manager<J, T>,
+    clients: &mut Vec<Client<J>>,
+    target: T,
+) -> Result<(), Wrong>
+    requires { IsIdle (T.means target) }
+{
+    let one = clients.pop().ok_or(Wrong)?;
+    let mut zero = clients.pop().ok_or(Wrong)?;
+    let begun = registered(rt, alloc, manager, &mut zero, target);
+    let ((zero, a), (one, b)) = both(rt, alloc, manager, (zero, one), ("a", "b"), false);
+    clients.push(zero)?;
+    clients.push(one)?;
+    begun?;
+    holds(a && b)
+}
+
+fn played_by_four<J: Naming + Send + Sync, T: Target, R: Threads + Wait + Sync>(
+    rt: &R,
+    alloc: Global,
+    manager: &Manager<J, T>,
+    clients: &mut Vec<Client<J>>,
+    target: T,
+) -> Result<(), Wrong>
+    requires { IsIdle (T.means target) }
+{
+    let three = clients.pop().ok_or(Wrong)?;
+    let two = clients.pop().ok_or(Wrong)?;
+    let one = clients.pop().ok_or(Wrong)?;
+    let mut zero = clients.pop().ok_or(Wrong)?;
+    let begun = registered(rt, alloc, manager, &mut zero, target);
+    let (first, second) = all_four(rt, alloc, manager, (zero, one), (two, three));
+    let ((zero, a), (one, b)) = first;
+    let ((two, c), (three, d)) = second;
+    clients.push(zero)?;
+    clients.push(one)?;
+    clients.push(two)?;
+    clients.push(three)?;
+    begun?;
+    holds(a && b && c && d)
+}
+
+// Takes so many of the entries that nobody has taken.
+fn take<J: Naming, T: Target, R: Wait>(
+    rt: &R,
+    alloc: Global,
+    manager: &Manager<J, T>,
+    count: usize,
+) -> Result<Vec<Arc<Entry, Global>>, Wrong> {
+    let mut taken = Vec::with_capacity(alloc, count)?;
+    for _ in 0..count {
+        let entry = manager.take_next(rt).ok_or(Wrong)?;
+        taken.push(entry)?;
+    }
+    Ok(taken)
+}
+
+// The same changes, in the same order.
+fn are_same(some: &[Arc<Entry, Global>], others: &[Arc<Entry, Global>]) -> bool {
+    if some.len() != others.len() {
+        return false;
+    }
+    for i in 0..some.len() {
+        if whose(&some[i]) != whose(&others[i]) {
+            return false;
+        }
+    }
+    true
+}
+
+// How many changes of this client there are, if they are numbered from 1.
+fn count_of(history: &[Arc<Entry, Global>], client: u8) -> Option<u64> {
+    let mut count = 0u64;
+    for entry in history {
+        let (of, number) = whose(entry);
+        if of == client {
+            if number != count.saturating_add(1) {
+                return None;
+            }
+            count = number;
+        }
+    }
+    Some(count)
+}
+
+// How many messages the counter answered, if its answers count them in the order of the history.
+fn messages(history: &[Arc<Entry, Global>]) -> Option<i128> {
+    let mut count = 0i128;
+    for entry in history {
+        if let Some(next) = counted(entry) {
+            if next != count.saturating_add(1) {
+                return None;
+            }
+            count = next;
+        }
+    }
+    Some(count)
+}
+
+// 61 entries were taken, and the others weren't.
+fn all_there(
+    taken: Vec<Arc<Entry, Global>>,
+    farewell: Farewell,
+    length: usize,
+) -> Result<(), Wrong> {
+    let Farewell { history, untaken } = farewell;
+    if history.len() != length || history.len() < 61 {
+        return Err(Wrong);
+    }
+    let (first, rest) = history.split_at(61);
+    holds(are_same(&taken, first) && are_same(&untaken, rest))?;
+    let by_two = count_of(&history, 0) == Some(101)
+        && count_of(&history, 1) == Some(100)
+        && messages(&history) == Some(0);
+    let by_four = count_of(&history, 0) == Some(151)
+        && count_of(&history, 1) == Some(150)
+        && count_of(&history, 2) == Some(150)
+        && count_of(&history, 3) == Some(150)
+        && messages(&history) == Some(200);
+    holds(by_two || by_four)
+}
+
+/// Two clients work in threads of their own, or four do.
+pub fn threaded<J: Naming + Send + Sync, T: Target, R: Threads + Wait + Sync>(
+    rt: &R,
+    alloc: Global,
+    manager: Manager<J, T>,
+    clients: Vec<Client<J>>,
+    target: T,
+) -> Result<(), Wrong>
+    requires { IsIdle (T.means target) }
+{
+    let mut clients = clients;
+    let (done, length) = if clients.len() == 2 {
+        (
+            played_by_two(rt, alloc, &manager, &mut clients, target),
+            201,
+        )
+    } else {
+        (
+            played_by_four(rt, alloc, &manager, &mut clients, target),
+            601,
+        )
+    };
+    let taken = take(rt, alloc, &manager, 61);
+    let farewell = shut(rt, manager, clients);
+    done?;
+    all_there(taken?, farewell?, length)
+}
+
+// Two counters, boxed: the first is registered.
+fn played<R: Threads + Wait + Sync>(rt: &R, alloc: Global, clients: u8) -> Result<(), Wrong> {
+    let target: Box<dyn Target> = Box::new(alloc, Counter::new(alloc))?;
+    let other: Box<dyn Target> = Box::new(alloc, Counter::new(alloc))?;
+    named(
+        rt,
+        alloc,
+        limits(clients, 1_000_000, 65_536),
+        Play::Threads,
+        target,
+        other,
+    )
+}
+
+#[test]
+fn two_threads(rt: HostRuntime) -> Result<(), Fail> {
+    played(&rt, rt.alloc(), 2).map_err(|_| Fail::new("two threads"))
+}
+
+#[test]
+fn four_threads(rt: HostRuntime) -> Result<(), Fail> {
+    played(&rt, rt.alloc(), 4).map_err(|_| Fail::new("four threads"))
+}

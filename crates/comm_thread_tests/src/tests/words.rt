@@ -1,0 +1,124 @@
+//! What these tests say.
+ghost use Rattle.std.specs.Prelude.{◌≡◌, ⊤};
+
+use comm_core::{Entry, Limits, Reply, Unavailable};
+use comm_manager::{Answered, Client, Farewell, Manager, Naming, ShutdownRefused};
+use comm_messages::{Body, Outgoing};
+use comm_targets::Target;
+use comm_value::{Buffers, Dict, Val};
+use std::alloc::{AllocError, AllocFailed, Global};
+use std::sync::Wait;
+
+/// Something isn't as it should be, or memory ran out.
+#[derive(Clone, Copy, Debug)]
+pub struct Wrong;
+
+impl From<AllocError> for Wrong {
+    ghost from_gives = { λ _ _. ⊤ };
+
+    fn from(_error: AllocError) -> Wrong {
+        Wrong
+    }
+}
+
+impl<T: Drop> From<AllocFailed<T>> for Wrong {
+    ghost from_gives = { λ _ _. ⊤ };
+
+    fn from(_error: AllocFailed<T>) -> Wrong {
+        Wrong
+    }
+}
+
+pub fn holds(is: bool) -> Result<(), Wrong> {
+    if is { Ok(()) } else { Err(Wrong) }
+}
+
+pub fn limits(clients: u8, history: u64, outbox: usize) -> Limits
+    ensures { result ≡ record { clients = clients; comms = 4096; history = history; outbox = outbox } }
+{
+    Limits {
+        clients,
+        comms: 4_096,
+        history,
+        outbox,
+    }
+}
+
+/// A body with no data and no buffers.
+pub fn empty(alloc: Global) -> Body {
+    Body::new(Dict::new(), Buffers::none(alloc))
+}
+
+/// What a change answered: its number, or why it wasn't made.
+#[derive(Clone, Copy, PartialEq, Eq, Debug)]
+pub enum Told {
+    Opened(u64),
+    Launched(u64),
+    Delivered(u64),
+    Closed(u64),
+    Unregistered(u64),
+    NoComm(u64),
+    Other(u64),
+    HistoryFull(u64),
+    OutboxFull(u64),
+    Memory,
+}
+
+pub fn answer(given: Result<Answered, Unavailable<u64>>) -> Told {
+    match given {
+        Ok(answered) => match answered.reply {
+            Reply::Opened => Told::Opened(answered.number),
+            Reply::Launched => Told::Launched(answered.number),
+            Reply::Delivered(None) => Told::Delivered(answered.number),
+            Reply::Closed => Told::Closed(answered.number),
+            Reply::Unregistered(_) => Told::Unregistered(answered.number),
+            Reply::NoComm => Told::NoComm(answered.number),
+            _ => Told::Other(answered.number),
+        },
+        Err(Unavailable::HistoryFull(number)) => Told::HistoryFull(number),
+        Err(Unavailable::OutboxFull(waiting)) => Told::OutboxFull(waiting),
+        Err(Unavailable::Memory) => Told::Memory,
+    }
+}
+
+/// Whose change an entry is, and its number among that client's.
+pub fn whose(entry: &Entry) -> (u8, u64) {
+    match entry {
+        Entry::Change { client, number, .. } => (*client, *number),
+        Entry::End => (255, 0),
+    }
+}
+
+/// What a counter tells in an entry, if it does.
+pub fn counted(entry: &Entry) -> Option<i128> {
+    let Entry::Change { outgoing, .. } = entry else {
+        return None;
+    };
+    let [Outgoing::Msg { body, .. }] = outgoing.as_slice() else {
+        return None;
+    };
+    match body.content().get("count") {
+        Some(Val::Whole(count)) => Some(count.get()),
+        _ => None,
+    }
+}
+
+/// Shuts a manager down, which must not be refused.
+pub fn shut<J: Naming, T: Target, R: Wait>(
+    rt: &R,
+    manager: Manager<J, T>,
+    clients: Vec<Client<J>>,
+) -> Result<Farewell, Wrong> {
+    match manager.shutdown(rt, clients) {
+        Ok(farewell) => Ok(farewell),
+        Err(refused) => {
+            let ShutdownRefused {
+                cause: _cause,
+                manager,
+                clients: _clients,
+            } = refused;
+            manager.discard(rt);
+            Err(Wrong)
+        }
+    }
+}

@@ -1,0 +1,129 @@
+/* A heap that refuses an allocation where a test asks for it. tools/refuse/run puts it before the C library's.
+
+   A request of one of four sizes, which no heap can grant, is a word of the test (crates/comm_fakes/src/heap.rt):
+     MARK         from here on blocks are counted; granted
+     REFUSE + n   from here on requests are counted, and the one of number n (malloc, calloc or realloc) is refused, once; granted
+     TOLD         from here on no request is counted; granted if that request was refused
+     LEAKED       granted if more blocks are held than at MARK
+   At the end of the process one line goes to the descriptor REFUSE_TO: 'asked=A refused=R', A being the words REFUSE + n and R the
+   refusals. It needs no header, so that the kit's clang alone compiles it. */
+typedef unsigned long size;
+extern void *__libc_malloc(size), *__libc_calloc(size, size), *__libc_realloc(void *, size), *__libc_memalign(size, size);
+extern void __libc_free(void *);
+extern char *getenv(const char *);
+extern long write(int, const void *, size);
+extern int *__errno_location(void);
+
+static const size REFUSE = 0x5EED000100000000, TOLD = 0x5EED000200000000, LEAKED = 0x5EED000300000000, MARK = 0x5EED000400000000;
+static const int NO_MEMORY = 12, BAD_ALIGNMENT = 22;
+
+/* What a word is granted. */
+static char granted[64] __attribute__((aligned(64)));
+
+static _Atomic long refused_number, requests, held, words, refusals;
+static _Atomic int counts, was_refused;
+
+/* Whether a request is a word, and what it is answered. */
+static int is_word(size n, void **answer) {
+    switch (n & 0xFFFFFFFF00000000) {
+    case MARK:
+        held = 0;
+        *answer = granted;
+        return 1;
+    case REFUSE:
+        refused_number = n - REFUSE;
+        requests = 0;
+        was_refused = 0;
+        counts = 1;
+        words++;
+        *answer = granted;
+        return 1;
+    case TOLD:
+        counts = 0;
+        *answer = was_refused ? granted : 0;
+        return 1;
+    case LEAKED:
+        *answer = held > 0 ? granted : 0;
+        return 1;
+    }
+    return 0;
+}
+
+static int refuses(void) {
+    if (!counts || ++requests != refused_number) return 0;
+    was_refused = 1;
+    refusals++;
+    *__errno_location() = NO_MEMORY;
+    return 1;
+}
+
+static void *counted(void *block) {
+    if (block) held++;
+    return block;
+}
+
+void *malloc(size n) {
+    void *answer;
+    if (is_word(n, &answer)) return answer;
+    return refuses() ? 0 : counted(__libc_malloc(n));
+}
+
+void *calloc(size n, size m) {
+    return refuses() ? 0 : counted(__libc_calloc(n, m));
+}
+
+void *realloc(void *block, size n) {
+    if (block == granted || refuses()) return 0;
+    void *moved = __libc_realloc(block, n);
+    return block ? moved : counted(moved);
+}
+
+void *memalign(size to, size n) {
+    return refuses() ? 0 : counted(__libc_memalign(to, n));
+}
+
+void *aligned_alloc(size to, size n) {
+    return memalign(to, n);
+}
+
+int posix_memalign(void **block, size to, size n) {
+    if (to % sizeof(void *) || to & (to - 1)) return BAD_ALIGNMENT;
+    void *made = memalign(to, n);
+    if (!made) return NO_MEMORY;
+    *block = made;
+    return 0;
+}
+
+void free(void *block) {
+    if (!block || block == granted) return;
+    held--;
+    __libc_free(block);
+}
+
+static char *put(char *to, const char *name, long n) {
+    char digits[24];
+    int k = 0;
+    while (*name) *to++ = *name++;
+    do digits[k++] = '0' + n % 10; while (n /= 10);
+    while (k) *to++ = digits[--k];
+    return to;
+}
+
+/* The descriptor that the environment names, or -1. */
+static int descriptor(void) {
+    const char *digit = getenv("REFUSE_TO");
+    if (!digit || *digit < '0' || '9' < *digit) return -1;
+    int n = 0;
+    while ('0' <= *digit && *digit <= '9') n = 10 * n + (*digit++ - '0');
+    return n;
+}
+
+static __attribute__((destructor)) void ends(void) {
+    char line[80], *to = line;
+    int file = descriptor();
+    if (file < 0) return;
+    to = put(to, "asked=", words);
+    to = put(to, " refused=", refusals);
+    *to++ = '\n';
+    if (write(file, line, to - line) < 0) return;
+}
