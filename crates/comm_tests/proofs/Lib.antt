@@ -1,3 +1,2 @@
 pub mod Ids
 pub mod Order
-pub mod Sends

@@ -1,9 +1,14 @@
 use denote.Exit
-use denote.Param.Send.{arg_send}
+use denote.Param.Send.{IsSend, arg_send, sendable}
 use denote.Param.Sent.{Sends}
+use Rattle.std.proofs.alloc.Global.TheSendSync as global
+use Rattle.comm_targets.proofs.Sends.{open_comms_sends}
 use Rattle.widget_target.proofs.Sends.{widget_sends}
-use Rattle.comm_tests.proofs.Sends.{giving_sends}
+use Rattle.comm_tests.specs.contracts.tests.core_steps.given.Giving as giving
 use Rattle.comm_tests.proofs.tests.core_steps.entries.what_stands_ready_gives_its_entry.OwnLists as own
+
+giving_sends : IsSend giving.the_row
+giving_sends = search (open_comms_sends, global.the_field_send, sendable) depth 60 fits 20000
 
 pub sends-part-1-1 : Sends own.part-1-1
 sends-part-1-1 i = arg_send _ Exit.no _ widget_sends
