@@ -26,7 +26,7 @@
 //! | The one history is legal, and has of each client just as many entries as that had answered changes; what nobody has taken ends it | `legal`, `counted`, `untaken` of [`Manager::shutdown`] |
 //! | A shutdown is refused just where a client is missing, and hands the clients and the manager back | `missing`, `err` of [`Manager::shutdown`] |
 //! | The clients of a new manager are those of its limits, in the order of their numbers, and have made no change | `clients` of [`Manager::open`] |
-//! | There is no manager just where a limit is out of its bounds, or memory ran out | [`Opening::new`], [`Manager::open`], [`with_manager`] |
+//! | There is no manager just where a limit is out of its bounds, or memory ran out | [`Opening::new`], [`Manager::open`] |
 //! | No target ends while a comm of it is open: a target is `Held`, which only `Held::end` lets go, and that asks that no comm of it is open; `stop_all` alone ends a `Core` | `comm_targets`, `comm_core`; a body here that forgets a target isn't accepted, since neither can be dropped |
 //!
 //! The calls under the lock say more than these, since there the history has a name (`src/inner.rt`): a change adds its one entry at the
@@ -43,8 +43,7 @@
 //!
 //! # How a kernel uses it
 //!
-//! In one thread, with targets of one type, [`with_manager`] opens a manager and runs a [`Session`]. A kernel with threads, or with boxed targets,
-//! opens one under a name, in two functions. The first is generic in the name, and has all that is done while the manager lives:
+//! A kernel opens a manager under a name, in two functions. The first is generic in the name, and has all that is done while the manager lives:
 //!
 //! ```text
 //! fn serve<J: Naming + Send + Sync, T: Target, R: Threads + Wait + Sync>(
@@ -137,7 +136,6 @@ mod naming;
 mod opening;
 mod reads;
 mod request;
-mod session;
 mod shared;
 
 pub use answered::Answered;
@@ -145,5 +143,4 @@ pub use client::Client;
 pub use naming::Naming;
 pub use opening::Opening;
 pub use reads::{InfoRead, StateRead};
-pub use session::{Session, with_manager};
 pub use shared::{Cause, Farewell, Manager, ShutdownRefused};
