@@ -5,6 +5,7 @@ use Rattle.comm_core.specs.History.{IsLegal, has_end, mine, replay}
 use Rattle.comm_core.specs.Ready.{CoreValue, machine}
 use Rattle.comm_core.specs.declared.entry.Entry.{Entry}
 use Rattle.comm_core.specs.declared.limits.Limits.{Limits}
+use Rattle.comm_versions.specs.Known.{Written}
 
 -- how many entries of each client there are, of the clients 0 to 3
 abbrev pub counts : List Entry → List ℕ
@@ -16,10 +17,12 @@ pub record Rests (limit : ℕ) (history : List Entry) (core : CoreValue) : Type 
   pub limit_is : core.limit ≡ limit
   pub machine_is : machine core ≡ replay limit history
 
--- The history is legal and not ended, within the limits; the tables rest after it; the totals are those of its clients.
-pub record IsKept (limits : Limits) (history : List Entry) (core : CoreValue) (totals : List ℕ) : Type 0 where
+-- The history is legal and not ended, within the limits, and it is what is published; the tables rest after it; the totals are those of its clients.
+pub record IsKept (limits : Limits) (history : List Entry) (core : CoreValue) (writer : Written) (totals : List ℕ) : Type 0 where
   pub legal : IsLegal limits.clients limits.comms history
   pub going : has_end history ≡ false
+  pub front_is : writer.front ≡ history
+  pub pending_is : writer.pending ≡ []
   pub rests : Rests limits.comms history core
   pub totals_are : totals ≡ counts history
   pub few : length history ≤ limits.history

@@ -1,38 +1,40 @@
 //! What lies under the lock.
-ghost use Rattle.std.specs.Prelude.{◌≡◌, ◌+◌, ◌<◌, ◌≤◌, [], ◌∷◌, length, false, All, IfOk, IfErr, OnErr, OnOk, MatchOption, true, option_map, slice_index};
+ghost use Rattle.std.specs.Prelude.{◌≡◌, ◌+◌, ◌<◌, ◌≤◌, ◌++◌, [], ◌∷◌, length, false, All, IfOk, IfErr, OnErr, MatchOption, MatchResult, true, option_map};
 ghost use Rattle.std.specs.Arc.{arc_value};
-ghost use Rattle.comm_core.specs.History.{IsLegal, has_end, mine, replay};
-ghost use Rattle.comm_core.specs.Reads.{infos, state_of};
+ghost use Rattle.comm_core.specs.History.{IsLegal, has_end};
 ghost use Rattle.comm_core.specs.Ready.{back_of};
 ghost use Rattle.comm_core.specs.Tables.{IdleWhere};
 ghost use Rattle.comm_core.specs.Limits.{AreAllowed};
+ghost use Rattle.comm_core.specs.declared.entry.Entry.TheVariants.{End};
 ghost use Rattle.comm_manager.specs.Asked.{IsNext, MayAsk, boxed_of, call_of};
 ghost use Rattle.comm_manager.specs.Journal.{EndsIn, entries, entries_of};
-ghost use Rattle.comm_manager.specs.Tally.{Tally, tally};
+ghost use Rattle.comm_manager.specs.Kept.{IsKept, counts};
+ghost use Rattle.comm_manager.specs.Mine.{IsAnswered, IsSettled};
 ghost use Rattle.comm_manager.specs.Why.{Because};
 
 use crate::change::{Made, perform};
 use crate::client::Client;
 use crate::journal::Journal;
-use crate::ledger::{Books, Ticket};
+use crate::ledger::Books;
 use crate::naming::Naming;
-use crate::reads::{InfoRead, StateRead};
 use crate::request::Request;
-use comm_core::{Core, Entry, Limits, Unavailable};
+use comm_core::{Core, Entry, Limits, Row, Unavailable, legal_histories_grow};
 use comm_targets::Target;
-use comm_value::Text;
+use comm_versions::{Change, Stamp, VersionWriter};
 use std::alloc::{AllocError, Global};
 use std::marker::Model;
-use std::sync::Arc;
+use std::sync::{Arc, Wait};
 
-/// A one-thread manager with its history, the entries that nobody has taken, and how many changes each client made.
+/// A one-thread manager with its history, which is published to the readers, the entries that nobody has taken, and how many changes each client
+/// made.
 ///
-/// The history is legal, its replay is the machine of the tables and the targets, and nothing is staged: that is true whenever the
-/// lock is got, and is proved again of each call that is made under it.
+/// The history is legal and is what is published, its replay is the machine of the tables and the targets, and nothing is staged: that is
+/// true whenever the lock is got, and is proved again of each call that is made under it.
 pub struct Inner<J: Naming, T: Target> {
     limits: Limits,
     core: Core<T>,
     journal: Journal,
+    writer: VersionWriter<J>,
     books: Books<J>,
 }
 
@@ -47,14 +49,21 @@ impl<J: Naming, T: Target> Model for Inner<J, T> {
 
     ghost view = { λ s. s.journal.all };
 
-    ghost invariant = { λ s. IsKept s.limits s.journal.all.history s.core s.books × (s.limits ≡ J.limits) };
+    ghost invariant = { λ s. IsKept J.limits s.journal.all.history s.core s.writer s.books × (s.limits ≡ J.limits) };
 }
 
 impl<J: Naming, T: Target> Inner<J, T> {
     /// A manager that has made no change.
-    pub fn new(alloc: Global, limits: Limits, core: Core<T>, books: Books<J>) -> Inner<J, T>
+    pub fn new(
+        alloc: Global,
+        limits: Limits,
+        core: Core<T>,
+        writer: VersionWriter<J>,
+        books: Books<J>,
+    ) -> Inner<J, T>
         requires limits { (limits ≡ J.limits) × AreAllowed limits }
         requires core { core ≡ record { limit = limits.comms; boxes = []; comms = []; settled = true } }
+        requires writer { (writer.front ≡ []) × (writer.pending ≡ []) }
         requires books { books ≡ 0 ∷ 0 ∷ 0 ∷ 0 ∷ [] }
         ensures { result ≡ entries [] [] }
     {
@@ -62,6 +71,7 @@ impl<J: Naming, T: Target> Inner<J, T> {
             limits,
             core,
             journal: Journal::new(alloc),
+            writer,
             books,
         }
     }
@@ -73,58 +83,36 @@ impl<J: Naming, T: Target> Inner<J, T> {
         self.limits.clients
     }
 
-    /// One change of a client: one entry more, at the end of the history, which stays legal. Or nothing changes.
-    pub fn change(
+    /// One change of a client: one entry more, at the end of the history, which stays legal and is published. Or nothing changes.
+    pub fn change<R: Wait>(
         &mut self,
+        rt: &R,
         alloc: Global,
-        ticket: &mut Ticket<J>,
+        client: &mut Client<J>,
         request: Request<T>,
-    ) -> Result<Made<T>, (Unavailable<u64>, Option<T>)>
-        requires below { ticket.old.client < J.limits.clients }
+    ) -> Result<Made<J, T>, (Unavailable<Stamp<J>>, Option<T>)>
         requires may { MayAsk T.means request }
-        ensures next { IfOk result (λ m. IsNext self.old self.new ticket.old (call_of T.means request) m.answered) }
-        ensures legal { IsLegal J.limits.clients J.limits.comms self.new.history × (length self.new.history ≤ J.limits.history) }
-        ensures ticket { OnOk result (ticket.new ≡ tally ticket.old.client (ticket.old.number + 1)) }
+        ensures answered { IfOk result (λ m. IsAnswered J.limits client.old client.new (call_of T.means request) m.answered.number m.answered.reply m.answered.stamp) }
+        ensures next { IfOk result (λ m. IsNext self.old self.new client.old.client (client.old.number + 1) (call_of T.means request) m.answered.reply) }
+        ensures history { IfOk result (λ m. self.new.history ≡ m.answered.stamp) }
         ensures back { IfOk result (λ m. option_map T.means m.back ≡ back_of m.answered.reply (boxed_of T.means request)) }
         ensures idle { IfOk result (λ m. IdleWhere m.ended) }
-        ensures err { OnErr result ((ticket.new ≡ ticket.old) × (self.new ≡ self.old)) }
+        ensures err { OnErr result ((client.new ≡ client.old) × (self.new ≡ self.old)) }
         ensures why { IfErr result (λ e. Because J.limits e.0) }
         ensures boxed { IfErr result (λ e. option_map T.means e.1 ≡ boxed_of T.means request) }
     {
         perform(
+            rt,
             alloc,
             &self.limits,
             &mut self.core,
             &mut self.journal,
+            &mut self.writer,
             &mut self.books,
-            ticket,
+            &mut client.reader,
+            &mut client.ticket,
             request,
         )
-    }
-
-    /// The open comms, after the whole history.
-    pub fn infos(&mut self, target: Option<&Text>) -> Result<InfoRead, AllocError>
-        ensures read { IfOk result (λ r. (r.front ≡ length self.old.history) × (r.comms ≡ infos (replay J.limits.comms self.old.history) (option_map (λ t. t.now) target.entry))) }
-        ensures legal { IsLegal J.limits.clients J.limits.comms self.old.history }
-        ensures same { self.new ≡ self.old }
-    {
-        let comms = self.core.listing(target)?;
-        Ok(InfoRead {
-            front: self.journal.len() as u64,
-            comms,
-        })
-    }
-
-    /// The state of a comm, after the whole history.
-    pub fn state(&self, id: &Text) -> Result<StateRead, AllocError>
-        ensures read { IfOk result (λ r. (r.front ≡ length self.now.history) × (r.answer ≡ state_of (replay J.limits.comms self.now.history) id.now)) }
-        ensures legal { IsLegal J.limits.clients J.limits.comms self.now.history }
-    {
-        let answer = self.core.state(id)?;
-        Ok(StateRead {
-            front: self.journal.len() as u64,
-            answer,
-        })
     }
 
     /// Takes the first entry that nobody has taken. It takes no memory.
@@ -136,46 +124,100 @@ impl<J: Naming, T: Target> Inner<J, T> {
         self.journal.take_next()
     }
 
-    /// Ends each target after its comms. The history has of each client as many entries as it made changes.
-    pub fn finish(
+    /// Ends the history, and each target after its comms. All that the clients have seen begins it, and it has of each just what it made. Where
+    /// there is no memory for an end, all is handed back.
+    pub fn finish<R: Wait>(
         self,
+        rt: &R,
+        alloc: Global,
         clients: Vec<Client<J>>,
-    ) -> (Vec<Arc<Entry, Global>>, Vec<Arc<Entry, Global>>)
-        ensures history { entries_of result.0.items ≡ self.history }
-        ensures untaken { entries_of result.1.items ≡ self.waiting }
-        ensures legal { IsLegal J.limits.clients J.limits.comms self.history × (has_end self.history ≡ false) × (length self.history ≤ J.limits.history) }
-        ensures ends { EndsIn self.history self.waiting }
-        ensures counted { All (λ w. length (mine self.history w.client) ≡ w.number) clients.items }
+    ) -> Result<(Vec<Arc<Entry, Global>>, Vec<Arc<Entry, Global>>), (Inner<J, T>, Vec<Client<J>>)>
+        ensures history { IfOk result (λ r. entries_of r.0.items ≡ self.history ++ End ∷ []) }
+        ensures legal { IfOk result (λ r. IsLegal J.limits.clients J.limits.comms (entries_of r.0.items)) }
+        ensures few { length self.history ≤ J.limits.history }
+        ensures untaken { IfOk result (λ r. EndsIn (entries_of r.0.items) (entries_of r.1.items)) }
+        ensures waiting { IfOk result (λ r. entries_of r.1.items ≡ self.waiting ++ End ∷ []) }
+        ensures settled { IfOk result (λ r. All (λ w. IsSettled (entries_of r.0.items) w) clients.items) }
+        ensures err { IfErr result (λ e. (e.0 ≡ self) × (e.1 ≡ clients)) }
     {
         let Inner {
-            limits: _limits,
+            limits,
             core,
-            journal,
+            mut journal,
+            mut writer,
             mut books,
         } = self;
-        gather(&mut books, clients);
-        core.stop_all();
-        journal.into_lists()
+        match close(rt, alloc, &mut journal, &mut writer) {
+            Ok(last) => {
+                gather(&mut books, clients, &last);
+                writer.end(rt);
+                core.stop_all();
+                Ok(journal.into_lists())
+            }
+            Err(_) => Err((
+                Inner {
+                    limits,
+                    core,
+                    journal,
+                    writer,
+                    books,
+                },
+                clients,
+            )),
+        }
     }
 
     /// Ends each target after its comms, and gives nothing back.
-    pub fn discard(self) {
+    pub fn discard<R: Wait>(self, rt: &R) {
         let Inner {
             limits: _limits,
             core,
             journal: _journal,
+            writer,
             books: _books,
         } = self;
+        writer.end(rt);
         core.stop_all();
     }
 }
 
-// Each client made as many changes as the books say.
-fn gather<J: Naming>(books: &mut Books<J>, clients: Vec<Client<J>>)
-    ensures { All (λ w. (w.client < 4) × (slice_index books.old w.client ≡ w.number)) clients.items }
+// Ends the history, and publishes that.
+fn close<J: Naming, R: Wait>(
+    rt: &R,
+    alloc: Global,
+    journal: &mut Journal,
+    writer: &mut VersionWriter<J>,
+) -> Result<Stamp<J>, AllocError>
+    requires front { (writer.old.front ≡ journal.old.all.history) × (writer.old.pending ≡ []) }
+    requires legal { IsLegal J.limits.clients J.limits.comms journal.old.all.history × (has_end journal.old.all.history ≡ false) }
+    requires few { length journal.old.all.history ≤ 4294967296 }
+    ensures stamp { IfOk result (λ s. (s ≡ journal.old.all.history ++ End ∷ []) × IsLegal J.limits.clients J.limits.comms s) }
+    ensures history { IfOk result (λ s. journal.new.all.history ≡ s) }
+    ensures waiting { IfOk result (λ _. journal.new.all.waiting ≡ journal.old.all.waiting ++ End ∷ []) }
+    ensures err { OnErr result ((journal.new.all ≡ journal.old.all) × (writer.new ≡ writer.old)) }
+{
+    legal_histories_grow();
+    journal.reserve()?;
+    let entry = Arc::new(alloc, Entry::End)?;
+    let row = Arc::new(alloc, Row::Clear)?;
+    let kept = Arc::try_clone(&entry)?;
+    let sent = Arc::try_clone(&entry)?;
+    writer.append(Change::new(entry, row))?;
+    writer.publish(rt);
+    journal.add(kept, sent);
+    let stamp = writer.stamp();
+    let _legal = stamp.number();
+    Ok(stamp)
+}
+
+// What each client has seen begins the history that ended, and it made as many changes as the books say.
+fn gather<J: Naming>(books: &mut Books<J>, clients: Vec<Client<J>>, last: &Stamp<J>)
+    requires ended { has_end last.now ≡ true }
+    requires books { books.old ≡ counts last.now }
+    ensures { All (λ w. IsSettled last.now w) clients.items }
 {
     let mut clients = clients;
     while let Some(mut client) = clients.pop() {
-        client.settle(books);
+        client.settle(books, last);
     }
 }

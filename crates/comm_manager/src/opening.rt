@@ -1,12 +1,14 @@
 //! What a manager is made of before it has a name.
-ghost use Rattle.std.specs.Prelude.{◌≡◌, ◌↔◌, ◌≤◌, ◌++◌, [], ◌∷◌, IsOk, IfOk, IfErr, nat_lt, if◌then◌else◌};
+ghost use Rattle.std.specs.Prelude.{◌≡◌, ◌↔◌, ◌≤◌, ◌++◌, [], ◌∷◌, All, IsOk, IfOk, IfErr, nat_lt, ◌+◌, ◌<◌, monus, vec_len, if◌then◌else◌};
 ghost use Rattle.comm_core.specs.Limits.{AreAllowed};
-ghost use Rattle.comm_manager.specs.Tally.{Tally, tally, all_new};
+ghost use Rattle.comm_manager.specs.Tally.{tally};
+ghost use Rattle.comm_manager.specs.Who.{Who, who, all_new};
 
 use crate::client::Client;
 use crate::ledger::{Ticket, Tickets};
 use crate::naming::Naming;
 use comm_core::{Limits, NewFault};
+use comm_versions::{Opened, VersionReader};
 use std::alloc::{AllocError, Global};
 use std::marker::Model;
 use std::sync::ledger::Blank;
@@ -15,6 +17,7 @@ use std::sync::ledger::Blank;
 #[derive(Drop)]
 pub struct Opening {
     pub(crate) limits: Limits,
+    pub(crate) opened: Opened,
     pub(crate) first: Blank,
     pub(crate) second: Blank,
     pub(crate) third: Blank,
@@ -28,7 +31,7 @@ impl Model for Opening {
 
     ghost Value = { Names };
 
-    ghost view = { λ o. record { first = o.first.name; second = o.second.name; third = o.third.name; fourth = o.fourth.name; limits = o.limits } };
+    ghost view = { λ o. record { book = o.opened.seen.book; first = o.first.name; second = o.second.name; third = o.third.name; fourth = o.fourth.name; limits = o.limits } };
 
     ghost invariant = { λ o. (o.first.parts ≡ 1) × (o.second.parts ≡ 1) × (o.third.parts ≡ 1) × (o.fourth.parts ≡ 1) × AreAllowed o.limits };
 }
@@ -45,6 +48,7 @@ impl Opening {
         }
         Ok(Opening {
             limits,
+            opened: Opened::new(),
             first: Blank::new(1),
             second: Blank::new(1),
             third: Blank::new(1),
@@ -53,31 +57,36 @@ impl Opening {
     }
 }
 
-// The clients and one more, if it is one of so many.
+// The clients and one more, if a reader is left for it.
 fn added<J: Naming>(
     clients: Vec<Client<J>>,
+    readers: &mut Vec<VersionReader<J>>,
     ticket: Ticket<J>,
-    count: u8,
 ) -> Result<Vec<Client<J>>, AllocError>
-    requires { count ≡ J.limits.clients }
-    ensures { IfOk result (λ v. v.items ≡ (if nat_lt ticket.client count then clients.items ++ ticket ∷ [] else clients.items)) }
+    requires ticket { (ticket.client < 4) × (ticket.number ≡ 0) }
+    requires readers { vec_len readers.old ≡ monus J.limits.clients ticket.client }
+    requires none { All (λ r. r ≡ []) readers.old.items }
+    ensures { IfOk result (λ v. v.items ≡ (if nat_lt ticket.client J.limits.clients then clients.items ++ who ticket.client 0 [] ∷ [] else clients.items)) }
+    ensures readers { vec_len readers.new ≡ monus J.limits.clients (ticket.client + 1) }
+    ensures none { All (λ r. r ≡ []) readers.new.items }
 {
     let mut clients = clients;
-    if ticket.client() < count {
-        clients.push(Client::new(ticket))?;
+    if let Some(reader) = readers.pop() {
+        clients.push(Client::new(reader, ticket))?;
     }
     Ok(clients)
 }
 
-/// The clients that a manager begins with.
+/// The clients that a manager begins with, one for each reader.
 pub fn first_clients<J: Naming>(
     alloc: Global,
-    count: u8,
+    readers: Vec<VersionReader<J>>,
     tickets: Tickets<J>,
 ) -> Result<Vec<Client<J>>, AllocError>
-    requires count { (count ≡ J.limits.clients) × (1 ≤ count) × (count ≤ 4) }
+    requires count { (1 ≤ J.limits.clients) × (J.limits.clients ≤ 4) }
+    requires readers { (vec_len readers ≡ J.limits.clients) × All (λ r. r ≡ []) readers.items }
     requires tickets { (tickets.first ≡ tally 0 0) × (tickets.second ≡ tally 1 0) × (tickets.third ≡ tally 2 0) × (tickets.fourth ≡ tally 3 0) }
-    ensures { IfOk result (λ v. v.items ≡ all_new count) }
+    ensures { IfOk result (λ v. v.items ≡ all_new J.limits.clients) }
 {
     let Tickets {
         first,
@@ -85,8 +94,9 @@ pub fn first_clients<J: Naming>(
         third,
         fourth,
     } = tickets;
-    let one = added(Vec::new(alloc), first, count)?;
-    let two = added(one, second, count)?;
-    let three = added(two, third, count)?;
-    added(three, fourth, count)
+    let mut readers = readers;
+    let one = added(Vec::new(alloc), &mut readers, first)?;
+    let two = added(one, &mut readers, second)?;
+    let three = added(two, &mut readers, third)?;
+    added(three, &mut readers, fourth)
 }

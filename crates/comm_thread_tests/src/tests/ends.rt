@@ -4,6 +4,7 @@ ghost use Rattle.comm_targets.specs.Meaning.{IsIdle};
 
 use crate::tests::named::{Play, named};
 use crate::tests::words::{Told, Wrong, answer, empty, holds, limits, shut};
+use comm_core::Entry;
 use comm_manager::{Client, Manager, Naming, ShutdownRefused};
 use comm_targets::{Answer, Echo, Event, Kind, Target, TargetFault};
 use comm_value::{Dict, Text};
@@ -13,7 +14,7 @@ use std::sync::{Arc, Wait};
 use std::test::*;
 use std::thread::Threads;
 
-// A shutdown without this client is refused, and one with it isn't.
+// A shutdown without this client is refused, and one with it isn't: the history is an end alone.
 fn shut_with<J: Naming, T: Target, R: Wait>(
     rt: &R,
     manager: Manager<J, T>,
@@ -30,7 +31,8 @@ fn shut_with<J: Naming, T: Target, R: Wait>(
             } = refused;
             let is_whole = clients.push(other).is_ok() && clients.len() == 2;
             let farewell = shut(rt, manager, clients)?;
-            holds(is_whole && farewell.history.is_empty() && farewell.untaken.is_empty())
+            holds(is_whole && farewell.history.len() == 1 && farewell.untaken.len() == 1)?;
+            holds(matches!(&*farewell.history[0], Entry::End))
         }
     }
 }
@@ -169,7 +171,7 @@ fn ended<J: Naming, T: Target, R: Wait>(
     match how {
         How::Shutdown => {
             let farewell = shut(rt, manager, clients)?;
-            holds(farewell.history.len() == 2 && farewell.untaken.len() == 2)
+            holds(farewell.history.len() == 3 && farewell.untaken.len() == 3)
         }
         How::Unregister | How::Discard => {
             manager.discard(rt);

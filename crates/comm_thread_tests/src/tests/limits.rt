@@ -78,7 +78,7 @@ fn history_ends<J: Naming, T: Target, R: Wait>(
     holds(closed(rt, alloc, manager, client)? == Told::HistoryFull(2))?;
     holds(manager.take_next(rt).is_some())?;
     holds(closed(rt, alloc, manager, client)? == Told::HistoryFull(2))?;
-    let read = client.comm_info(rt, manager, None)?;
+    let read = client.comm_info(alloc, None)?;
     holds(read.front == 2 && read.comms.as_slice().is_empty())
 }
 

@@ -5,6 +5,7 @@ ghost use Rattle.comm_manager.specs.Names.{Named};
 
 use crate::tests::calls::toured;
 use crate::tests::ends::{How, ending, shut_twice};
+use crate::tests::fronts::{Moments, heard, held_open};
 use crate::tests::limits::{Limit, limited};
 use crate::tests::threads::threaded;
 use crate::tests::words::Wrong;
@@ -13,17 +14,19 @@ use comm_manager::{Manager, Naming, Opening};
 use comm_targets::Target;
 use std::alloc::Global;
 use std::marker::Brand;
-use std::sync::Wait;
+use std::sync::{Arc, Wait};
 use std::thread::Threads;
 
 /// What is played.
-#[derive(Clone, Copy)]
+#[derive(Drop)]
 pub enum Play {
     Threads,
     Limit(Limit),
     ShutTwice,
     Ending(How),
     Tour,
+    Hearing,
+    HeldOpen(Arc<Moments>),
 }
 
 fn opened<J: Naming + Send + Sync, T: Target, R: Threads + Wait + Sync>(
@@ -34,11 +37,11 @@ fn opened<J: Naming + Send + Sync, T: Target, R: Threads + Wait + Sync>(
     target: T,
     other: T,
 ) -> Result<(), Wrong>
-    requires named { Named opening J.ledgers J.limits }
+    requires named { Named opening J.book J.ledgers J.limits }
     requires target { IsIdle (T.means target) }
     requires other { IsIdle (T.means other) }
 {
-    let Ok((manager, clients)) = Manager::<J, T>::open(alloc, opening) else {
+    let Ok((manager, clients)) = Manager::<J, T>::open(rt, alloc, opening) else {
         return Err(Wrong);
     };
     match play {
@@ -47,6 +50,8 @@ fn opened<J: Naming + Send + Sync, T: Target, R: Threads + Wait + Sync>(
         Play::ShutTwice => shut_twice(rt, manager, clients),
         Play::Ending(how) => ending(rt, alloc, manager, clients, how, target),
         Play::Tour => toured(rt, alloc, manager, clients, target, other),
+        Play::Hearing => heard(rt, alloc, manager, clients, target),
+        Play::HeldOpen(moments) => held_open(rt, alloc, manager, clients, target, moments),
     }
 }
 

@@ -217,6 +217,7 @@ fn all_there(
     }
     let (first, rest) = history.split_at(61);
     holds(are_same(&taken, first) && are_same(&untaken, rest))?;
+    holds(matches!(&*history[length - 1], Entry::End))?;
     let by_two = count_of(&history, 0) == Some(101)
         && count_of(&history, 1) == Some(100)
         && messages(&history) == Some(0);
@@ -242,12 +243,12 @@ pub fn threaded<J: Naming + Send + Sync, T: Target, R: Threads + Wait + Sync>(
     let (done, length) = if clients.len() == 2 {
         (
             played_by_two(rt, alloc, &manager, &mut clients, target),
-            201,
+            202,
         )
     } else {
         (
             played_by_four(rt, alloc, &manager, &mut clients, target),
-            601,
+            602,
         )
     };
     let taken = take(rt, alloc, &manager, 61);
