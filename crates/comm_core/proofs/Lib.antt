@@ -26,3 +26,6 @@ pub mod Stopping
 pub mod Unmaking
 pub mod Updating
 pub mod Crossing
+pub mod Ordered
+pub mod Rows
+pub mod Planning

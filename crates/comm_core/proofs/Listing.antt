@@ -37,7 +37,7 @@ module _ {X : Type 0} where
 
 -- ---- in order
 
-all_weaker : {P Q : Name → Type 0} → ((n : Name) → P n → Q n) → (ns : List Name) → AllByRecursion P ns → AllByRecursion Q ns
+pub all_weaker : {P Q : Name → Type 0} → ((n : Name) → P n → Q n) → (ns : List Name) → AllByRecursion P ns → AllByRecursion Q ns
 all_weaker f [] h = tt
 all_weaker f (n ∷ ns) h = (f n h.0, all_weaker f ns h.1)
 
@@ -52,7 +52,7 @@ module _ {X : Type 0} where
         | Greater ↦ (h.0, more)
       ]
 
-  put_in_order : (es : List (Name × X)) (p : Name × X) → IsInOrder es → IsInOrder (put es p)
+  pub put_in_order : (es : List (Name × X)) (p : Name × X) → IsInOrder es → IsInOrder (put es p)
   unfolding IsStrictlySortedBy
   put_in_order [] p h = (tt, tt)
   put_in_order (e ∷ es) p h =
@@ -86,13 +86,13 @@ module _ {X : Type 0} where
       elim (q e) as (λ b. IsInOrder (cond b (e ∷ filter q es) (filter q es))) [ true ↦ (all_left q (λ n. order e.0 n ≡ Less) es h.0, more) | false ↦ more ]
 
   -- Entries in order have each key once.
-  none_below : (k : Name) (es : List (Name × X)) → AllByRecursion (λ n. order k n ≡ Less) (keys_of es) → at es k ≡ None
+  pub none_below : (k : Name) (es : List (Name × X)) → AllByRecursion (λ n. order k n ≡ Less) (keys_of es) → at es k ≡ None
   none_below k [] h = refl
   none_below k (e ∷ es) h =
       let other : bytes_eq k e.0 ≡ false = sym (is_eq-slice_cmp k e.0) ∙ ap is_eq h.0 in
       ap (λ b. cond b (Some e.1) (at es k)) other ∙ none_below k es h.1
 
-  distinct_in_order : (es : List (Name × X)) → IsInOrder es → AreDistinct es
+  pub distinct_in_order : (es : List (Name × X)) → IsInOrder es → AreDistinct es
   unfolding IsStrictlySortedBy
   distinct_in_order [] h = tt
   distinct_in_order (e ∷ es) h = (none_below e.0 es h.0, distinct_in_order es h.1)
@@ -108,7 +108,7 @@ none_more None = refl
 none_more (Some x) = refl
 
 module _ {X : Type 0} where
-  at-put : (es : List (Name × X)) (p : Name × X) (q : Name) → at (put es p) q ≡ cond (bytes_eq q p.0) (Some p.1) (at es q)
+  pub at-put : (es : List (Name × X)) (p : Name × X) (q : Name) → at (put es p) q ≡ cond (bytes_eq q p.0) (Some p.1) (at es q)
   at-put [] p q = refl
   at-put (e ∷ es) p q =
       let more = at-put es p q in

@@ -12,6 +12,9 @@ table_code {X} x =
     code_by (List (List ℕ × X) × ℕ) (coded× (coded_list (coded× (coded_list coded_ℕ) x)) coded_ℕ) (λ t. (t.all, t.room)) (λ p. record { all = p.0; room = p.1 })
     (λ _. refl)
 
+abbrev pub open_code : Coded (List ℕ × Comm)
+open_code = coded× (coded_list coded_ℕ) comm.the_row.coded
+
 abbrev pub boxes_code : Coded (Table Meaning)
 boxes_code = table_code meaning_code
 

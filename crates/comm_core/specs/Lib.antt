@@ -10,6 +10,8 @@ pub mod RunLaws
 pub mod Tables
 pub mod Kept
 pub mod Plans
+pub mod Row
 pub mod Ready
+pub mod Planned
 pub mod Code
 pub mod ReadyCode

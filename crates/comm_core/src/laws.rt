@@ -10,6 +10,7 @@ ghost use Rattle.comm_core.specs.Step.{Outcome, Stepped, Allowed, asks, is_done,
 ghost use Rattle.comm_core.specs.Exact.{is_exact, exact_outcome, registers_free};
 ghost use Rattle.comm_core.specs.History.{Follows, IsLegal, applied, has_end, replay};
 ghost use Rattle.comm_core.specs.declared.entry.Entry.{Entry};
+ghost use Rattle.comm_core.specs.Row.{row_of, rows, with_row};
 ghost use Rattle.comm_core.specs.Reads.{in_order, infos};
 ghost use Rattle.comm_core.specs.RunLaws.{ListsThoseLeftOpen, HasStatesGivenLast, HasNoOtherStates, MergesUpdates, LeavesSomeStateless};
 ghost use Rattle.comm_core.specs.declared.call.Call.{Call};
@@ -91,4 +92,9 @@ pub fn widgets_have_their_opening_state_merged_with_their_updates()
 /// The comms of an Echo or a Counter have no state.
 pub fn some_kinds_have_no_states()
     ensures { (clients comms : ℕ) (h : List Entry) → IsLegal clients comms h → LeavesSomeStateless h (replay comms h) }
+{}
+
+/// The row of the next entry of a legal history is what that changes in what readers see.
+pub fn rows_are_what_entries_change()
+    ensures { (clients comms : ℕ) (es : List Entry) (e : Entry) → IsLegal clients comms (es ++ e ∷ []) → with_row (row_of (replay comms es) e) (rows (replay comms es)) ≡ rows (replay comms (es ++ e ∷ [])) }
 {}

@@ -1,0 +1,194 @@
+//! What a change does to the comms that readers see.
+ghost use Rattle.std.specs.Prelude.{◌≡◌, IfOk};
+ghost use Rattle.comm_core.specs.Planned.{answered_row, done_row, planned_row};
+ghost use Rattle.comm_core.specs.Ready.{CoreValue, IsReady, machine};
+ghost use Rattle.comm_core.specs.Row.{closed_row, put_row, row_in, stated_row, unregistered_row};
+
+use crate::call::Call;
+use crate::comm::Comm;
+use crate::ids::Ids;
+use crate::manager::Ready;
+use crate::plan::Plan;
+use crate::question::Question;
+use crate::reply::Reply;
+use comm_targets::{Answer, Event, Target, TargetFault};
+use comm_value::{Dict, Text};
+use std::alloc::{AllocError, Global};
+use std::marker::Model;
+use std::sync::Arc;
+
+/// What copies of an open comm share.
+#[derive(Drop)]
+pub struct Opened {
+    id: Text,
+    comm: Comm,
+}
+
+/// An open comm with its id. Copies share it.
+#[derive(Drop)]
+pub struct OpenComm {
+    shared: Arc<Opened, Global>,
+}
+
+impl Model for OpenComm {
+    ghost use Rattle.std.specs.Arc.{arc_value};
+    ghost use Rattle.comm_core.specs.Code.{open_code};
+    ghost use Rattle.comm_core.specs.Machine.{Name};
+    ghost use Rattle.comm_core.specs.declared.comm.Comm.{Comm};
+
+    ghost Value = { Name × Comm };
+
+    ghost coded = { open_code };
+
+    ghost view = { λ o. ((arc_value o.shared).id, (arc_value o.shared).comm) };
+}
+
+impl OpenComm {
+    /// Err: memory.
+    pub fn new(alloc: Global, id: Text, comm: Comm) -> Result<OpenComm, AllocError>
+        ensures { IfOk result (λ o. o ≡ (id, comm)) }
+    {
+        let shared = Arc::new(alloc, Opened { id, comm })?;
+        Ok(OpenComm { shared })
+    }
+
+    /// The same comm, shared. Err: it can't be shared once more.
+    pub fn copy(&self) -> Result<OpenComm, AllocError>
+        ensures { IfOk result (λ o. o ≡ self.now) }
+    {
+        Ok(OpenComm {
+            shared: Arc::try_clone(&self.shared)?,
+        })
+    }
+
+    pub fn id(&self) -> &Text
+        ensures { result.now ≡ self.now.0 }
+    {
+        &self.shared.id
+    }
+
+    pub fn comm(&self) -> &Comm
+        ensures { result.now ≡ self.now.1 }
+    {
+        &self.shared.comm
+    }
+}
+
+/// What an entry changes in the comms that readers see.
+#[derive(Drop)]
+pub enum Row {
+    /// Nothing.
+    Same,
+    /// This comm is opened, or has another state.
+    Put(OpenComm),
+    /// The comms of these ids are closed.
+    Out(Ids),
+    /// No comm is open any more.
+    Clear,
+}
+
+// This comm, with this state.
+fn put(
+    alloc: Global,
+    id: &Text,
+    target: &Text,
+    state: &Option<Dict>,
+) -> Result<Row, AllocError>
+    ensures { IfOk result (λ r. r ≡ put_row id.now target.now state.now) }
+{
+    let state = match state {
+        Some(state) => Some(state.copy()?),
+        None => None,
+    };
+    let target = target.copy()?;
+    let comm = OpenComm::new(alloc, id.copy()?, Comm { target, state })?;
+    Ok(Row::Put(comm))
+}
+
+// What an answer changes, of a target that was asked this.
+fn answered(alloc: Global, question: &Question, answer: &Answer) -> Result<Row, AllocError>
+    ensures { IfOk result (λ r. r ≡ answered_row question.now.name question.now.event answer.now) }
+{
+    let Question { name, event, .. } = question;
+    match event {
+        Event::Open { id, .. } => put(alloc, id, name, &answer.state),
+        Event::Launch { id, .. } => put(alloc, id, name, &answer.state),
+        Event::Msg { id, .. } => told(alloc, id, name, &answer.state),
+        Event::Push { id, .. } => told(alloc, id, name, &answer.state),
+    }
+}
+
+fn told(
+    alloc: Global,
+    id: &Text,
+    target: &Text,
+    state: &Option<Dict>,
+) -> Result<Row, AllocError>
+    ensures { IfOk result (λ r. r ≡ stated_row id.now target.now state.now) }
+{
+    if state.is_none() {
+        return Ok(Row::Same);
+    }
+    put(alloc, id, target, state)
+}
+
+fn closed(alloc: Global, id: &Text, reply: &Reply) -> Result<Row, AllocError>
+    ensures { IfOk result (λ r. r ≡ closed_row id.now reply.now) }
+{
+    match reply {
+        Reply::Closed => {
+            let mut ids = Ids::new(alloc);
+            ids.push(id.copy()?)?;
+            Ok(Row::Out(ids))
+        }
+        _ => Ok(Row::Same),
+    }
+}
+
+fn unregistered(alloc: Global, reply: &Reply) -> Result<Row, AllocError>
+    ensures { IfOk result (λ r. r ≡ unregistered_row reply.now) }
+{
+    match reply {
+        Reply::Unregistered(ids) => Ok(Row::Out(ids.copy(alloc)?)),
+        _ => Ok(Row::Same),
+    }
+}
+
+// What a call changes that asks no target.
+fn done(alloc: Global, call: &Call, reply: &Reply) -> Result<Row, AllocError>
+    ensures { IfOk result (λ r. r ≡ done_row call.now reply.now) }
+{
+    match call {
+        Call::Close { id } => closed(alloc, id, reply),
+        Call::HangUp { id } => closed(alloc, id, reply),
+        Call::Unregister { .. } => unregistered(alloc, reply),
+        _ => Ok(Row::Same),
+    }
+}
+
+fn planned(
+    alloc: Global,
+    plan: &Plan,
+    outcome: &Option<Result<Answer, TargetFault>>,
+    call: &Call,
+    reply: &Reply,
+) -> Result<Row, AllocError>
+    ensures { IfOk result (λ r. r ≡ planned_row plan.now outcome.now call.now reply.now) }
+{
+    if let Plan::Commit(question) = plan {
+        if let Some(Ok(answer)) = outcome {
+            return answered(alloc, question, answer);
+        }
+    }
+    done(alloc, call, reply)
+}
+
+impl<T: Target> Ready<T> {
+    /// What this change does to the comms that readers see. What a row carries is shared. An error says that memory ran out.
+    pub fn row(&self, alloc: Global) -> Result<Row, AllocError>
+        ensures { (s : CoreValue) → IsReady s self.now → IfOk result (λ r. r ≡ row_in (machine s) self.now.call self.now.outcome self.now.reply) }
+    {
+        let begun = &self.begun;
+        planned(alloc, &begun.plan, &begun.outcome, &self.call, &begun.reply)
+    }
+}
