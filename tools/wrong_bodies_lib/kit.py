@@ -1,0 +1,98 @@
+"""The kit's own judge. `rt must-fail` says what came of its edits only when all are through, and begins each crate from nothing; so its
+functions are called here one by one. The kit is held to one version (tools/kit.sh), so they are the ones this was written for."""
+import contextlib
+import functools
+import importlib.machinery
+import importlib.util
+import os
+import shutil
+import subprocess
+import sys
+
+NEEDED = ("must_fail", "checked", "need", "free", "processors")
+REFUSED = "refused, as it must be"
+BY_NAME = "only because a proof file names what the edit took away"
+UNSURE = ("NOT REFUSED", "did not reach the prover", "could not be used")
+ONE_JOB = ["--jobs", "1"]
+
+
+def version():
+    return subprocess.run(["rt", "version"], stdout=subprocess.PIPE, text=True, check=True).stdout.split("\n")[0]
+
+
+@functools.lru_cache(maxsize=None)
+def loaded():
+    sys.dont_write_bytecode = True
+    loader = importlib.machinery.SourceFileLoader("kit_rt", os.path.realpath(shutil.which("rt")))
+    made = importlib.util.module_from_spec(importlib.util.spec_from_loader("kit_rt", loader))
+    loader.exec_module(made)
+    lacking = [name for name in NEEDED if not hasattr(made, name)]
+    if lacking:
+        raise SystemExit(f"tools/wrong_bodies: this kit's rt has no {lacking[0]}")
+    return made
+
+
+def how_refused(is_refused, text):
+    """'proof', 'by-name', or None where the edit isn't refused by a proof that fails."""
+    if not is_refused or REFUSED not in text:
+        return None
+    return "by-name" if BY_NAME in text else "proof"
+
+
+class Kit:
+    """The kit at work on the crates of one room. To be made in the main thread, since it sets a signal's handler."""
+
+    def __init__(self, root):
+        self.rt = loaded()
+        self.rt.rtlib.guarded()
+        self.crates = {it.name: it for it in self.rt.rtlib.crates_below(str(root))}
+
+    def need(self, name):
+        """The most memory that a check of the crate from nothing is likely to take, in bytes."""
+        return self.rt.need(self.crates[name])
+
+    def free(self):
+        return self.rt.free()
+
+    def processors(self):
+        return self.rt.processors()
+
+    def below(self, name):
+        return [it.name for it in self.crates[name].below()]
+
+    def is_built(self, name):
+        return self.crates[name].is_built()
+
+    def build(self, name, jobs, log):
+        """Builds the library for the crates above it, over what stands in its out/; returns whether it is proved."""
+        crate = self.crates[name]
+        with open(log, "a", encoding="utf-8") as crate.out:
+            return crate.build_rlib(["--jobs", str(jobs)], anew=False) == 0
+
+    def is_proved(self, name, jobs, kept, log):
+        """Whether the crate is proved as it is; the check leaves its work in the folder kept."""
+        ran = self.rt.checked(self.crates[name], {}, ["--jobs", str(jobs)], str(kept))
+        log.write_text(ran.stdout)
+        return ran.returncode == 0
+
+    def tried(self, edit, path, kept):
+        """How the prover refuses the edit (None: it doesn't), and what the kit says of it. What isn't refused over the kept work is tried
+        once more from nothing."""
+        crate = self.crates[edit.crate]
+        is_refused, text = self.rt.must_fail(crate, str(path), ONE_JOB, str(kept))
+        if not is_refused and any(it in text for it in UNSURE):
+            is_refused, text = self.rt.must_fail(crate, str(path), ONE_JOB)
+        return how_refused(is_refused, text), text.partition(".edit: ")[2] or text
+
+
+@contextlib.contextmanager
+def locked(root):
+    """Holds other runs of rt off the crates of this folder, and gives them by their names."""
+    rtlib = loaded().rtlib
+    crates = rtlib.crates_below(str(root))
+    held = rtlib.lock(crates)
+    try:
+        yield {it.name: it for it in crates}
+    finally:
+        for it in held:
+            os.close(it)

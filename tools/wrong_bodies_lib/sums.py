@@ -1,0 +1,65 @@
+"""A sum of all that the outcome of a wrong body depends on: the edit, its crate, the statements of the crates below, and the kit.
+
+Of the crates below, the check reads what they state: sources with contracts, definitions, and lemmas. Not the answers that prove their
+functions: the gate builds each library as its statements alone. Lines that are blank or only a comment change nothing and are left out."""
+import hashlib
+from pathlib import Path
+
+FORM = "1"
+COMMENTS = {".rt": "//", ".antt": "--"}
+ANSWERS = ("Answers.antt", "Invariants.antt", "Proof.antt")
+
+
+def said(text, suffix):
+    """The text without the lines that are blank or only a comment."""
+    mark = COMMENTS[suffix]
+    return "\n".join(line for line in text.splitlines() if line.strip() and not line.lstrip().startswith(mark))
+
+
+def listed(text):
+    """crates.txt as a dict from each crate to its line's words after the name: what it uses, and what stands before the colon."""
+    rows = {}
+    for line in text.splitlines():
+        words = line.partition("#")[0].replace(":", " : ").split()
+        if words:
+            rows[words[0]] = words[1:]
+    return rows
+
+
+def below(rows, crate):
+    """The crates below this one, in order of their names."""
+    found, left = set(), [crate]
+    while left:
+        for name in rows.get(left.pop(), []):
+            if name in rows and name not in found:
+                found.add(name)
+                left.append(name)
+    return sorted(found)
+
+
+class Sums:
+    """The sums of one state of the repository."""
+
+    def __init__(self, root, kit):
+        self.root, self.kit = Path(root), kit
+        self.rows = listed((self.root / "crates.txt").read_text())
+        self.known = {}
+
+    def of_texts(self, crate, is_below):
+        """The sum of a crate's texts: of all, or of those that a crate above reads."""
+        key = crate, is_below
+        if key not in self.known:
+            total = hashlib.sha256()
+            folder = self.root / "crates" / crate
+            for part in ("src", "specs", "proofs"):
+                for path in sorted((folder / part).rglob("*")):
+                    if path.suffix in COMMENTS and not (is_below and part == "proofs" and path.name in ANSWERS):
+                        total.update(repr((str(path.relative_to(folder)), said(path.read_text(), path.suffix))).encode())
+            self.known[key] = total.hexdigest()
+        return self.known[key]
+
+    def of(self, edit):
+        names = below(self.rows, edit.crate)
+        parts = [FORM, self.kit, edit.path(self.root).read_text(), self.of_texts(edit.crate, False), self.rows.get(edit.crate)]
+        parts += [(name, self.rows[name], self.of_texts(name, True)) for name in names]
+        return hashlib.sha256(repr(parts).encode()).hexdigest()[:16]

@@ -1,0 +1,183 @@
+"""One run: chooses wrong bodies, tries them side by side in a copy, and keeps the record."""
+import subprocess
+import sys
+import threading
+import time
+from dataclasses import dataclass, field
+from pathlib import Path
+
+from . import kit as kits
+from .choice import Mode, chosen, crates_in_turn
+from .edits import FOLDERS, body_fault, edits_below
+from .lanes import Job, in_lanes
+from .record import Record
+from .room import Room
+from .sums import Sums, below
+
+# What a check over kept work takes of one from nothing: 1.7 GB were seen at comm_value, where 5 are reckoned from nothing.
+OVER_KEPT = 0.45
+
+
+@dataclass
+class Wish:
+    """What a run is to do."""
+
+    root: Path
+    mode: Mode = Mode.PART
+    folders: tuple = FOLDERS[:1]
+    names: tuple = ()
+    lanes: int = 0
+    minutes: float = 15
+    after_ci: bool = False
+
+
+@dataclass
+class Told:
+    """What came of a run."""
+
+    refused: dict = field(default_factory=dict)
+    failed: dict = field(default_factory=dict)
+    stand: int = 0
+    not_reached: list = field(default_factory=list)
+
+    def lines(self):
+        by_name = [str(it) for it, how in sorted(self.refused.items()) if how == "by-name"]
+        yield from (f"wrong_bodies: {it}: {why}" for it, why in sorted(self.failed.items(), key=str))
+        yield from (f"wrong_bodies: {it}: refused only because a proof file names what it took away" for it in by_name)
+        reached = f", {len(self.not_reached)} that stand weren't reached in the time" if self.not_reached else ""
+        yield f"wrong_bodies: {len(self.refused) + len(self.failed)} tried, {self.stand} stand by the record{reached}"
+        yield f"{len(self.refused)} passed, {len(self.failed)} failed"
+
+
+def commits_of(root):
+    ran = subprocess.run(["git", "-C", str(root), "rev-list", "--count", "HEAD"], stdout=subprocess.PIPE, stderr=subprocess.DEVNULL, text=True)
+    return int(ran.stdout) if ran.returncode == 0 and ran.stdout.strip().isdigit() else 0
+
+
+class Run:
+    """A run of one wish, in a folder of its own."""
+
+    def __init__(self, wish, at):
+        self.wish, self.began = wish, time.monotonic()
+        self.room = Room(wish.root, at)
+        self.record = Record(Path(wish.root) / "tools/refused.txt")
+        self.told, self.lock, self.number, self.done = Told(), threading.Lock(), 0, 0
+
+    def say(self, text):
+        minutes = (time.monotonic() - self.began) / 60
+        print(f"wrong_bodies: {minutes:.1f} min: {text}", file=sys.stderr, flush=True)
+
+    def plan(self):
+        """What must be tried, and what may be tried again; what is no wrong body fails at once."""
+        wish = self.wish
+        edits = edits_below(wish.root, wish.folders, wish.names)
+        sums = Sums(wish.root, kits.version())
+        self.sums = {it: sums.of(it) for it in edits}
+        for edit in edits:
+            why = body_fault(edit.path(wish.root).read_text())
+            if why:
+                self.told.failed[edit] = why
+        sound = [it for it in edits if it not in self.told.failed]
+        must, again = chosen(sound, self.sums, self.record.rows(), wish.mode, commits_of(wish.root))
+        self.told.stand = len(sound) - len(must) - len(again)
+        return must, again
+
+    def forget_lost(self):
+        """Takes out of the record what is no wrong body any more."""
+        there = {str(it) for it in edits_below(self.wish.root, FOLDERS)}
+        for name in self.record.rows():
+            if name not in there:
+                self.record.drop(name)
+
+    def whole(self):
+        self.forget_lost()
+        must, again = self.plan()
+        self.must, self.count = set(must), len(must) + len(again)
+        self.say(f"{len(must)} to be tried, {len(again)} tried again as far as time allows, {self.told.stand} stand by the record")
+        if self.count:
+            by_crate = {}
+            for edit in must + again:
+                by_crate.setdefault(edit.crate, []).append(edit)
+            self.prepare_room(list(by_crate))
+            self.try_all(by_crate)
+        return self.told
+
+    def prepare_room(self, wanted):
+        """The copy, with every library that a wanted crate stands on."""
+        rows = Sums(self.wish.root, "").rows
+        needed = sorted({low for name in wanted for low in below(rows, name)})
+        with kits.locked(self.wish.root) as crates:
+            unbuilt = [name for name in needed if not crates[name].is_built()]
+            if self.wish.after_ci and self.are_of_the_gate(needed):
+                unbuilt = []
+            self.room.fill(set(wanted) | set(unbuilt), needed)
+        self.kit = kits.Kit(self.room.top)
+        self.lanes = self.wish.lanes or self.kit.processors()
+        for name in self.kit.crates:
+            if name in unbuilt:
+                self.say(f"{name}: its library is to be proved first")
+                if not self.kit.build(name, self.lanes, self.room.log / f"{name}.library"):
+                    self.stop(name, self.room.log / f"{name}.library")
+
+    def are_of_the_gate(self, names):
+        """Whether the libraries are those that rt ci has just made: it leaves them with no stamp, all of one run."""
+        outs = [Path(self.wish.root) / "crates" / name / "out/rlib" for name in names]
+        return all(it.is_dir() and not (it / "stamp").exists() for it in outs)
+
+    def stop(self, name, log):
+        print(log.read_text()[-2000:], file=sys.stderr)
+        raise SystemExit(f"wrong_bodies: {name} isn't proved as it stands, so nothing above it was tried")
+
+    def try_all(self, by_crate):
+        """First the crates where something must be tried, the dearest of them first, and then the others in turn."""
+        cost = {name: sum(it in self.must for it in edits) * self.kit.need(name) for name, edits in by_crate.items()}
+        order = sorted(crates_in_turn(by_crate, commits_of(self.wish.root)), key=lambda it: -cost[it])
+        self.unreached = {it for edits in by_crate.values() for it in edits}
+        jobs = [self.first(name, by_crate[name]) for name in order]
+        deadline = None if self.wish.mode is Mode.ALL else self.began + 60 * self.wish.minutes
+        in_lanes(jobs, self.lanes, self.kit.free, deadline)
+        self.told.not_reached = sorted(self.unreached)
+        self.told.stand += len(self.unreached)
+
+    def first(self, name, edits):
+        """The check of a crate as it stands, over which its wrong bodies are tried."""
+        is_warm = self.room.kept(name).is_dir()
+        need = int(self.kit.need(name) * (OVER_KEPT if is_warm else 1))
+
+        def run():
+            self.room.kept(name).mkdir(parents=True, exist_ok=True)
+            self.say(f"{name}: checked as it stands{'' if is_warm else ', from nothing'}, for {len(edits)} wrong bodies")
+            log = self.room.log / f"{name}.check"
+            if not self.kit.is_proved(name, 1 if is_warm else 2, self.room.kept(name), log):
+                with self.lock:
+                    for edit in edits:
+                        self.told.failed[edit] = "not tried, since its crate isn't proved as it stands"
+                        self.unreached.discard(edit)
+                return []
+            over_kept = int(self.kit.need(name) * OVER_KEPT)
+            firsts = sorted(edits, key=lambda it: it not in self.must)
+            return [Job(lambda it=it: self.trial(it), over_kept, it not in self.must) for it in firsts]
+
+        return Job(run, need, not any(it in self.must for it in edits))
+
+    def trial(self, edit):
+        with self.lock:
+            self.number += 1
+            number = self.number
+        began = time.monotonic()
+        kept = self.room.lane(edit.crate, number)
+        try:
+            how, text = self.kit.tried(edit, edit.path(self.room.top), kept)
+        finally:
+            self.room.leave(number)
+        with self.lock:
+            self.unreached.discard(edit)
+            if how:
+                self.told.refused[edit] = how
+                self.record.put(edit, self.sums[edit], how)
+            else:
+                self.told.failed[edit] = "; ".join(text.splitlines())
+                self.record.drop(edit)
+            self.done += 1
+            self.say(f"{self.done} of {self.count}: {edit}: {how or 'FAILED'}, {time.monotonic() - began:.0f} s")
+        return []

@@ -1,0 +1,155 @@
+"""Tests of the parts of tools/wrong_bodies that need no prover; tools/wrong_bodies --self-test runs them."""
+import tempfile
+import unittest
+from pathlib import Path
+
+from wrong_bodies_lib import choice, edits, kit, lanes, record, sums
+
+GB = 1_000_000_000
+
+
+def edit(name, crate="low"):
+    return edits.Edit(crate, "wrong-bodies", name)
+
+
+class Room(unittest.TestCase):
+    """A repository of two crates, the second above the first."""
+
+    def setUp(self):
+        folder = tempfile.TemporaryDirectory()
+        self.addCleanup(folder.cleanup)
+        self.root = Path(folder.name)
+        self.write("crates.txt", "# the crates\nlow: json\nhigh: low\n")
+        for crate in ("low", "high"):
+            self.write(f"crates/{crate}/src/lib.rt", "// why\nfn f() {}\n")
+            self.write(f"crates/{crate}/specs/Lib.antt", "-- what\nf : Nat\n")
+            self.write(f"crates/{crate}/proofs/Lemmas.antt", "lemma : f\n")
+            self.write(f"crates/{crate}/proofs/f/Answers.antt", "answer = f\n")
+            self.write(f"crates/{crate}/wrong-bodies/one.edit", "file: src/lib.rt\nold: {}\nnew: {1}\n")
+
+    def write(self, path, text):
+        path = self.root / path
+        path.parent.mkdir(parents=True, exist_ok=True)
+        path.write_text(text)
+
+    def sum(self, crate, version="kit-1"):
+        return sums.Sums(self.root, version).of(edit("one", crate))
+
+
+class Sums(Room):
+    def changes(self, path, text, crate):
+        before = self.sum(crate)
+        self.write(path, text)
+        return self.sum(crate) != before
+
+    def test_what_changes_the_sum(self):
+        self.assertTrue(self.changes("crates/low/src/lib.rt", "fn g() {}\n", "low"))
+        self.assertTrue(self.changes("crates/low/specs/Lib.antt", "f : Bool\n", "high"))
+        self.assertTrue(self.changes("crates/low/src/lib.rt", "fn h() {}\n", "high"))
+        self.assertTrue(self.changes("crates/low/proofs/Lemmas.antt", "lemma : g\n", "high"))
+        self.assertTrue(self.changes("crates/low/proofs/f/Answers.antt", "answer = g\n", "low"))
+        self.assertTrue(self.changes("crates/low/wrong-bodies/one.edit", "file: src/lib.rt\nold: {}\nnew: {2}\n", "low"))
+        self.assertTrue(self.changes("crates/high/src/more.rt", "fn more() {}\n", "high"))
+        self.assertTrue(self.changes("crates.txt", "low: json serde\nhigh: low\n", "high"))
+        self.assertNotEqual(self.sum("low", "kit-1"), self.sum("low", "kit-2"))
+
+    def test_what_leaves_the_sum(self):
+        self.assertFalse(self.changes("crates/low/src/lib.rt", "// another why\n\nfn f() {}\n", "high"))
+        self.assertFalse(self.changes("crates/low/specs/Lib.antt", "-- other words\nf : Nat\n", "low"))
+        self.assertFalse(self.changes("crates/low/proofs/f/Answers.antt", "answer = h\n", "high"))
+        self.assertFalse(self.changes("crates/high/src/lib.rt", "fn g() {}\n", "low"))
+        self.assertFalse(self.changes("crates/low/wrong-bodies/two.edit", "file: src/lib.rt\n", "low"))
+        self.assertFalse(self.changes("crates.txt", "high: low # above\nlow : json\n", "high"))
+
+    def test_a_comment_at_the_end_of_a_line_counts(self):
+        self.assertEqual(sums.said("a // b\n  // c\n\nd\n", ".rt"), "a // b\nd")
+
+
+class Edits(Room):
+    def test_which_there_are(self):
+        self.write("crates/low/must-fail/two.edit", "file: src/lib.rt\n")
+        self.assertEqual([str(it) for it in edits.edits_below(self.root, ("wrong-bodies",))], ["high/wrong-bodies/one", "low/wrong-bodies/one"])
+        self.assertEqual([it.name for it in edits.edits_below(self.root, edits.FOLDERS, ("low",))], ["two", "one"])
+
+    def test_only_bodies(self):
+        self.assertIsNone(edits.body_fault("file: src/lib.rt\nold: a\nnew: b\n"))
+        self.assertIn("specs/", edits.body_fault("file: src/lib.rt\nold: a\nnew: b\nfile: specs/A.antt\n"))
+        self.assertIn("no file", edits.body_fault("old: a\nnew: b\n"))
+
+
+class Records(Room):
+    def test_written_is_read(self):
+        kept = record.Record(self.root / "refused.txt")
+        self.assertEqual(kept.rows(), {})
+        kept.put(edit("b"), "2" * 16, "by-name")
+        kept.put(edit("a"), "1" * 16, "proof")
+        self.assertTrue(kept.stands(edit("a"), "1" * 16))
+        self.assertFalse(kept.stands(edit("a"), "2" * 16))
+        names = [line.split()[1] for line in kept.path.read_text().splitlines()[1:]]
+        self.assertEqual(names, ["low/wrong-bodies/a", "low/wrong-bodies/b"])
+        kept.drop(edit("a"))
+        self.assertEqual(kept.rows(), {"low/wrong-bodies/b": ("2" * 16, "by-name")})
+
+    def test_what_is_no_row_is_left_out(self):
+        self.assertEqual(record.read("# a b\nhalf a\nsum name proof\n"), {"name": ("sum", "proof")})
+
+
+class Choice(unittest.TestCase):
+    def setUp(self):
+        self.edits = [edit(f"e{n}") for n in range(40)]
+        self.sums = {it: "now" for it in self.edits}
+        self.rows = {str(it): ("now", "proof") for it in self.edits[2:]}
+        self.rows[str(self.edits[0])] = "before", "proof"
+
+    def chosen(self, mode, commits=0):
+        return choice.chosen(self.edits, self.sums, self.rows, mode, commits)
+
+    def test_what_is_not_recorded_is_tried(self):
+        for mode in (choice.Mode.PART, choice.Mode.CHANGED):
+            self.assertEqual(self.chosen(mode)[0], self.edits[:2])
+        self.assertEqual(self.chosen(choice.Mode.CHANGED)[1], [])
+        self.assertEqual(self.chosen(choice.Mode.ALL), (self.edits, []))
+
+    def test_each_has_its_turn_in_four_commits(self):
+        turns = [it for commits in range(7, 11) for it in self.chosen(choice.Mode.PART, commits)[1]]
+        self.assertEqual(sorted(turns), sorted(self.edits[2:]))
+
+    def test_crates_begin_elsewhere(self):
+        self.assertEqual(choice.crates_in_turn(["c", "a", "b"], 4), ["b", "c", "a"])
+        self.assertEqual(choice.crates_in_turn([], 4), [])
+
+
+class Judging(unittest.TestCase):
+    def test_how(self):
+        self.assertEqual(kit.how_refused(True, "must-fail a/b.edit: refused, as it must be: src/a.rt:1:1"), "proof")
+        self.assertEqual(kit.how_refused(True, f"must-fail a/b.edit: refused, as it must be ({kit.BY_NAME}, so ..)"), "by-name")
+        self.assertIsNone(kit.how_refused(False, "must-fail a/b.edit: NOT REFUSED"))
+
+
+class Lanes(unittest.TestCase):
+    def test_memory(self):
+        def job(gigabytes):
+            return lanes.Job(list, gigabytes * GB)
+
+        self.assertTrue(lanes.fits(job(50), [], 10 * GB, 1 * GB))
+        self.assertTrue(lanes.fits(job(4), [job(4)], 10 * GB, 5 * GB))
+        self.assertFalse(lanes.fits(job(4), [job(4), job(1)], 10 * GB, 5 * GB))
+        self.assertFalse(lanes.fits(job(4), [job(1)], 10 * GB, 4 * GB))
+
+    def test_what_a_job_gives_is_run(self):
+        done = []
+        later = lanes.Job(lambda: done.append("later") or [], GB)
+        first = lanes.Job(lambda: done.append("first") or [later], GB)
+        self.assertEqual(lanes.in_lanes([first], 2, lambda: 10 * GB), [])
+        self.assertEqual(done, ["first", "later"])
+
+    def test_after_the_deadline_only_what_must(self):
+        done = []
+        must = lanes.Job(lambda: done.append("must") or [], GB)
+        may = lanes.Job(lambda: done.append("may") or [], GB, may_wait=True)
+        self.assertEqual(lanes.in_lanes([may, must], 2, lambda: 10 * GB, deadline=0), [may])
+        self.assertEqual(done, ["must"])
+
+
+if __name__ == "__main__":
+    unittest.main()
