@@ -148,5 +148,5 @@ pub use answered::Answered;
 pub use client::Client;
 pub use naming::Naming;
 pub use opening::Opening;
-pub use comm_versions::{InfoRead, ReadFault, Stamp, StateRead};
+pub use comm_versions::{InfoRead, OpeningFault, ReadFault, Stamp, StateRead};
 pub use shared::{Cause, Farewell, Manager, ShutdownRefused};

@@ -10,14 +10,13 @@ ghost use Rattle.comm_manager.specs.Mine.{IsSettled};
 ghost use Rattle.comm_manager.specs.Names.{Named};
 ghost use Rattle.comm_manager.specs.Who.{all_new};
 ghost use Rattle.comm_manager.specs.Why.{IsMissing, all_here, is_here};
-ghost use Rattle.comm_core.specs.declared.limits.NewFault.TheVariants as fault;
 
 use crate::client::Client;
 use crate::inner::Inner;
 use crate::ledger::Books;
 use crate::naming::Naming;
 use crate::opening::{Opening, first_clients};
-use comm_core::{Core, Entry, NewFault};
+use comm_core::{Core, Entry};
 use comm_targets::Target;
 use comm_versions::{OpeningFault, versions};
 use std::alloc::Global;
@@ -78,10 +77,9 @@ impl<J: Naming, T: Target> Manager<J, T> {
         rt: &R,
         alloc: Global,
         opening: Opening,
-    ) -> Result<(Manager<J, T>, Vec<Client<J>>), NewFault>
+    ) -> Result<(Manager<J, T>, Vec<Client<J>>), OpeningFault>
         requires { Named opening J.book J.ledgers J.limits }
         ensures clients { IfOk result (λ r. r.1.items ≡ all_new J.limits.clients) }
-        ensures err { IfErr result (λ e. e ≡ fault.BadLimits → ⊥) }
     {
         let Opening {
             limits,
@@ -91,15 +89,17 @@ impl<J: Naming, T: Target> Manager<J, T> {
             third,
             fourth,
         } = opening;
-        let (writer, readers) = match versions::<J, R>(rt, alloc, opened, limits.clients, limits.comms) {
-            Ok(both) => both,
-            Err(OpeningFault::Memory) => return Err(NewFault::Memory),
-            Err(OpeningFault::NoReader) => return Err(NewFault::NoReader),
-        };
+        let (writer, readers) = versions::<J, R>(
+            rt,
+            alloc,
+            opened,
+            limits.clients,
+            limits.comms,
+        )?;
         let (books, tickets) = Books::open(first, second, third, fourth);
         let Ok(clients) = first_clients(alloc, readers, tickets) else {
             writer.end(rt);
-            return Err(NewFault::Memory);
+            return Err(OpeningFault::Memory);
         };
         match Core::new(alloc, limits) {
             Ok(core) => {

@@ -1,0 +1,144 @@
+//! All clients at work at once, beside a thread that takes the entries.
+use crate::fault::Fault;
+use crate::working::{Count, Worker, worked};
+use comm_manager::{Client, Manager, Naming};
+use comm_targets::Target;
+use std::alloc::Global;
+use std::rt::Clock;
+use std::sync::Wait;
+use std::sync::atomic::{AtomicBool, AtomicU64, Ordering};
+use std::thread::{Threads, join, yield_now};
+use std::time::Instant;
+
+/// What the threads tell one another.
+#[derive(Drop)]
+pub struct Signals {
+    /// How many writers are at work.
+    pub writing: AtomicU64,
+    /// Whether all clients are done.
+    pub is_over: AtomicBool,
+}
+
+/// A client that comes back from its thread, with what it counted.
+pub type Back<J> = (Client<J>, Result<Count, Fault>);
+
+/// Up to four workers.
+#[derive(Drop)]
+pub struct Workers<J: Naming> {
+    pub first: Option<Worker<J>>,
+    pub second: Option<Worker<J>>,
+    pub third: Option<Worker<J>>,
+    pub fourth: Option<Worker<J>>,
+}
+
+// A thread's work, where there is a client for it.
+fn worked_where<J: Naming, T: Target, R: Wait + Clock>(
+    rt: &R,
+    alloc: Global,
+    manager: &Manager<J, T>,
+    worker: Option<Worker<J>>,
+    signals: &Signals,
+    begun: Instant,
+) -> Option<Back<J>> {
+    let worker = worker?;
+    Some(worked(rt, alloc, manager, worker, &signals.writing, begun))
+}
+
+fn both<J: Naming + Send + Sync, T: Target, R: Threads + Wait + Clock + Sync>(
+    rt: &R,
+    alloc: Global,
+    manager: &Manager<J, T>,
+    workers: (Option<Worker<J>>, Option<Worker<J>>),
+    signals: &Signals,
+    begun: Instant,
+) -> (Option<Back<J>>, Option<Back<J>>) {
+    let (one, two) = workers;
+    join(
+        rt,
+        move || worked_where(rt, alloc, manager, one, signals, begun),
+        move || worked_where(rt, alloc, manager, two, signals, begun),
+    )
+}
+
+// Two threads start two more.
+fn all_four<J: Naming + Send + Sync, T: Target, R: Threads + Wait + Clock + Sync>(
+    rt: &R,
+    alloc: Global,
+    manager: &Manager<J, T>,
+    workers: Workers<J>,
+    signals: &Signals,
+    begun: Instant,
+) -> (
+    (Option<Back<J>>, Option<Back<J>>),
+    (Option<Back<J>>, Option<Back<J>>),
+) {
+    let Workers {
+        first,
+        second,
+        third,
+        fourth,
+    } = workers;
+    join(
+        rt,
+        move || both(rt, alloc, manager, (first, second), signals, begun),
+        move || both(rt, alloc, manager, (third, fourth), signals, begun),
+    )
+}
+
+// All of it, and then the word to the taking thread.
+fn until_over<J: Naming + Send + Sync, T: Target, R: Threads + Wait + Clock + Sync>(
+    rt: &R,
+    alloc: Global,
+    manager: &Manager<J, T>,
+    workers: Workers<J>,
+    signals: &Signals,
+    begun: Instant,
+) -> (
+    (Option<Back<J>>, Option<Back<J>>),
+    (Option<Back<J>>, Option<Back<J>>),
+) {
+    let done = all_four(rt, alloc, manager, workers, signals, begun);
+    signals.is_over.store(true, Ordering::Release);
+    done
+}
+
+// Takes entries until all is over, and gives their number.
+fn taken<J: Naming, T: Target, R: Wait>(
+    rt: &R,
+    manager: &Manager<J, T>,
+    signals: &Signals,
+) -> u64 {
+    let mut taken = 0u64;
+    while !signals.is_over.load(Ordering::Acquire) {
+        match manager.take_next(rt) {
+            Some(_entry) => taken = taken.saturating_add(1),
+            None => yield_now(),
+        }
+    }
+    taken
+}
+
+/// What comes back from the threads: how many entries were taken, and the clients.
+pub type Done<J> = (
+    u64,
+    (
+        (Option<Back<J>>, Option<Back<J>>),
+        (Option<Back<J>>, Option<Back<J>>),
+    ),
+);
+
+/// Lets all workers work, and a thread of its own take what goes out.
+pub fn at_work<J: Naming + Send + Sync, T: Target, R: Threads + Wait + Clock + Sync>(
+    rt: &R,
+    alloc: Global,
+    manager: &Manager<J, T>,
+    workers: Workers<J>,
+    signals: &Signals,
+    begun: Instant,
+) -> Done<J> {
+    join(
+        rt,
+        move || taken(rt, manager, signals),
+        move || until_over(rt, alloc, manager, workers, signals, begun),
+    )
+}
