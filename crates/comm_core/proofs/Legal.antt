@@ -1,5 +1,5 @@
 -- Legal histories, as they grow.
-use Rattle.std.proofs.Common.{◌≡◌, ℕ, Bool, true, false, List, [], ◌∷◌, ◌++◌, refl, ap, sym, ◌∙◌, subst, true≢false, append_assoc}
+use Rattle.std.proofs.Common.{◌≡◌, ℕ, true, false, List, [], ◌∷◌, ◌++◌, refl, ap, sym, ◌∙◌, subst, true≢false, append_assoc}
 use Rattle.comm_core.specs.Machine.{empty}
 use Rattle.comm_core.specs.History.{applied, replay, has_end, Follows, IsLegalAfter, IsLegal}
 use Rattle.comm_core.specs.declared.entry.Entry.{Entry}

@@ -1,11 +1,11 @@
 -- What an entry changes in what readers see.
-use Rattle.std.proofs.Common.{◌≡◌, ℕ, Bool, true, false, not, cond, List, [], ◌∷◌, ◌++◌, Option, None, Some, Ok, Err, refl, ap, sym, ◌∙◌, subst}
+use Rattle.std.proofs.Common.{◌≡◌, ℕ, not, List, [], ◌∷◌, ◌++◌, Option, None, Some, Ok, Err, refl, ap, sym, ◌∙◌}
 use Rattle.comm_value.specs.Tree.{Members}
 use Rattle.comm_targets.specs.declared.answer.Answer.{Answer}
 use Rattle.comm_targets.specs.declared.fault.TargetFault.{TargetFault}
 use Rattle.comm_targets.specs.declared.event.Event.TheVariants as event
 use Rattle.comm_core.specs.Machine.{Name, Machine, at, has, without, ids_of, others, empty, AreDistinct}
-use Rattle.comm_core.specs.Step.{Outcome, Asked, Allowed, asks, judged, step, stated, is_full, holds_widget, comm_id}
+use Rattle.comm_core.specs.Step.{Outcome, Asked, judged, stated, is_full, holds_widget, comm_id}
 use Rattle.comm_core.specs.Reads.{in_order}
 use Rattle.comm_core.specs.Row.{row_in, row_of, rows, stated_row, told_row, with_row}
 use Rattle.comm_core.specs.declared.comm.Comm.{Comm}

@@ -1,5 +1,5 @@
 -- What readers see of a manager's comms, and what an entry changes in it.
-use Rattle.std.specs.Prelude.{List, [], ◌∷◌, Option, Some, None, Ok, Err}
+use Rattle.std.specs.Prelude.{List, [], ◌∷◌, Option, Some, None, Ok}
 use Rattle.std.specs.Ordering.{nat_cmp}
 use Rattle.std.specs.BTreeMap.{insert_entry}
 use Rattle.std.specs.Cmp.Lexicographic.{slice_cmp}

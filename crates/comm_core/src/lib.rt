@@ -36,8 +36,8 @@ pub use laws::{
     comms_have_the_state_that_they_were_given_last, comms_in_order_are_the_comms,
     comms_that_are_listed_were_left_open, exact_machines_leave_no_choice, legal_histories_grow,
     nothing_follows_an_end, prefixes_of_legal_histories_are_legal, refused_calls_change_nothing,
-    replays_are_consistent, replays_grow, rows_are_what_entries_change, some_kinds_have_no_states, steps_keep_machines_exact,
-    widgets_have_their_opening_state_merged_with_their_updates,
+    replays_are_consistent, replays_grow, rows_are_what_entries_change, some_kinds_have_no_states,
+    steps_keep_machines_exact, widgets_have_their_opening_state_merged_with_their_updates,
 };
 pub use limits::{Limits, NewFault};
 pub use manager::{Core, Finished, Ready};

@@ -88,12 +88,7 @@ pub enum Row {
 }
 
 // This comm, with this state.
-fn put(
-    alloc: Global,
-    id: &Text,
-    target: &Text,
-    state: &Option<Dict>,
-) -> Result<Row, AllocError>
+fn put(alloc: Global, id: &Text, target: &Text, state: &Option<Dict>) -> Result<Row, AllocError>
     ensures { IfOk result (λ r. r ≡ put_row id.now target.now state.now) }
 {
     let state = match state {
@@ -118,12 +113,7 @@ fn answered(alloc: Global, question: &Question, answer: &Answer) -> Result<Row, 
     }
 }
 
-fn told(
-    alloc: Global,
-    id: &Text,
-    target: &Text,
-    state: &Option<Dict>,
-) -> Result<Row, AllocError>
+fn told(alloc: Global, id: &Text, target: &Text, state: &Option<Dict>) -> Result<Row, AllocError>
     ensures { IfOk result (λ r. r ≡ stated_row id.now target.now state.now) }
 {
     if state.is_none() {

@@ -1,9 +1,8 @@
-use Rattle.std.proofs.Common.{◌≡◌, Option, None, Some, refl, ap, sym, rules}
+use Rattle.std.proofs.Common.{◌≡◌, None, Some, refl, ap, sym, rules}
 use Rattle.std.specs.Str.{bytes_eq}
 use Rattle.std.specs.Map.{lookup}
 use Rattle.comm_tables.specs.Table.{entries}
 use Rattle.comm_core.specs.Kept.{IsCurrent, pairs_of}
-use Rattle.comm_core.specs.declared.comm.Comm.{Comm}
 use Rattle.comm_core.proofs.Kept.{current_with_state, still_current}
 use Rattle.comm_core.proofs.comms.Comms.set_state.Goals as goal
 
