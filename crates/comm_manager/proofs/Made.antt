@@ -11,7 +11,6 @@ use Rattle.comm_core.specs.declared.limits.Limits.{Limits}
 use Rattle.comm_core.specs.declared.reply.Reply.{Reply}
 use Rattle.comm_versions.proofs.Fronts.{prefix_whole, prefix_length, prefix_shorter}
 use Rattle.comm_manager.specs.Asked.{IsCall, IsNext}
-use Rattle.comm_manager.specs.Journal.{Entries}
 use Rattle.comm_manager.specs.Mine.{IsAnswered, IsSettled, made}
 use Rattle.comm_manager.specs.Tally.{Tally, tally}
 use Rattle.comm_manager.specs.Who.{Who, who}
@@ -51,14 +50,14 @@ heard old new stamp es e is le one pre post =
 abbrev pub who_of : Tally → List Entry → Who
 who_of t seen = who t.client t.number seen
 
-made_more : (limits : Limits) (old new : Who) (before after : Entries) (front : List Entry) (asked : Call) (reply : Reply) (n : ℕ)
-    → old.number ≤ length (mine old.seen old.client) → IsPrefix old.seen before.history → length (mine before.history old.client) ≡ old.number
-    → IsNext before after old.client (old.number + 1) asked reply → IsLegal limits.clients limits.comms after.history → length after.history ≤ limits.history
-    → front ≡ after.history → n ≡ length after.history → new ≡ who old.client (old.number + 1) front
+made_more : (limits : Limits) (old new : Who) (before after : List Entry) (front : List Entry) (asked : Call) (reply : Reply) (n : ℕ)
+    → old.number ≤ length (mine old.seen old.client) → IsPrefix old.seen before → length (mine before old.client) ≡ old.number
+    → IsNext before after old.client (old.number + 1) asked reply → IsLegal limits.clients limits.comms after → length after ≤ limits.history
+    → front ≡ after → n ≡ length after → new ≡ who old.client (old.number + 1) front
     → IsAnswered limits old new asked n reply front × (new.number ≤ length (mine new.seen new.client))
 made_more limits old new before after front asked reply n some pre counted s legal few front_is n_is new_is =
     let c = old.client in
-    let es = before.history in
+    let es = before in
     let e = s.came in
     let whole : front ≡ es ++ e ∷ [] = front_is ∙ s.history_is in
     let same : mine old.seen c ≡ mine es c = prefix_whole (mine old.seen c) (mine es c) (mine_prefix c old.seen es pre) (omega arith) in
@@ -84,11 +83,11 @@ made_more limits old new before after front asked reply n some pre counted s leg
     )
 
 -- what a change leaves of its client
-pub after_change : {A E : Type 0} (r : Result A E) (reply_of : A → Reply) (stamp_of : A → List Entry) (number_of : A → ℕ) (limits : Limits) (asked : Call) (old : Who) (before after : Entries) (seen : List Entry) (t : Tally)
-    → old.number ≤ length (mine old.seen old.client) → IsLegal limits.clients limits.comms after.history → length after.history ≤ limits.history
+pub after_change : {A E : Type 0} (r : Result A E) (reply_of : A → Reply) (stamp_of : A → List Entry) (number_of : A → ℕ) (limits : Limits) (asked : Call) (old : Who) (before after : List Entry) (seen : List Entry) (t : Tally)
+    → old.number ≤ length (mine old.seen old.client) → IsLegal limits.clients limits.comms after → length after ≤ limits.history
     → IfOk r (λ a. IsNext before after old.client (old.number + 1) asked (reply_of a))
-    → IfOk r (λ a. (stamp_of a ≡ after.history) × (number_of a ≡ length after.history)) → IfOk r (λ a. (seen ≡ after.history) × IsPrefix old.seen before.history)
-    → OnOk r ((t ≡ tally old.client (old.number + 1)) × (length (mine before.history old.client) ≡ old.number))
+    → IfOk r (λ a. (stamp_of a ≡ after) × (number_of a ≡ length after)) → IfOk r (λ a. (seen ≡ after) × IsPrefix old.seen before)
+    → OnOk r ((t ≡ tally old.client (old.number + 1)) × (length (mine before old.client) ≡ old.number))
     → OnErr r ((t ≡ tally old.client old.number) × ((seen ≡ old.seen) × (after ≡ before)))
     → (t.number ≤ length (mine seen t.client)) × IfOk r (λ a. IsAnswered limits old (who_of t seen) asked (number_of a) (reply_of a) (stamp_of a))
 after_change (Ok a) reply_of stamp_of number_of limits asked old before after seen t some legal few next stamp saw number err =

@@ -3,17 +3,14 @@ use Rattle.std.specs.Prelude.{ℕ, ◌≡◌, ◌+◌, List, [], ◌∷◌, ◌+
 use Rattle.comm_messages.specs.declared.outgoing.Outgoing.{Outgoing}
 use Rattle.comm_targets.specs.Meaning.{Meaning, IsIdle}
 use Rattle.comm_core.specs.Step.{Outcome}
-use Rattle.comm_core.specs.History.{IsLegal}
 use Rattle.comm_core.specs.Ready.{HandsNothingIn, Readied}
 use Rattle.comm_core.specs.declared.call.Call.{Call}
 use Rattle.comm_core.specs.declared.call.Call.TheVariants as call
 use Rattle.comm_core.specs.declared.entry.Entry.{Entry}
 use Rattle.comm_core.specs.declared.entry.Entry.TheVariants.{Change}
-use Rattle.comm_core.specs.declared.limits.Limits.{Limits}
 use Rattle.comm_core.specs.declared.reply.Reply.{Reply}
 use Rattle.comm_manager.specs.declared.request.Request.{Request}
 use Rattle.comm_manager.specs.declared.request.Request.TheVariants.{Asked, Registering}
-use Rattle.comm_manager.specs.Journal.{Entries}
 
 -- the call that it is
 abbrev pub call_of : {T : Type 0} → (T → Meaning) → Request T → Call
@@ -38,15 +35,8 @@ IsCall e client number asked reply = (outcome : Option Outcome) × (outgoing : L
 abbrev pub entry_of : (client number : ℕ) → Readied → Entry
 entry_of client number r = Change client number r.call r.outcome r.reply r.outgoing
 
--- the entry is the last one now, and nobody has taken it
-pub record IsNext (before after : Entries) (client number : ℕ) (asked : Call) (reply : Reply) : Type 0 where
+-- the entry is the last one now
+pub record IsNext (before after : List Entry) (client number : ℕ) (asked : Call) (reply : Reply) : Type 0 where
   pub came : Entry
   pub is_call : IsCall came client number asked reply
-  pub history_is : after.history ≡ before.history ++ came ∷ []
-  pub waiting_is : after.waiting ≡ before.waiting ++ came ∷ []
-
--- the entry stands in a legal history
-pub record IsOfHistory (limits : Limits) (entry : Entry) : Type 0 where
-  pub before : List Entry
-  pub after : List Entry
-  pub legal : IsLegal limits.clients limits.comms (before ++ entry ∷ after)
+  pub history_is : after ≡ before ++ came ∷ []

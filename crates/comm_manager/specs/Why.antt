@@ -2,7 +2,10 @@
 use Rattle.std.specs.Prelude.{ℕ, zero, suc, ◌≡◌, ◌≤◌, ◌==◌, Bool, true, false, ◌&&◌, List, length}
 use Rattle.std.specs.List.{list_any}
 use Rattle.comm_core.specs.History.{IsLegal}
+use Rattle.comm_core.specs.Limits.{AreAllowed}
 use Rattle.comm_core.specs.declared.limits.Limits.{Limits}
+use Rattle.comm_core.specs.declared.limits.NewFault.{NewFault}
+use Rattle.comm_core.specs.declared.limits.NewFault.TheVariants as fault
 use Rattle.comm_core.specs.declared.entry.Entry.{Entry}
 use Rattle.comm_core.specs.declared.unavailable.Unavailable.{Unavailable}
 use Rattle.comm_core.specs.declared.unavailable.Unavailable.TheVariants.{Memory, HistoryFull, OutboxFull}
@@ -15,6 +18,11 @@ abbrev pub Because : Limits → Unavailable (List Entry) → Type 0
 Because limits (HistoryFull stamp) = (length stamp ≡ limits.history) × IsLegal limits.clients limits.comms stamp
 Because limits (OutboxFull waiting) = limits.outbox ≤ waiting
 Because limits Memory = Unit {0}
+
+-- a limit is out of its bounds; or memory ran out
+abbrev pub Barred : Limits → NewFault → Type 0
+Barred limits fault.BadLimits = AreAllowed limits → ⊥
+Barred limits fault.Memory = AreAllowed limits
 
 -- the client is among these
 abbrev pub is_here : ℕ → List Who → Bool

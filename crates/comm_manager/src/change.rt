@@ -7,7 +7,7 @@ ghost use Rattle.comm_core.specs.Step.{step};
 ghost use Rattle.comm_core.specs.Ready.{CoreValue, IsReady, back_of, machine};
 ghost use Rattle.comm_core.specs.Tables.{IdleWhere};
 ghost use Rattle.comm_manager.specs.Asked.{IsNext, MayAsk, boxed_of, call_of, entry_of};
-ghost use Rattle.comm_manager.specs.Kept.{IsKept, Rests};
+ghost use Rattle.comm_manager.specs.Kept.{IsKept, Puts, Rests};
 ghost use Rattle.comm_manager.specs.Tally.{tally};
 ghost use Rattle.comm_manager.specs.Why.{Because};
 
@@ -19,6 +19,7 @@ use crate::request::Request;
 use comm_core::{
     Core, Entry, Finished, Limits, Ready, Reply, Unavailable, legal_histories_grow, replays_grow,
 };
+use comm_outbox::Outbox;
 use comm_targets::{Held, Target};
 use comm_versions::{Change, Stamp, VersionReader, VersionWriter};
 use std::alloc::{AllocError, Global};
@@ -31,15 +32,16 @@ pub struct Made<J: Naming, T: Target> {
     pub ended: Option<Held<T>>,
 }
 
-/// A change that stands ready, with its entry for the history and for the list of those that nobody has taken.
+/// A change that stands ready, with its entry for the history and for the queue.
 struct Staged<T: Target> {
     ready: Ready<T>,
     kept: Arc<Entry, Global>,
     sent: Arc<Entry, Global>,
 }
 
-/// What is left of a change once the tables have it.
+/// What is left of a change once the tables have it: its entry for the queue, and what it came to.
 struct Done<T: Target> {
+    sent: Arc<Entry, Global>,
     reply: Reply,
     back: Option<T>,
     ended: Option<Held<T>>,
@@ -104,17 +106,16 @@ fn stage<J: Naming, T: Target>(
     }
 }
 
-// Makes the change that stands ready, and adds its entry. Nothing here takes memory or can fail.
+// Makes the change that stands ready, and adds its entry to the history. Nothing here takes memory or can fail.
 fn carry_out<T: Target>(core: &mut Core<T>, journal: &mut Journal, staged: Staged<T>) -> Done<T>
     requires ready { IsReady core.old staged.ready }
     requires room { journal.old.room ≡ true }
-    requires same { arc_value staged.sent ≡ arc_value staged.kept }
     ensures step { step core.old.limit (machine core.old) staged.ready.call staged.ready.outcome ≡ Some (record { reply = staged.ready.reply; outgoing = staged.ready.outgoing; next = machine core.new }) }
     ensures reply { result.reply ≡ staged.ready.reply }
     ensures settled { core.new.settled ≡ true }
     ensures limit { core.new.limit ≡ core.old.limit }
-    ensures history { journal.new.all.history ≡ journal.old.all.history ++ arc_value staged.kept ∷ [] }
-    ensures waiting { journal.new.all.waiting ≡ journal.old.all.waiting ++ arc_value staged.kept ∷ [] }
+    ensures history { journal.new.all ≡ journal.old.all ++ arc_value staged.kept ∷ [] }
+    ensures sent { arc_value result.sent ≡ arc_value staged.sent }
     ensures back { option_map T.means result.back ≡ back_of staged.ready.reply staged.ready.boxed }
     ensures idle { IdleWhere result.ended }
 {
@@ -125,8 +126,13 @@ fn carry_out<T: Target>(core: &mut Core<T>, journal: &mut Journal, staged: Stage
         ended,
         back,
     } = core.finish(ready);
-    journal.add(kept, sent);
-    Done { reply, back, ended }
+    journal.add(kept);
+    Done {
+        sent,
+        reply,
+        back,
+        ended,
+    }
 }
 
 // Publishes what is pending, and lets the reader hear of it.
@@ -149,22 +155,26 @@ fn tell<J: Naming, R: Wait>(
     stamp
 }
 
-// Why no change can be made now, if so.
-fn refusal<J: Naming>(
+// Why no change can be made now, if so. Else a place of the queue was found free, and one more.
+fn refusal<J: Naming, R: Wait>(
+    rt: &R,
     limits: &Limits,
     writer: &VersionWriter<J>,
-    waiting: usize,
+    outbox: &mut Outbox,
 ) -> Option<Unavailable<Stamp<J>>>
     requires limits { limits.now ≡ J.limits }
     requires few { length writer.now.front ≤ J.limits.history }
-    ensures { MatchOption result ((length writer.now.front < J.limits.history) × (waiting < J.limits.outbox)) (λ e. Because J.limits e) }
+    requires puts { Puts J.queue J.limits writer.now.front outbox.old }
+    ensures why { MatchOption result ((length writer.now.front < J.limits.history) × (2 ≤ outbox.new.room)) (λ e. Because J.limits e) }
+    ensures puts { Puts J.queue J.limits writer.now.front outbox.new }
 {
     let stamp = writer.stamp();
     if stamp.number() >= limits.history {
         return Some(Unavailable::HistoryFull(stamp));
     }
-    if waiting >= limits.outbox {
-        return Some(Unavailable::OutboxFull(waiting as u64));
+    let waiting = outbox.waiting(rt);
+    if waiting >= limits.outbox as u64 {
+        return Some(Unavailable::OutboxFull(waiting));
     }
     None
 }
@@ -181,9 +191,9 @@ fn compare<J: Naming, R: Wait>(rt: &R, reader: &VersionReader<J>, made: usize)
     unreachable!()
 }
 
-/// One change of a client, in its order: room in the history and for those that nobody has taken; what is asked is readied; the entry
-/// is made, and is to be published; the change is made, and its entry added; it is published, and its client hears of it. A refusal comes
-/// before the change is made, and takes everything back.
+/// One change of a client, in its order: room in the history and in the queue; what is asked is readied; the entry is made, and is to be
+/// published; the change is made, and its entry added; it is published, its client hears of it, and it goes out. A refusal comes before the change
+/// is made, and takes everything back.
 pub fn perform<J: Naming, T: Target, R: Wait>(
     rt: &R,
     alloc: Global,
@@ -191,20 +201,23 @@ pub fn perform<J: Naming, T: Target, R: Wait>(
     core: &mut Core<T>,
     journal: &mut Journal,
     writer: &mut VersionWriter<J>,
+    outbox: &mut Outbox,
     books: &mut Books<J>,
     reader: &mut VersionReader<J>,
     ticket: &mut Ticket<J>,
     request: Request<T>,
 ) -> Result<Made<J, T>, (Unavailable<Stamp<J>>, Option<T>)>
     requires limits { limits.now ≡ J.limits }
-    requires kept { IsKept J.limits journal.old.all.history core.old writer.old books.old }
+    requires kept { IsKept J.limits journal.old.all core.old writer.old books.old }
+    requires puts { Puts J.queue J.limits journal.old.all outbox.old }
     requires below { ticket.old.client < J.limits.clients }
     requires may { MayAsk T.means request }
-    ensures kept { IsKept J.limits journal.new.all.history core.new writer.new books.new }
+    ensures kept { IsKept J.limits journal.new.all core.new writer.new books.new }
+    ensures puts { Puts J.queue J.limits journal.new.all outbox.new }
     ensures next { IfOk result (λ m. IsNext journal.old.all journal.new.all ticket.old.client (ticket.old.number + 1) (call_of T.means request) m.answered.reply) }
-    ensures stamp { IfOk result (λ m. (m.answered.stamp ≡ journal.new.all.history) × (m.answered.number ≡ length journal.new.all.history)) }
-    ensures seen { IfOk result (λ m. (reader.new ≡ journal.new.all.history) × IsPrefix reader.old journal.old.all.history) }
-    ensures ticket { OnOk result ((ticket.new ≡ tally ticket.old.client (ticket.old.number + 1)) × (length (mine journal.old.all.history ticket.old.client) ≡ ticket.old.number)) }
+    ensures stamp { IfOk result (λ m. (m.answered.stamp ≡ journal.new.all) × (m.answered.number ≡ length journal.new.all)) }
+    ensures seen { IfOk result (λ m. (reader.new ≡ journal.new.all) × IsPrefix reader.old journal.old.all) }
+    ensures ticket { OnOk result ((ticket.new ≡ tally ticket.old.client (ticket.old.number + 1)) × (length (mine journal.old.all ticket.old.client) ≡ ticket.old.number)) }
     ensures back { IfOk result (λ m. option_map T.means m.back ≡ back_of m.answered.reply (boxed_of T.means request)) }
     ensures idle { IfOk result (λ m. IdleWhere m.ended) }
     ensures err { OnErr result ((ticket.new ≡ ticket.old) × (reader.new ≡ reader.old) × (journal.new.all ≡ journal.old.all)) }
@@ -212,7 +225,7 @@ pub fn perform<J: Naming, T: Target, R: Wait>(
     ensures boxed { IfErr result (λ e. option_map T.means e.1 ≡ boxed_of T.means request) }
 {
     replays_grow();
-    if let Some(why) = refusal(limits, writer, journal.waiting()) {
+    if let Some(why) = refusal(rt, limits, writer, outbox) {
         return Err((why, request.into_boxed()));
     }
     if journal.reserve().is_err() {
@@ -223,18 +236,18 @@ pub fn perform<J: Naming, T: Target, R: Wait>(
     let who = (ticket.client(), ticket.number() + 1);
     match stage(alloc, core, writer, who, request) {
         Ok(staged) => {
-            let Done { reply, back, ended } = carry_out(core, journal, staged);
+            let done = carry_out(core, journal, staged);
             let stamp = tell(rt, writer, reader);
+            outbox.put(rt, done.sent);
             books.count(ticket);
-            let number = stamp.number();
             Ok(Made {
                 answered: Answered {
-                    number,
-                    reply,
+                    number: stamp.number(),
+                    reply: done.reply,
                     stamp,
                 },
-                back,
-                ended,
+                back: done.back,
+                ended: done.ended,
             })
         }
         Err(back) => Err((Unavailable::Memory, back)),

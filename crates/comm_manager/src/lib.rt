@@ -141,12 +141,15 @@ mod journal;
 mod ledger;
 mod naming;
 mod opening;
+mod publisher;
 mod request;
 mod shared;
 
 pub use answered::Answered;
 pub use client::Client;
 pub use naming::Naming;
+pub use inner::Farewell;
 pub use opening::Opening;
+pub use publisher::Publisher;
 pub use comm_versions::{InfoRead, OpeningFault, ReadFault, Stamp, StateRead};
-pub use shared::{Cause, Farewell, Manager, ShutdownRefused};
+pub use shared::{Cause, Manager, ShutdownRefused};

@@ -1,13 +1,15 @@
 //! What a manager is made of before it has a name.
-ghost use Rattle.std.specs.Prelude.{◌≡◌, ◌↔◌, ◌≤◌, ◌++◌, [], ◌∷◌, All, IsOk, IfOk, IfErr, nat_lt, ◌+◌, ◌<◌, monus, vec_len, if◌then◌else◌};
+ghost use Rattle.std.specs.Prelude.{◌≡◌, ◌≤◌, ◌++◌, [], ◌∷◌, All, IfOk, IfErr, nat_lt, ◌+◌, ◌<◌, monus, vec_len, if◌then◌else◌};
 ghost use Rattle.comm_core.specs.Limits.{AreAllowed};
 ghost use Rattle.comm_manager.specs.Tally.{tally};
-ghost use Rattle.comm_manager.specs.Who.{Who, who, all_new};
+ghost use Rattle.comm_manager.specs.Who.{who, all_new};
+ghost use Rattle.comm_manager.specs.Why.{Barred};
 
 use crate::client::Client;
 use crate::ledger::{Ticket, Tickets};
 use crate::naming::Naming;
 use comm_core::{Limits, NewFault};
+use comm_outbox::{Outbox, outbox};
 use comm_versions::{Opened, VersionReader};
 use std::alloc::{AllocError, Global};
 use std::marker::Model;
@@ -18,6 +20,8 @@ use std::sync::ledger::Blank;
 pub struct Opening {
     pub(crate) limits: Limits,
     pub(crate) opened: Opened,
+    pub(crate) outbox: Outbox,
+    pub(crate) publisher: comm_outbox::Publisher,
     pub(crate) first: Blank,
     pub(crate) second: Blank,
     pub(crate) third: Blank,
@@ -25,35 +29,41 @@ pub struct Opening {
 }
 
 impl Model for Opening {
-    ghost use Rattle.std.specs.Prelude.{◌≡◌};
+    ghost use Rattle.std.specs.Prelude.{◌≡◌, ◌+◌};
     ghost use Rattle.comm_core.specs.Limits.{AreAllowed};
+    ghost use Rattle.comm_outbox.specs.Sides.{unfilled, untouched};
     ghost use Rattle.comm_manager.specs.Names.{Names};
 
     ghost Value = { Names };
 
-    ghost view = { λ o. record { book = o.opened.seen.book; first = o.first.name; second = o.second.name; third = o.third.name; fourth = o.fourth.name; limits = o.limits } };
+    ghost view = { λ o. record { book = o.opened.seen.book; first = o.first.name; second = o.second.name; third = o.third.name; fourth = o.fourth.name; queue = o.outbox.line; limits = o.limits } };
 
-    ghost invariant = { λ o. (o.first.parts ≡ 1) × (o.second.parts ≡ 1) × (o.third.parts ≡ 1) × (o.fourth.parts ≡ 1) × AreAllowed o.limits };
+    ghost invariant = { λ o. (o.first.parts ≡ 1) × (o.second.parts ≡ 1) × (o.third.parts ≡ 1) × (o.fourth.parts ≡ 1) × AreAllowed o.limits × (o.outbox ≡ unfilled o.outbox.line o.limits.clients o.limits.comms (o.limits.outbox + 1)) × (o.publisher ≡ untouched o.outbox.line o.limits.clients o.limits.comms) };
 }
 
 impl Opening {
-    /// BadLimits exactly where a limit is out of its bounds.
-    pub fn new(limits: Limits) -> Result<Opening, NewFault>
-        ensures allowed { IsOk result ↔ AreAllowed limits }
-        ensures limits { IfOk result (λ o. o.limits ≡ limits) }
-        ensures err { IfErr result (λ e. e ≡ NewFault.BadLimits) }
+    /// BadLimits exactly where a limit is out of its bounds, and Memory for want of it.
+    pub fn new(alloc: Global, limits: Limits) -> Result<Opening, NewFault>
+        ensures limits { IfOk result (λ o. (o.limits ≡ limits) × AreAllowed limits) }
+        ensures err { IfErr result (λ e. Barred limits e) }
     {
         if !limits.are_allowed() {
             return Err(NewFault::BadLimits);
         }
-        Ok(Opening {
-            limits,
-            opened: Opened::new(),
-            first: Blank::new(1),
-            second: Blank::new(1),
-            third: Blank::new(1),
-            fourth: Blank::new(1),
-        })
+        // One place more than entries may wait: for an end.
+        match outbox(alloc, limits.outbox + 1, limits.clients, limits.comms) {
+            Ok((outbox, publisher)) => Ok(Opening {
+                limits,
+                opened: Opened::new(),
+                outbox,
+                publisher,
+                first: Blank::new(1),
+                second: Blank::new(1),
+                third: Blank::new(1),
+                fourth: Blank::new(1),
+            }),
+            Err(_) => Err(NewFault::Memory),
+        }
     }
 }
 

@@ -11,13 +11,13 @@ use Rattle.comm_manager.proofs.change.perform.Goals as goal
 pub overflow_add-who : goal.overflow_add-who
 overflow_add-who g c =
     let t = c.args.ticket.now in
-    let few = small g.J.History.limits c.args.journal.now.all.history c.args.core.now c.args.writer.now c.args.books.now t.client t.number c.requires.kept c.audit.ensures.known.0 c.audit.ensures.known.1 in
+    let few = small g.J.History.limits c.args.journal.now.all c.args.core.now c.args.writer.now c.args.books.now t.client t.number c.requires.kept c.audit.ensures.known.0 c.audit.ensures.known.1 in
     let same : c.audit.new.ticket.number ≡ t.number = ap (λ (x : Tally). x.number) c.audit.ensures.same.1 in
     omega arith
 
 pub count-requires : goal.count-requires
 count-requires g c =
     let t = c.args.ticket.now in
-    let few = small g.J.History.limits c.args.journal.now.all.history c.args.core.now c.args.writer.now c.args.books.now t.client t.number c.requires.kept c.audit.ensures.known.0 c.audit.ensures.known.1 in
+    let few = small g.J.History.limits c.args.journal.now.all c.args.core.now c.args.writer.now c.args.books.now t.client t.number c.requires.kept c.audit.ensures.known.0 c.audit.ensures.known.1 in
     let same : c.audit.new.ticket.number ≡ t.number = ap (λ (x : Tally). x.number) c.audit.ensures.same.1 in
     omega arith

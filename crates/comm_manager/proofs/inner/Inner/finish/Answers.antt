@@ -10,8 +10,8 @@ use Rattle.comm_manager.proofs.Growing.{has_end-end, counts-end}
 use Rattle.comm_manager.proofs.inner.Inner.finish.Goals as goal
 
 pub gather-requires-clause-ended : goal.gather-requires-clause-ended
-gather-requires-clause-ended g c = ap has_end c.in-Ok.ensures.stamp.0 ∙ has_end-end c.self.inside.journal.all.history
+gather-requires-clause-ended g c = ap has_end c.in-Ok.ensures.stamp.0 ∙ has_end-end c.self.inside.journal.all
 
 pub gather-requires-clause-books : goal.gather-requires-clause-books
 gather-requires-clause-books g c =
-    c.self.invariant.0.totals_are ∙ sym (counts-end c.self.inside.journal.all.history) ∙ ap counts (sym c.in-Ok.ensures.stamp.0)
+    c.self.invariant.0.totals_are ∙ sym (counts-end c.self.inside.journal.all) ∙ ap counts (sym c.in-Ok.ensures.stamp.0)
