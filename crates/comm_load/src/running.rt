@@ -9,7 +9,7 @@ use crate::threads::{Back, Done, Signals, Workers, at_work};
 use crate::told::Told;
 use crate::working::{Count, Role, Worker};
 use comm_core::Limits;
-use comm_manager::{Client, Manager, Naming, Opening, ShutdownRefused};
+use comm_manager::{Client, Manager, Naming, Opening, Publisher, ShutdownRefused};
 use comm_targets::Target;
 use std::alloc::Global;
 use std::marker::Brand;
@@ -85,8 +85,11 @@ impl<J: Naming> Gathered<J> {
 }
 
 // The clients of all threads, and what they counted.
-fn gathered<J: Naming>(alloc: Global, done: Done<J>) -> Result<(u64, Gathered<J>), Fault> {
-    let (taken, ((first, second), (third, fourth))) = done;
+fn gathered<J: Naming>(
+    alloc: Global,
+    done: Done<J>,
+) -> Result<(Publisher<J>, Gathered<J>), Fault> {
+    let (publisher, ((first, second), (third, fourth))) = done;
     let mut all = Gathered {
         clients: Vec::new(alloc),
         count: Count::NONE,
@@ -95,7 +98,7 @@ fn gathered<J: Naming>(alloc: Global, done: Done<J>) -> Result<(u64, Gathered<J>
     all.add(second)?;
     all.add(third)?;
     all.add(fourth)?;
-    Ok((taken, all))
+    Ok((publisher, all))
 }
 
 // Opens the comms, and lets all threads work.
@@ -104,9 +107,10 @@ fn worked<J: Naming + Send + Sync, T: Target, R: Threads + Wait + Clock + Sync>(
     alloc: Global,
     manager: &Manager<J, T>,
     clients: Vec<Client<J>>,
+    publisher: Publisher<J>,
     load: &Load,
     target: T,
-) -> Result<(u64, Gathered<J>), Fault>
+) -> Result<(Publisher<J>, Gathered<J>), Fault>
     requires { IsIdle (T.means target) }
 {
     let mut clients = clients;
@@ -118,17 +122,21 @@ fn worked<J: Naming + Send + Sync, T: Target, R: Threads + Wait + Clock + Sync>(
         is_over: AtomicBool::new(false),
     };
     let begun = Instant::now(rt)?;
-    gathered(alloc, at_work(rt, alloc, manager, workers, &signals, begun))
+    gathered(
+        alloc,
+        at_work(rt, alloc, manager, workers, publisher, &signals, begun),
+    )
 }
 
 fn ended<J: Naming, T: Target, R: Wait>(
     rt: &R,
     manager: Manager<J, T>,
-    taken: u64,
+    publisher: Publisher<J>,
     gathered: Gathered<J>,
 ) -> Result<Told, Fault> {
     let Gathered { clients, count } = gathered;
-    match manager.shutdown(rt, clients) {
+    let taken = publisher.taken();
+    match manager.shutdown(rt, clients, publisher) {
         Ok(farewell) => Ok(Told {
             changes: count.changes,
             reads: count.reads,
@@ -143,6 +151,7 @@ fn ended<J: Naming, T: Target, R: Wait>(
                 cause: _cause,
                 manager,
                 clients: _clients,
+                publisher: _publisher,
             } = refused;
             manager.discard(rt);
             Err(Fault::Surprising)
@@ -157,12 +166,12 @@ fn opened<J: Naming + Send + Sync, T: Target, R: Threads + Wait + Clock + Sync>(
     load: &Load,
     target: T,
 ) -> Result<Told, Fault>
-    requires named { Named opening J.book J.ledgers J.limits }
+    requires named { Named opening J.book J.ledgers J.queue J.limits }
     requires target { IsIdle (T.means target) }
 {
-    let (manager, clients) = Manager::<J, T>::open(rt, alloc, opening)?;
-    match worked(rt, alloc, &manager, clients, load, target) {
-        Ok((taken, all)) => ended(rt, manager, taken, all),
+    let (manager, clients, publisher) = Manager::<J, T>::open(rt, alloc, opening)?;
+    match worked(rt, alloc, &manager, clients, publisher, load, target) {
+        Ok((publisher, all)) => ended(rt, manager, publisher, all),
         Err(fault) => {
             manager.discard(rt);
             Err(fault)
@@ -179,11 +188,12 @@ pub fn run<T: Target, R: Threads + Wait + Clock + Sync>(
 ) -> Result<Told, Fault>
     requires { IsIdle (T.means target) }
 {
-    let opening = Opening::new(Limits {
+    let limits = Limits {
         clients: load.writers.saturating_add(load.readers),
         comms: 4_096,
         history: 20_000_000,
         outbox: 65_536,
-    })?;
+    };
+    let opening = Opening::new(alloc, limits)?;
     opened::<Brand, T, R>(rt, alloc, opening, load, target)
 }

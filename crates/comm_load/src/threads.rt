@@ -1,7 +1,7 @@
 //! All clients at work at once, beside a thread that takes the entries.
 use crate::fault::Fault;
 use crate::working::{Count, Worker, worked};
-use comm_manager::{Client, Manager, Naming};
+use comm_manager::{Client, Manager, Naming, Publisher};
 use comm_targets::Target;
 use std::alloc::Global;
 use std::rt::Clock;
@@ -102,25 +102,23 @@ fn until_over<J: Naming + Send + Sync, T: Target, R: Threads + Wait + Clock + Sy
     done
 }
 
-// Takes entries until all is over, and gives their number.
-fn taken<J: Naming, T: Target, R: Wait>(
+// Takes entries until all is over.
+fn taken<J: Naming, R: Wait>(
     rt: &R,
-    manager: &Manager<J, T>,
+    mut publisher: Publisher<J>,
     signals: &Signals,
-) -> u64 {
-    let mut taken = 0u64;
+) -> Publisher<J> {
     while !signals.is_over.load(Ordering::Acquire) {
-        match manager.take_next(rt) {
-            Some(_entry) => taken = taken.saturating_add(1),
-            None => yield_now(),
+        if publisher.take(rt).is_none() {
+            yield_now();
         }
     }
-    taken
+    publisher
 }
 
-/// What comes back from the threads: how many entries were taken, and the clients.
+/// What comes back from the threads: the publisher, and the clients.
 pub type Done<J> = (
-    u64,
+    Publisher<J>,
     (
         (Option<Back<J>>, Option<Back<J>>),
         (Option<Back<J>>, Option<Back<J>>),
@@ -133,12 +131,13 @@ pub fn at_work<J: Naming + Send + Sync, T: Target, R: Threads + Wait + Clock + S
     alloc: Global,
     manager: &Manager<J, T>,
     workers: Workers<J>,
+    publisher: Publisher<J>,
     signals: &Signals,
     begun: Instant,
 ) -> Done<J> {
     join(
         rt,
-        move || taken(rt, manager, signals),
+        move || taken(rt, publisher, signals),
         move || until_over(rt, alloc, manager, workers, signals, begun),
     )
 }

@@ -55,7 +55,7 @@
 //!     opening: Opening,
 //!     widgets: T,
 //! ) -> Result<(), Fault>
-//!     requires named { Named opening J.book J.ledgers J.limits }
+//!     requires named { Named opening J.book J.ledgers J.queue J.limits }
 //!     requires idle { IsIdle (T.means widgets) }
 //! {
 //!     let (manager, clients) = Manager::<J, T>::open(rt, alloc, opening)?;
@@ -88,7 +88,7 @@
 //! ghosts-serve-J-History g a = record { book = a.opening.book; limits = a.opening.limits }
 //!
 //! abbrev pub ghosts-serve-J-Naming : goal.ghosts-serve-J-Naming
-//! ghosts-serve-J-Naming g a = record { ledgers = named a.opening.first a.opening.second a.opening.third a.opening.fourth }
+//! ghosts-serve-J-Naming g a = record { ledgers = named a.opening.first a.opening.second a.opening.third a.opening.fourth; queue = a.opening.queue }
 //! ```
 //!
 //! A shell thread has a client, and answers each message of the frontend by a change:

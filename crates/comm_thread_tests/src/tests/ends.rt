@@ -5,7 +5,7 @@ ghost use Rattle.comm_targets.specs.Meaning.{IsIdle};
 use crate::tests::named::{Play, named};
 use crate::tests::words::{Told, Wrong, answer, empty, holds, limits, shut};
 use comm_core::Entry;
-use comm_manager::{Client, Manager, Naming, ShutdownRefused};
+use comm_manager::{Cause, Client, Manager, Naming, Publisher, ShutdownRefused};
 use comm_targets::{Answer, Echo, Event, Kind, Target, TargetFault};
 use comm_value::{Dict, Text};
 use std::alloc::Global;
@@ -19,18 +19,21 @@ fn shut_with<J: Naming, T: Target, R: Wait>(
     rt: &R,
     manager: Manager<J, T>,
     clients: Vec<Client<J>>,
+    publisher: Publisher<J>,
     other: Client<J>,
 ) -> Result<(), Wrong> {
-    match manager.shutdown(rt, clients) {
+    match manager.shutdown(rt, clients, publisher) {
         Ok(_) => Err(Wrong),
         Err(refused) => {
             let ShutdownRefused {
-                cause: _cause,
+                cause,
                 manager,
                 mut clients,
+                publisher,
             } = refused;
             let is_whole = clients.push(other).is_ok() && clients.len() == 2;
-            let farewell = shut(rt, manager, clients)?;
+            let farewell = shut(rt, manager, clients, publisher)?;
+            holds(cause == Cause::MissingClients)?;
             holds(is_whole && farewell.history.len() == 1 && farewell.untaken.len() == 1)?;
             holds(matches!(&*farewell.history[0], Entry::End))
         }
@@ -42,10 +45,11 @@ pub fn shut_twice<J: Naming, T: Target, R: Wait>(
     rt: &R,
     manager: Manager<J, T>,
     clients: Vec<Client<J>>,
+    publisher: Publisher<J>,
 ) -> Result<(), Wrong> {
     let mut clients = clients;
     match clients.pop() {
-        Some(last) => shut_with(rt, manager, clients, last),
+        Some(last) => shut_with(rt, manager, clients, publisher, last),
         None => {
             manager.discard(rt);
             Err(Wrong)
@@ -167,10 +171,11 @@ fn ended<J: Naming, T: Target, R: Wait>(
     how: How,
     manager: Manager<J, T>,
     clients: Vec<Client<J>>,
+    publisher: Publisher<J>,
 ) -> Result<(), Wrong> {
     match how {
         How::Shutdown => {
-            let farewell = shut(rt, manager, clients)?;
+            let farewell = shut(rt, manager, clients, publisher)?;
             holds(farewell.history.len() == 3 && farewell.untaken.len() == 3)
         }
         How::Unregister | How::Discard => {
@@ -186,6 +191,7 @@ pub fn ending<J: Naming, T: Target, R: Wait>(
     alloc: Global,
     manager: Manager<J, T>,
     clients: Vec<Client<J>>,
+    publisher: Publisher<J>,
     how: How,
     target: T,
 ) -> Result<(), Wrong>
@@ -202,7 +208,7 @@ pub fn ending<J: Naming, T: Target, R: Wait>(
         How::Shutdown | How::Discard => Ok(()),
     };
     let is_back = clients.push(client).is_ok();
-    let end = ended(rt, how, manager, clients);
+    let end = ended(rt, how, manager, clients, publisher);
     done?;
     gone?;
     end?;

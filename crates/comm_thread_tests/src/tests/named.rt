@@ -37,18 +37,18 @@ fn opened<J: Naming + Send + Sync, T: Target, R: Threads + Wait + Sync>(
     target: T,
     other: T,
 ) -> Result<(), Wrong>
-    requires named { Named opening J.book J.ledgers J.limits }
+    requires named { Named opening J.book J.ledgers J.queue J.limits }
     requires target { IsIdle (T.means target) }
     requires other { IsIdle (T.means other) }
 {
-    let Ok((manager, clients)) = Manager::<J, T>::open(rt, alloc, opening) else {
+    let Ok((manager, clients, publisher)) = Manager::<J, T>::open(rt, alloc, opening) else {
         return Err(Wrong);
     };
     match play {
-        Play::Threads => threaded(rt, alloc, manager, clients, target),
-        Play::Limit(limit) => limited(rt, alloc, manager, clients, limit),
-        Play::ShutTwice => shut_twice(rt, manager, clients),
-        Play::Ending(how) => ending(rt, alloc, manager, clients, how, target),
+        Play::Threads => threaded(rt, alloc, manager, clients, publisher, target),
+        Play::Limit(limit) => limited(rt, alloc, manager, clients, publisher, limit),
+        Play::ShutTwice => shut_twice(rt, manager, clients, publisher),
+        Play::Ending(how) => ending(rt, alloc, manager, clients, publisher, how, target),
         Play::Tour => toured(rt, alloc, manager, clients, target, other),
         Play::Hearing => heard(rt, alloc, manager, clients, target),
         Play::HeldOpen(moments) => held_open(rt, alloc, manager, clients, target, moments),
@@ -67,7 +67,7 @@ pub fn named<T: Target, R: Threads + Wait + Sync>(
     requires target { IsIdle (T.means target) }
     requires other { IsIdle (T.means other) }
 {
-    match Opening::new(limits) {
+    match Opening::new(alloc, limits) {
         Ok(opening) => opened::<Brand, T, R>(rt, alloc, opening, play, target, other),
         Err(_) => Err(Wrong),
     }

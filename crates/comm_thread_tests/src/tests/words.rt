@@ -2,7 +2,7 @@
 ghost use Rattle.std.specs.Prelude.{◌≡◌, ⊤};
 
 use comm_core::{Entry, Limits, Reply, StateAnswer, Unavailable};
-use comm_manager::{Answered, Client, Farewell, Manager, Naming, ReadFault, ShutdownRefused, Stamp};
+use comm_manager::{Answered, Client, Farewell, Manager, Naming, Publisher, ReadFault, ShutdownRefused, Stamp};
 use comm_messages::{Body, Outgoing};
 use comm_targets::Target;
 use comm_value::{Buffers, Dict, Text, Val, Whole};
@@ -144,14 +144,16 @@ pub fn shut<J: Naming, T: Target, R: Wait>(
     rt: &R,
     manager: Manager<J, T>,
     clients: Vec<Client<J>>,
+    publisher: Publisher<J>,
 ) -> Result<Farewell, Wrong> {
-    match manager.shutdown(rt, clients) {
+    match manager.shutdown(rt, clients, publisher) {
         Ok(farewell) => Ok(farewell),
         Err(refused) => {
             let ShutdownRefused {
                 cause: _cause,
                 manager,
                 clients: _clients,
+                publisher: _publisher,
             } = refused;
             manager.discard(rt);
             Err(Wrong)
