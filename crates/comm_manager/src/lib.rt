@@ -26,23 +26,23 @@
 //! |---|---|
 //! | A target that was handed in comes back as it was, unless it is registered | `back`, `boxed` of [`Client::register`] |
 //! | A read, or a stamp that is heard, leaves the client's changes | `made` of the reads and of [`Client::hear`] |
-//! | What is taken stands in a legal history, and what nobody has taken ends the whole one | [`Manager::take_next`], `untaken` of [`Manager::shutdown`] |
-//! | A shutdown is refused for MissingClients just where a client is missing, and else for want of memory alone; the manager and the clients come back as they were | `missing`, `err` of [`Manager::shutdown`] |
-//! | The clients of a new manager are those of its limits, in the order of their numbers, and have made no change and seen nothing | `clients` of [`Manager::open`] |
+//! | What is taken is the history from its beginning, each entry once and in its order: it grows by the very entry, and is legal; and with what was left it is the whole history | `next`, `legal` of [`Publisher::take`], `untaken` of [`Manager::shutdown`] |
+//! | A shutdown is refused for MissingClients just where a client is missing, and else for want of memory alone; the manager, the clients and the publisher come back as they were | `missing`, `err` of [`Manager::shutdown`] |
+//! | The clients of a new manager are those of its limits, in the order of their numbers, and have made no change and seen nothing; its publisher has taken nothing | `clients`, `publisher` of [`Manager::open`] |
 //! | There is no manager just where a limit is out of its bounds; or memory ran out, or the versions had no place for a reader | [`Opening::new`], [`Manager::open`] |
 //!
 //! The history lies under one lock, with the tables and the targets, and all of this is the type of what lies there, so it is true whenever the
-//! lock is got (`specs/Kept`): the history is legal, within the limits, and is what is published to the readers; the tables and the targets are
+//! lock is got (`specs/Kept`): the history is legal, within the limits, and is what is published to the readers and was put into the queue; the tables and the targets are
 //! those after it, with nothing staged; and it has of each client as many entries as that client's ledger says, whose one share the client has. The
 //! calls under the lock say more than the public ones, since there the history has a name (`src/inner.rt`).
 //!
-//! Premises: a boxed target keeps the contract of `Target`; a call that waits for the lock is spoken of if it returns. That clients and stamps are
-//! used with the manager that they came with is no premise: they share a type parameter, the manager's name. After [`Manager::discard`] nobody
+//! Premises: a boxed target keeps the contract of `Target`; a call that waits for the lock is spoken of if it returns. That clients, publisher and
+//! stamps are used with the manager that they came with is no premise: they share a type parameter, the manager's name. After [`Manager::discard`] nobody
 //! holds the one history.
 //!
-//! Reads take no lock and can't wait: they have no [`Wait`](std::sync::Wait). Of the loops that try again, there is one here: a change of a client
+//! Reads take no lock and can't wait: they have no [`Wait`](std::sync::Wait). A publisher enters no lock either, but may wait for the queue. Of the loops that try again, there is one here: a change of a client
 //! that had seen more than the history under the lock wouldn't return (`src/change.rt`). None can have, but that is known only of a history that has ended.
-//! `comm_versions` says of its own loops why they end.
+//! `comm_versions` and `comm_outbox` say of their loops why they end.
 //!
 //! # How a kernel uses it
 //!
@@ -58,9 +58,9 @@
 //!     requires named { Named opening J.book J.ledgers J.queue J.limits }
 //!     requires idle { IsIdle (T.means widgets) }
 //! {
-//!     let (manager, clients) = Manager::<J, T>::open(rt, alloc, opening)?;
-//!     let clients = both(rt, &manager, clients, widgets);   // a shell thread and a publishing thread, joined
-//!     match manager.shutdown(rt, clients) {
+//!     let (manager, clients, publisher) = Manager::<J, T>::open(rt, alloc, opening)?;
+//!     let (clients, publisher) = both(rt, &manager, clients, publisher, widgets);  // a shell thread and a publishing thread
+//!     match manager.shutdown(rt, clients, publisher) {
 //!         Ok(farewell) => ..                                // the whole history, and what wasn't sent
 //!         Err(refused) => ..                                // take it apart, and discard its manager
 //!     }
@@ -73,7 +73,7 @@
 //! fn named<T: Target, R: Threads + Wait + Sync>(rt: &R, alloc: Global, widgets: T) -> Result<(), Fault>
 //!     requires { IsIdle (T.means widgets) }
 //! {
-//!     let opening = Opening::new(LIMITS)?;
+//!     let opening = Opening::new(alloc, LIMITS)?;
 //!     serve::<Brand, T, R>(rt, alloc, opening, widgets)
 //! }
 //! ```
@@ -105,7 +105,7 @@
 //! and a publishing thread writes what goes out, in the order of the history:
 //!
 //! ```text
-//! while let Some(entry) = manager.take_next(rt) {
+//! while let Some(entry) = publisher.take(rt) {
 //!     if let Entry::Change { client, number, outgoing, .. } = &*entry {
 //!         for message in outgoing.as_slice() {
 //!             send(message, &Parent::Call { client: *client, number: *number })?;
