@@ -10,7 +10,7 @@ use crate::ledger::{Ticket, Tickets};
 use crate::naming::Naming;
 use comm_core::{Limits, NewFault};
 use comm_outbox::{Outbox, outbox};
-use comm_versions::{Opened, VersionReader};
+use comm_versions::{BlankHistory, VersionReader};
 use std::alloc::{AllocError, Global};
 use std::marker::Model;
 use std::sync::ledger::Blank;
@@ -19,7 +19,7 @@ use std::sync::ledger::Blank;
 #[derive(Drop)]
 pub struct Opening {
     pub(crate) limits: Limits,
-    pub(crate) opened: Opened,
+    pub(crate) history: BlankHistory,
     pub(crate) outbox: Outbox,
     pub(crate) publisher: comm_outbox::Publisher,
     pub(crate) first: Blank,
@@ -36,7 +36,7 @@ impl Model for Opening {
 
     ghost Value = { Names };
 
-    ghost view = { λ o. record { book = o.opened.seen.book; first = o.first.name; second = o.second.name; third = o.third.name; fourth = o.fourth.name; queue = o.outbox.line; limits = o.limits } };
+    ghost view = { λ o. record { book = o.history; first = o.first.name; second = o.second.name; third = o.third.name; fourth = o.fourth.name; queue = o.outbox.line; limits = o.limits } };
 
     ghost invariant = { λ o. (o.first.parts ≡ 1) × (o.second.parts ≡ 1) × (o.third.parts ≡ 1) × (o.fourth.parts ≡ 1) × AreAllowed o.limits × (o.outbox ≡ unfilled o.outbox.line o.limits.clients o.limits.comms (o.limits.outbox + 1)) × (o.publisher ≡ untouched o.outbox.line o.limits.clients o.limits.comms) };
 }
@@ -54,7 +54,7 @@ impl Opening {
         match outbox(alloc, limits.outbox + 1, limits.clients, limits.comms) {
             Ok((outbox, publisher)) => Ok(Opening {
                 limits,
-                opened: Opened::new(),
+                history: BlankHistory::new(),
                 outbox,
                 publisher,
                 first: Blank::new(1),

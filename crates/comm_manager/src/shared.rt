@@ -77,7 +77,7 @@ impl<J: Naming, T: Target> Manager<J, T> {
     {
         let Opening {
             limits,
-            opened,
+            history,
             outbox,
             publisher,
             first,
@@ -88,7 +88,7 @@ impl<J: Naming, T: Target> Manager<J, T> {
         let (writer, readers) = versions::<J, R>(
             rt,
             alloc,
-            opened,
+            history,
             limits.clients,
             limits.comms,
         )?;
