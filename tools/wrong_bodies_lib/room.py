@@ -7,9 +7,17 @@ PARTS = ("src", "specs", "proofs", "wrong-bodies", "must-fail")
 
 
 def copied(source, target):
-    """Copies a folder as fast as the file system can."""
     target.parent.mkdir(parents=True, exist_ok=True)
-    subprocess.run(["cp", "-a", "--reflink=auto", str(source), str(target)], check=True)
+    subprocess.run(["cp", "-a", str(source), str(target)], check=True)
+
+
+def linked(source, target):
+    """A folder with the same files, as hard links where the file system can: what the prover makes it puts in a new file's place, and
+    never into one that is there, so neither folder sees what becomes of the other."""
+    target.parent.mkdir(parents=True, exist_ok=True)
+    if subprocess.run(["cp", "-al", str(source), str(target)], stderr=subprocess.DEVNULL).returncode:
+        shutil.rmtree(target, ignore_errors=True)
+        copied(source, target)
 
 
 class Room:
@@ -31,7 +39,7 @@ class Room:
                 if (folder / part).is_dir():
                     copied(folder / part, self.top / "crates" / folder.name / part)
             if folder.name in needed and (folder / "out/rlib").is_dir():
-                copied(folder / "out/rlib", self.top / "crates" / folder.name / "out/rlib")
+                linked(folder / "out/rlib", self.top / "crates" / folder.name / "out/rlib")
         for name in wanted:
             self.bring_kept(name)
 
@@ -39,7 +47,7 @@ class Room:
         """What the repository's own checks of the crate kept, so that only what changed since is checked again."""
         kept = self.root / "crates" / name / "out/incremental"
         if kept.is_dir() and not self.kept(name).exists():
-            copied(kept, self.kept(name))
+            linked(kept, self.kept(name))
 
     def kept(self, name):
         return self.top / "crates" / name / "out/incremental"
@@ -48,7 +56,7 @@ class Room:
         """The kept work of a crate anew, for one trial."""
         made = self.at / "lanes" / str(number)
         shutil.rmtree(made, ignore_errors=True)
-        copied(self.kept(name), made)
+        linked(self.kept(name), made)
         return made
 
     def leave(self, number):

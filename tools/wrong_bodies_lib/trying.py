@@ -179,5 +179,5 @@ class Run:
                 self.told.failed[edit] = "; ".join(text.splitlines())
                 self.record.drop(edit)
             self.done += 1
-            self.say(f"{self.done} of {self.count}: {edit}: {how or 'FAILED'}, {time.monotonic() - began:.0f} s")
+            self.say(f"{self.done} of {self.count}: {edit}: {how or 'FAILED: ' + self.told.failed[edit]}, {time.monotonic() - began:.0f} s")
         return []
