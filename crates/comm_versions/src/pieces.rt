@@ -110,11 +110,7 @@ fn set_piece(
 }
 
 // The comm in its place, or in place of the one of its id.
-fn put_in(
-    alloc: Global,
-    pieces: Vec<Piece>,
-    comm: &OpenComm,
-) -> Result<Vec<Piece>, AllocError>
+fn put_in(alloc: Global, pieces: Vec<Piece>, comm: &OpenComm) -> Result<Vec<Piece>, AllocError>
     requires filled { AllFilled pieces.items }
     requires ordered { IsInOrder (flat pieces.items) }
     ensures put { IfOk result (λ all. flat all.items ≡ put (flat pieces.items) comm.now) }
@@ -153,11 +149,7 @@ fn take_out(alloc: Global, pieces: Vec<Piece>, id: &Text) -> Result<Vec<Piece>, 
 }
 
 // The pieces without the comms of these ids.
-fn take_all(
-    alloc: Global,
-    pieces: Vec<Piece>,
-    ids: &[Text],
-) -> Result<Vec<Piece>, AllocError>
+fn take_all(alloc: Global, pieces: Vec<Piece>, ids: &[Text]) -> Result<Vec<Piece>, AllocError>
     requires filled { AllFilled pieces.items }
     requires ordered { IsInOrder (flat pieces.items) }
     ensures out { IfOk result (λ all. flat all.items ≡ without_all ids.now (flat pieces.items)) }
