@@ -69,14 +69,19 @@ fn ask<T: Target>(
             }),
             Err(_) => {
                 boxes.abandon(&question.name);
+                drop(question);
+                drop(answer);
                 Err(AllocError)
             }
         },
         Err(fault) => {
             if is_memory(fault) {
+                drop(question);
                 return Err(AllocError);
             }
-            let (reply, outgoing) = refused(alloc, &question.event, fault)?;
+            let refusal = refused(alloc, &question.event, fault);
+            drop(question);
+            let (reply, outgoing) = refusal?;
             Ok(Came {
                 outcome: Some(Err(fault)),
                 reply,

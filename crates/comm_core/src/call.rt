@@ -1,4 +1,5 @@
 ghost use Rattle.std.specs.Prelude.{◌≡◌, IfOk};
+ghost use Rattle.comm_core.specs.declared.call.Call.TheVariants as call;
 
 use comm_messages::Body;
 use comm_targets::Kind;
@@ -77,34 +78,84 @@ impl Call {
                 target,
                 version,
                 body,
-            } => Ok(Call::Open {
-                id: id.copy()?,
-                target: target.copy()?,
-                version: version_copy(version)?,
-                body: body.copy(alloc)?,
-            }),
-            Call::Msg { id, body } => Ok(Call::Msg {
-                id: id.copy()?,
-                body: body.copy(alloc)?,
-            }),
+            } => open_copy(alloc, id, target, version, body),
+            Call::Msg { id, body } => {
+                let (id, body) = told_copy(alloc, id, body)?;
+                Ok(Call::Msg { id, body })
+            }
             Call::Close { id } => Ok(Call::Close { id: id.copy()? }),
             Call::Unregister { name } => Ok(Call::Unregister { name: name.copy()? }),
-            Call::Launch { id, target, state } => Ok(Call::Launch {
-                id: *id,
-                target: target.copy()?,
-                state: state.copy()?,
-            }),
-            Call::Push { id, state } => Ok(Call::Push {
-                id: id.copy()?,
-                state: state.copy()?,
-            }),
-            Call::Send { id, body } => Ok(Call::Send {
-                id: id.copy()?,
-                body: body.copy(alloc)?,
-            }),
+            Call::Launch { id, target, state } => {
+                let (target, state) = state_copy(target, state)?;
+                Ok(Call::Launch {
+                    id: *id,
+                    target,
+                    state,
+                })
+            }
+            Call::Push { id, state } => {
+                let (id, state) = state_copy(id, state)?;
+                Ok(Call::Push { id, state })
+            }
+            Call::Send { id, body } => {
+                let (id, body) = told_copy(alloc, id, body)?;
+                Ok(Call::Send { id, body })
+            }
             Call::HangUp { id } => Ok(Call::HangUp { id: id.copy()? }),
         }
     }
+}
+
+fn open_copy(
+    alloc: Global,
+    id: &Text,
+    target: &Text,
+    version: &Option<Text>,
+    body: &Body,
+) -> Result<Call, AllocError>
+    ensures { IfOk result (λ c. c ≡ call.Open id.now target.now version.now body.now) }
+{
+    let (id, body) = told_copy(alloc, id, body)?;
+    let names = names_copy(target, version);
+    match names {
+        Ok((target, version)) => Ok(Call::Open {
+            id,
+            target,
+            version,
+            body,
+        }),
+        Err(fault) => {
+            drop(body);
+            Err(fault)
+        }
+    }
+}
+
+// A comm's id and a body.
+fn told_copy(alloc: Global, id: &Text, body: &Body) -> Result<(Text, Body), AllocError>
+    ensures { IfOk result (λ c. c ≡ (id.now, body.now)) }
+{
+    let id = id.copy()?;
+    let body = body.copy(alloc)?;
+    Ok((id, body))
+}
+
+// A name and a state.
+fn state_copy(name: &Text, state: &Dict) -> Result<(Text, Dict), AllocError>
+    ensures { IfOk result (λ c. c ≡ (name.now, state.now)) }
+{
+    let name = name.copy()?;
+    let state = state.copy()?;
+    Ok((name, state))
+}
+
+// A target's name and a version.
+fn names_copy(target: &Text, version: &Option<Text>) -> Result<(Text, Option<Text>), AllocError>
+    ensures { IfOk result (λ c. c ≡ (target.now, version.now)) }
+{
+    let target = target.copy()?;
+    let version = version_copy(version)?;
+    Ok((target, version))
 }
 
 fn version_copy(version: &Option<Text>) -> Result<Option<Text>, AllocError>

@@ -107,10 +107,17 @@ impl<T: Target> Ready<T> {
     ) -> Result<Arc<Entry, Global>, AllocError>
         ensures { IfOk result (λ e. arc_value e ≡ Change client number self.now.call self.now.outcome self.now.reply self.now.outgoing) }
     {
-        let call = self.call.copy(alloc)?;
-        let outcome = outcome_copy(alloc, &self.begun.outcome)?;
-        let reply = self.begun.reply.copy(alloc)?;
         let outgoing = Outgoings::copy_of(alloc, &self.begun.outgoing)?;
+        let reply = self.begun.reply.copy(alloc)?;
+        let Ok(outcome) = outcome_copy(alloc, &self.begun.outcome) else {
+            drop(reply);
+            return Err(AllocError);
+        };
+        let Ok(call) = self.call.copy(alloc) else {
+            drop(outcome);
+            drop(reply);
+            return Err(AllocError);
+        };
         Ok(Arc::new(
             alloc,
             Entry::Change {

@@ -1,5 +1,5 @@
 //! How the plan of a call is carried out, and how it is taken back.
-ghost use Rattle.std.specs.Prelude.{◌≡◌, ◌<◌, Option, None, Some, Ok, option_map};
+ghost use Rattle.std.specs.Prelude.{◌≡◌, ◌<◌, Option, None, Some, Ok, OnOk, option_map};
 ghost use Rattle.comm_targets.specs.Meaning.{Meaning};
 ghost use Rattle.comm_core.specs.Machine.{at, AreDistinct};
 ghost use Rattle.comm_core.specs.Step.{Outcome, answered, without_comm, stated, without_target};
@@ -15,6 +15,7 @@ use crate::plan::Plan;
 use crate::question::Question;
 use comm_targets::{Answer, Event, Held, Target, TargetFault};
 use comm_value::{Dict, Text};
+use std::alloc::AllocError;
 
 /// What a change gives beside its reply.
 pub struct Made<T: Target> {
@@ -30,6 +31,17 @@ impl<T: Target> Made<T> {
     {
         Made { ended: None, back }
     }
+}
+
+/// Makes room for what a plan may add: a target, or a comm.
+pub fn make_room<T: Target>(boxes: &mut Boxes<T>, comms: &mut Comms) -> Result<(), AllocError>
+    ensures boxes { boxes.new.all ≡ boxes.old.all }
+    ensures comms { comms.new.all ≡ comms.old.all }
+    ensures room { OnOk result (0 < boxes.new.room) }
+    ensures space { OnOk result (0 < comms.new.room) }
+{
+    boxes.reserve()?;
+    comms.reserve()
 }
 
 /// Carries the plan out.
@@ -51,19 +63,27 @@ pub fn make<T: Target>(
     ensures back { option_map T.means result.back ≡ back_by plan (option_map T.means boxed) }
 {
     match plan {
-        Plan::Nothing => Made::ending_none(boxed),
-        Plan::Register { name, .. } => match boxed {
-            Some(target) => {
-                boxes.push(name, Held::new(target));
-                Made::ending_none(None)
+        Plan::Nothing => {
+            drop(outcome);
+            Made::ending_none(boxed)
+        }
+        Plan::Register { name, .. } => {
+            drop(outcome);
+            match boxed {
+                Some(target) => {
+                    boxes.push(name, Held::new(target));
+                    Made::ending_none(None)
+                }
+                None => Made::ending_none(None),
             }
-            None => Made::ending_none(None),
-        },
+        }
         Plan::Unregister { name } => {
+            drop(outcome);
             let ended = unregister(boxes, comms, &name);
             Made { ended, back: boxed }
         }
         Plan::Close { id } => {
+            drop(outcome);
             close(boxes, comms, &id);
             Made::ending_none(boxed)
         }
@@ -72,8 +92,14 @@ pub fn make<T: Target>(
                 commit(boxes, comms, question, answer);
                 Made::ending_none(boxed)
             }
-            Some(Err(_)) => Made::ending_none(boxed),
-            None => Made::ending_none(boxed),
+            Some(Err(_)) => {
+                drop(question);
+                Made::ending_none(boxed)
+            }
+            None => {
+                drop(question);
+                Made::ending_none(boxed)
+            }
         },
     }
 }
@@ -89,27 +115,44 @@ fn commit<T: Target>(boxes: &mut Boxes<T>, comms: &mut Comms, question: Question
     boxes.commit(&question.name);
     let Question {
         name,
-        state: _,
+        state: before,
         event,
     } = question;
-    let state = answer.state;
+    let Answer {
+        state,
+        messages,
+        custom,
+    } = answer;
+    drop((before, messages, custom));
     match event {
-        Event::Open { id, .. } => comms.insert(
-            id,
-            Comm {
-                target: name,
-                state,
-            },
-        ),
-        Event::Launch { id, .. } => comms.insert(
-            id,
-            Comm {
-                target: name,
-                state,
-            },
-        ),
-        Event::Msg { id, .. } => note_state(comms, &id, state),
-        Event::Push { id, .. } => note_state(comms, &id, state),
+        Event::Open { id, version, body } => {
+            drop((version, body));
+            comms.insert(
+                id,
+                Comm {
+                    target: name,
+                    state,
+                },
+            );
+        }
+        Event::Launch { id, state: values } => {
+            drop(values);
+            comms.insert(
+                id,
+                Comm {
+                    target: name,
+                    state,
+                },
+            );
+        }
+        Event::Msg { id, body } => {
+            drop(body);
+            note_state(comms, &id, state);
+        }
+        Event::Push { id, state: values } => {
+            drop(values);
+            note_state(comms, &id, state);
+        }
     }
 }
 
@@ -117,8 +160,9 @@ fn commit<T: Target>(boxes: &mut Boxes<T>, comms: &mut Comms, question: Question
 fn note_state(comms: &mut Comms, id: &Text, state: Option<Dict>)
     ensures { (c : Comm) → at comms.old.all id.now ≡ Some c → comms.new.all ≡ stated comms.old.all id.now c.target state }
 {
-    if let Some(state) = state {
-        comms.set_state(id, state);
+    match state {
+        Some(state) => comms.set_state(id, state),
+        None => {}
     }
 }
 
@@ -130,6 +174,7 @@ fn close<T: Target>(boxes: &mut Boxes<T>, comms: &mut Comms, id: &Text)
 {
     if let Some(comm) = comms.take(id) {
         boxes.close(&comm.target, id);
+        drop(comm);
     }
 }
 

@@ -8,6 +8,7 @@ ghost use Rattle.comm_core.specs.Ready.{HandsNothingIn};
 ghost use Rattle.comm_core.specs.Plans.{verdict_of, IsFeasible};
 ghost use Rattle.comm_core.specs.declared.call.Call.{Call};
 ghost use Rattle.comm_core.specs.declared.call.Call.TheVariants as call;
+ghost use Rattle.comm_core.specs.declared.plan.Judged.TheVariants as judged;
 
 use crate::boxes::Boxes;
 use crate::call::Call;
@@ -46,11 +47,13 @@ pub fn judge<T: Target>(
         Call::Msg { id, body } => judge_msg(boxes, comms, alloc, id, body),
         Call::Close { id } => Ok(judge_close(comms, alloc, id)),
         Call::Unregister { name } => judge_unregister(boxes, comms, alloc, name),
-        Call::Launch { id, target, state } => {
-            let id = comm_id(alloc, &id)?;
-            let target = boxes.shared(target)?;
-            Ok(judge_launch(boxes, comms, limit, alloc, id, target, state))
-        }
+        Call::Launch { id, target, state } => match launched(boxes, alloc, &id, target) {
+            Ok((id, target)) => Ok(judge_launch(boxes, comms, limit, alloc, id, target, state)),
+            Err(fault) => {
+                drop(state);
+                Err(fault)
+            }
+        },
         Call::Push { id, state } => judge_push(boxes, comms, alloc, id, state),
         Call::Send { id, body } => judge_send(comms, alloc, id, body),
         Call::HangUp { id } => judge_hang_up(comms, alloc, id),
@@ -89,20 +92,29 @@ fn judge_open<T: Target>(
     ensures feasible { IfOk result (λ j. IsFeasible boxes.now.all comms.now.all (call.Open id target version body) j) }
 {
     if comms.contains(&id) {
+        drop((version, body));
         return Ok(stays(alloc, Reply::IdInUse));
     }
     if !boxes.contains(&target) {
+        drop((version, body));
         return refused_open(alloc, id, Refusal::NoTarget);
     }
     if comms.is_full(limit) {
+        drop((version, body));
         return refused_open(alloc, id, Refusal::TooManyComms);
     }
-    let name = boxes.shared(target)?;
-    Ok(Judged::Asked(Question {
-        name,
-        state: None,
-        event: Event::Open { id, version, body },
-    }))
+    let event = Event::Open { id, version, body };
+    match boxes.shared(target) {
+        Ok(name) => Ok(Judged::Asked(Question {
+            name,
+            state: None,
+            event,
+        })),
+        Err(fault) => {
+            drop(event);
+            Err(fault)
+        }
+    }
 }
 
 fn judge_msg<T: Target>(
@@ -116,16 +128,35 @@ fn judge_msg<T: Target>(
     ensures verdict { (limit : ℕ) → IfOk result (λ j. verdict_of (machine_of boxes.now.all comms.now.all) j ≡ judged limit (machine_of boxes.now.all comms.now.all) (call.Msg id body)) }
     ensures feasible { IfOk result (λ j. IsFeasible boxes.now.all comms.now.all (call.Msg id body) j) }
 {
-    let Some(comm) = comms.get(&id) else {
-        return Ok(stays(alloc, Reply::NoComm));
-    };
-    let name = comm.target.copy()?;
-    let state_now = state_copy(comm)?;
-    Ok(Judged::Asked(Question {
-        name,
-        state: state_now,
-        event: Event::Msg { id, body },
-    }))
+    match comms.get(&id) {
+        Some(comm) => asked(comm, Event::Msg { id, body }),
+        None => {
+            drop(body);
+            Ok(stays(alloc, Reply::NoComm))
+        }
+    }
+}
+
+/// The question to the target of this comm.
+fn asked(comm: &Comm, event: Event) -> Result<Judged, AllocError>
+    ensures { IfOk result (λ j. j ≡ judged.Asked (record { name = comm.now.target; state = comm.now.state; event = event })) }
+{
+    match comm_copy(comm) {
+        Ok((name, state)) => Ok(Judged::Asked(Question { name, state, event })),
+        Err(fault) => {
+            drop(event);
+            Err(fault)
+        }
+    }
+}
+
+/// The name of the comm's target and the comm's state, shared.
+fn comm_copy(comm: &Comm) -> Result<(Text, Option<Dict>), AllocError>
+    ensures { IfOk result (λ c. c ≡ (comm.now.target, comm.now.state)) }
+{
+    let target = comm.target.copy()?;
+    let state = state_copy(comm)?;
+    Ok((target, state))
 }
 
 /// The comm's state, shared.
@@ -169,6 +200,20 @@ fn judge_unregister<T: Target>(
     ))
 }
 
+/// The comm's id, and the target's name, which shares the memory of the target's own.
+fn launched<T: Target>(
+    boxes: &Boxes<T>,
+    alloc: Global,
+    id: &Uuid,
+    target: Text,
+) -> Result<(Text, Text), AllocError>
+    ensures { IfOk result (λ r. r ≡ (comm_id id.now, target)) }
+{
+    let id = comm_id(alloc, id)?;
+    let target = boxes.shared(target)?;
+    Ok((id, target))
+}
+
 fn judge_launch<T: Target>(
     boxes: &Boxes<T>,
     comms: &Comms,
@@ -182,15 +227,19 @@ fn judge_launch<T: Target>(
     ensures feasible { (uuid : List ℕ) → IsFeasible boxes.now.all comms.now.all (call.Launch uuid target state) result }
 {
     if comms.contains(&id) {
+        drop(state);
         return stays(alloc, Reply::IdInUse);
     }
     if !boxes.contains(&target) {
+        drop(state);
         return stays(alloc, Reply::NoTarget);
     }
     if !boxes.has_widget(&target) {
+        drop(state);
         return stays(alloc, Reply::NotWidget);
     }
     if comms.is_full(limit) {
+        drop(state);
         return stays(alloc, Reply::OpenRefused(Refusal::TooManyComms));
     }
     Judged::Asked(Question {
@@ -212,18 +261,14 @@ fn judge_push<T: Target>(
     ensures feasible { IfOk result (λ j. IsFeasible boxes.now.all comms.now.all (call.Push id state) j) }
 {
     let Some(comm) = comms.get(&id) else {
+        drop(state);
         return Ok(stays(alloc, Reply::NoComm));
     };
     if !boxes.has_widget(&comm.target) {
+        drop(state);
         return Ok(stays(alloc, Reply::NotWidget));
     }
-    let name = comm.target.copy()?;
-    let state_now = state_copy(comm)?;
-    Ok(Judged::Asked(Question {
-        name,
-        state: state_now,
-        event: Event::Push { id, state },
-    }))
+    asked(comm, Event::Push { id, state })
 }
 
 fn judge_send(comms: &Comms, alloc: Global, id: Text, body: Body) -> Result<Judged, AllocError>
@@ -231,6 +276,7 @@ fn judge_send(comms: &Comms, alloc: Global, id: Text, body: Body) -> Result<Judg
     ensures feasible { (boxes : Targets) → IfOk result (λ j. IsFeasible boxes comms.now.all (call.Send id body) j) }
 {
     if !comms.contains(&id) {
+        drop(body);
         return Ok(stays(alloc, Reply::NoComm));
     }
     let outgoing = one(alloc, Outgoing::Msg { id, body })?;

@@ -1,11 +1,16 @@
 //! What goes out.
-ghost use Rattle.std.specs.Prelude.{◌≡◌, [], ◌∷◌, IfOk, map, codes};
+ghost use Rattle.std.specs.Prelude.{◌≡◌, [], ◌∷◌, false, IfOk, map, codes};
+ghost use Rattle.comm_value.specs.Tree.{member, no_members};
+ghost use Rattle.comm_value.specs.View.{tree};
+ghost use Rattle.comm_value.specs.Put.{insert};
+ghost use Rattle.comm_value.specs.Places.{has_bytes, members_have_bytes};
+ghost use Rattle.comm_value.specs.Paths.{paths_tree};
 ghost use Rattle.comm_messages.specs.declared.outgoing.Outgoing.TheVariants as out;
 ghost use Rattle.comm_core.specs.Step.{comm_id, opening_of, sent};
 
 use comm_messages::{Body, Outgoing};
 use comm_targets::Bodies;
-use comm_value::{Dict, Text, Val, paths_val, separate};
+use comm_value::{Dict, Path, Separated, Text, Val, paths_val, separate};
 use std::alloc::{AllocError, Global};
 use uuid::Uuid;
 
@@ -78,15 +83,45 @@ pub fn launching(
 fn opening_of(alloc: Global, state: &Dict) -> Result<Body, AllocError>
     ensures { IfOk result (λ b. b ≡ opening_of state.now) }
 {
-    let parts = separate(alloc, state)?;
-    let paths = paths_val(alloc, parts.paths.as_slice())?;
-    let content = Dict::new().insert(alloc, Text::copy_of(alloc, "buffer_paths")?, paths)?;
-    let content = content.insert(
-        alloc,
-        Text::copy_of(alloc, "state")?,
-        Val::Dict(parts.plain),
-    )?;
-    Ok(Body::new(content, parts.buffers))
+    let Separated {
+        plain,
+        paths,
+        buffers,
+    } = separate(alloc, state)?;
+    match places(alloc, paths.as_slice()) {
+        Ok(content) => {
+            let content = with(alloc, content, "state", Val::Dict(plain))?;
+            Ok(Body::new(content, buffers))
+        }
+        Err(fault) => {
+            drop(plain);
+            Err(fault)
+        }
+    }
+}
+
+/// The member that says where bytes stood.
+fn places(alloc: Global, paths: &[Path]) -> Result<Dict, AllocError>
+    ensures listed { IfOk result (λ d. d ≡ member (codes "buffer_paths") (paths_tree paths.now) no_members) }
+    ensures no_bytes { IfOk result (λ d. members_have_bytes d ≡ false) }
+{
+    let paths = paths_val(alloc, paths)?;
+    with(alloc, Dict::new(), "buffer_paths", paths)
+}
+
+/// The content with one member more.
+fn with(alloc: Global, content: Dict, key: &str, value: Val) -> Result<Dict, AllocError>
+    ensures inserted { IfOk result (λ d. d ≡ insert key.now (tree value) content) }
+    ensures no_bytes { has_bytes (tree value) ≡ false → members_have_bytes content ≡ false → IfOk result (λ d. members_have_bytes d ≡ false) }
+{
+    match Text::copy_of(alloc, key) {
+        Ok(key) => content.insert(alloc, key, value),
+        Err(fault) => {
+            drop(content);
+            drop(value);
+            Err(fault)
+        }
+    }
 }
 
 /// The comm id of a UUID: its hyphenated text, in small letters.

@@ -108,12 +108,17 @@ fn placed_at(
 ) -> Result<Dict, LineFault>
     ensures { Gives (λ d. d) result (placed_at (read_paths (option_map tree paths)) buffers state) }
 {
-    match paths_in(alloc, &paths) {
+    let read = paths_in(alloc, &paths);
+    drop(paths);
+    match read {
         Ok(paths) => match put_all(alloc, state, &paths, buffers) {
             Ok(state) => Ok(state),
             Err(fault) => Err(LineFault::Value(fault)),
         },
-        Err(fault) => Err(LineFault::Value(fault)),
+        Err(fault) => {
+            drop(state);
+            Err(LineFault::Value(fault))
+        }
     }
 }
 
@@ -123,9 +128,21 @@ fn state_in(alloc: Global, object: Fields<'_, '_>, line: Fields<'_, '_>) -> Resu
     ensures { Gives (λ d. d) result (state_in (fields object.entry) (fields line.entry)) }
 {
     let state = whole_dict(alloc, object)?;
-    let paths = whole_value(alloc, member(line, "buffer_paths"))?;
-    let buffers = buffers_of(alloc, member(line, "buffers"))?;
-    placed_at(alloc, paths, buffers, state)
+    let paths = match whole_value(alloc, member(line, "buffer_paths")) {
+        Ok(paths) => paths,
+        Err(fault) => {
+            drop(state);
+            return Err(fault);
+        }
+    };
+    match buffers_of(alloc, member(line, "buffers")) {
+        Ok(buffers) => placed_at(alloc, paths, buffers, state),
+        Err(fault) => {
+            drop(paths);
+            drop(state);
+            Err(LineFault::Message(fault))
+        }
+    }
 }
 
 #[tactic(auto, unfolding(crate::specs::Command::register_in))]
@@ -161,9 +178,19 @@ fn launched(alloc: Global, name: &str, uuid: &str, state: Dict) -> Result<Asked,
     ensures asked { Gives (λ a. a) result (launched name.now uuid.now state) }
     ensures handless { IfOk result HandsNothing }
 {
-    let id = uuid_of(uuid)?;
-    let target = Text::copy_of(alloc, name)?;
-    Ok(Asked::Change(Call::Launch { id, target, state }))
+    match uuid_of(uuid) {
+        Ok(id) => match Text::copy_of(alloc, name) {
+            Ok(target) => Ok(Asked::Change(Call::Launch { id, target, state })),
+            Err(fault) => {
+                drop(state);
+                Err(LineFault::from(fault))
+            }
+        },
+        Err(fault) => {
+            drop(state);
+            Err(fault)
+        }
+    }
 }
 
 #[tactic(auto, unfolding(crate::specs::Command::launch_in))]
@@ -187,8 +214,8 @@ fn push_in(alloc: Global, line: Fields<'_, '_>) -> Result<Asked, LineFault>
     let id = text_field(Key::Id, "id", line)?;
     let object = object_field(Key::State, "state", line)?;
     list_field(line)?;
-    let state = state_in(alloc, object, line)?;
     let id = Text::copy_of(alloc, id)?;
+    let state = state_in(alloc, object, line)?;
     Ok(Asked::Change(Call::Push { id, state }))
 }
 
@@ -200,8 +227,8 @@ fn send_in(alloc: Global, line: Fields<'_, '_>) -> Result<Asked, LineFault>
     let id = text_field(Key::Id, "id", line)?;
     let object = object_field(Key::Data, "data", line)?;
     list_field(line)?;
-    let body = body_of(alloc, object, line)?;
     let id = Text::copy_of(alloc, id)?;
+    let body = body_of(alloc, object, line)?;
     Ok(Asked::Change(Call::Send { id, body }))
 }
 

@@ -110,8 +110,9 @@ impl<T: Target> Session<T> {
         exact_machines_leave_no_choice();
         steps_keep_machines_exact();
         let (reply, outgoing) = self.core.step(call)?;
-        self.answer(alloc, client, &reply, &outgoing, text)?;
-        Ok(())
+        let answered = self.answer(alloc, client, &reply, &outgoing, text);
+        drop(reply);
+        answered
     }
 
     /// Registers the first target of the kind that the stock has.
@@ -145,8 +146,9 @@ impl<T: Target> Session<T> {
             Some(target) => match self.core.register(name, target) {
                 Ok((reply, back)) => {
                     self.stock.put_back(back);
-                    self.answer(alloc, client, &reply, &[], text)?;
-                    Ok(())
+                    let answered = self.answer(alloc, client, &reply, &[], text);
+                    drop(reply);
+                    answered
                 }
                 Err((_, _target)) => Err(AllocError),
             },
@@ -167,13 +169,10 @@ impl<T: Target> Session<T> {
     {
         let comms = self.core.listing(target)?;
         let front = self.changes;
-        append_out(
-            alloc,
-            &Outgoing::InfoReply { comms },
-            &Parent::Read { client, front },
-            text,
-        )?;
-        Ok(())
+        let message = Outgoing::InfoReply { comms };
+        let written = append_out(alloc, &message, &Parent::Read { client, front }, text);
+        drop(message);
+        written
     }
 
     /// Says which state a comm has.
@@ -181,8 +180,9 @@ impl<T: Target> Session<T> {
         ensures { OnOk result (text.new.items ≡ text.old.items ++ state_line self.now.changes (state_of (machine self.now.core) id.now)) }
     {
         let answer = self.core.state(id)?;
-        append_state_line(alloc, self.changes, &answer, text)?;
-        Ok(())
+        let written = append_state_line(alloc, self.changes, &answer, text);
+        drop(answer);
+        written
     }
 
     /// Does what a line asks for, and says what came of it.

@@ -2,7 +2,7 @@ ghost use Rattle.std.specs.Prelude.{◌≡◌, ◌++◌, ◌∷◌, [], true, On
 ghost use Rattle.json.specs.Print.{quoted};
 ghost use Rattle.serde_json.specs.Data.{array, object, member, no_members};
 ghost use Rattle.serde_json.specs.Written.{compact_text, members_text};
-ghost use Rattle.comm_value.specs.ToJson.{json_of, json_members};
+ghost use Rattle.comm_value.specs.ToJson.{json_of};
 ghost use Rattle.comm_value.specs.View.{tree};
 ghost use Rattle.comm_value.specs.Paths.{paths_tree};
 ghost use Rattle.comm_messages.specs.Text.{texts, buffer_texts};
@@ -12,7 +12,9 @@ use crate::asked::{Key, LineFault};
 use comm_core::{Ids, Refusal, Reply, StateAnswer};
 use comm_messages::{Field, MessageFault, Outgoing, Parent, append_buffers, append_message};
 use comm_targets::{Custom, TargetFault};
-use comm_value::{Buffers, Dict, Path, Text, Val, ValueFault, paths_val, separate, write_text};
+use comm_value::{
+    Buffers, Dict, Path, Separated, Text, Val, ValueFault, paths_val, separate, write_text,
+};
 use std::alloc::{AllocError, Global};
 
 fn append(words: &[u8], out: &mut Vec<u8>) -> Result<(), AllocError>
@@ -149,6 +151,16 @@ fn append_key(key: &str, out: &mut Vec<u8>) -> Result<(), AllocError>
     Ok(())
 }
 
+// An object's opening bracket, and its first member.
+fn append_first(key: &str, value: &Val, out: &mut Vec<u8>) -> Result<(), AllocError>
+    ensures { OnOk result (out.new.items ≡ out.old.items ++ (123 ∷ ((quoted key.now ++ 58 ∷ []) ++ compact_text (json_of (tree value.now))))) }
+{
+    append(b"{", out)?;
+    append_key(key, out)?;
+    value.write_json(out)?;
+    Ok(())
+}
+
 // The last member of an object, its text handed in, and the closing bracket.
 fn append_last(key: &str, value: &Val, out: &mut Vec<u8>) -> Result<(), AllocError>
     ensures { OnOk result (out.new.items ≡ out.old.items ++ members_text true (member key.now (json_of (tree value.now)) no_members)) }
@@ -227,9 +239,29 @@ fn append_reply_words(alloc: Global, reply: &Reply, out: &mut Vec<u8>) -> Result
 fn append_state(alloc: Global, state: &Dict, out: &mut Vec<u8>) -> Result<(), AllocError>
     ensures { OnOk result (out.new.items ≡ out.old.items ++ compact_text (state_json state.now)) }
 {
-    let parts = separate(alloc, state)?;
-    append_paths(alloc, &parts.paths, out)?;
-    append_state_rest(alloc, parts.plain, &parts.buffers, out)?;
+    let Separated {
+        plain,
+        paths,
+        buffers,
+    } = separate(alloc, state)?;
+    let plain = Val::Dict(plain);
+    let written = append_parts(alloc, &plain, &paths, &buffers, out);
+    drop(plain);
+    written
+}
+
+fn append_parts(
+    alloc: Global,
+    plain: &Val,
+    paths: &[Path],
+    buffers: &Buffers,
+    out: &mut Vec<u8>,
+) -> Result<(), AllocError>
+    ensures { OnOk result (out.new.items ≡ out.old.items
+        ++ compact_text (object (member (codes "buffer_paths") (json_of (paths_tree paths.now)) (member (codes "buffers") (array (buffer_texts buffers.now)) (member (codes "state") (json_of (tree plain.now)) no_members))))) }
+{
+    append_paths(alloc, paths, out)?;
+    append_state_rest(alloc, plain, buffers, out)?;
     Ok(())
 }
 
@@ -237,26 +269,25 @@ fn append_paths(alloc: Global, paths: &[Path], out: &mut Vec<u8>) -> Result<(), 
     ensures { OnOk result (out.new.items ≡ out.old.items ++ (123 ∷ ((quoted (codes "buffer_paths") ++ 58 ∷ []) ++ compact_text (json_of (paths_tree paths.now))))) }
 {
     let paths = paths_val(alloc, paths)?;
-    append(b"{", out)?;
-    append_key("buffer_paths", out)?;
-    paths.write_json(out)?;
-    Ok(())
+    let written = append_first("buffer_paths", &paths, out);
+    drop(paths);
+    written
 }
 
 fn append_state_rest(
     alloc: Global,
-    plain: Dict,
+    plain: &Val,
     buffers: &Buffers,
     out: &mut Vec<u8>,
 ) -> Result<(), AllocError>
     ensures { OnOk result (out.new.items ≡ out.old.items
-        ++ members_text true (member (codes "buffers") (array (buffer_texts buffers.now)) (member (codes "state") (object (json_members plain)) no_members))) }
+        ++ members_text true (member (codes "buffers") (array (buffer_texts buffers.now)) (member (codes "state") (json_of (tree plain.now)) no_members))) }
 {
     append(b",", out)?;
     append_key("buffers", out)?;
     append(b"[", out)?;
     append_buffers(alloc, buffers, out)?;
-    append_last("state", &Val::Dict(plain), out)?;
+    append_last("state", plain, out)?;
     Ok(())
 }
 

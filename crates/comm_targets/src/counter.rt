@@ -1,10 +1,10 @@
-ghost use Rattle.std.specs.Prelude.{◌≡◌, pos, [], None, IfOk, if◌then◌else◌};
+ghost use Rattle.std.specs.Prelude.{◌≡◌, ℕ, pos, [], None, IfOk, if◌then◌else◌};
 ghost use Rattle.comm_value.specs.View.{tree};
 ghost use Rattle.comm_value.specs.Tree.{whole};
 ghost use Rattle.comm_targets.specs.Meaning.{one_more, stages_message};
-ghost use Rattle.comm_targets.specs.Answers.{count_of};
+ghost use Rattle.comm_targets.specs.Answers.{count_of, counted};
 
-use crate::answer::Answer;
+use crate::answer::{Answer, Bodies};
 use crate::event::Event;
 use crate::fault::TargetFault;
 use crate::kind::Kind;
@@ -53,6 +53,21 @@ impl Counter {
     }
 }
 
+// The answer, where a message makes the count this.
+fn counted(alloc: Global, next: u64, event: &Event) -> Result<Answer, AllocError>
+    ensures { (notes : ℕ) → next ≡ one_more notes → IfOk result (λ a. a ≡ counted notes event.now) }
+{
+    let mut messages = Bodies::new(alloc);
+    if let Event::Msg { .. } = event {
+        messages.push(count_body(alloc, next)?)?;
+    }
+    Ok(Answer {
+        state: None,
+        messages,
+        custom: None,
+    })
+}
+
 // `{"count":n}`
 fn count_body(alloc: Global, count: u64) -> Result<Body, AllocError>
     ensures { IfOk result (λ b. b ≡ count_of count) }
@@ -89,11 +104,11 @@ impl Target for Counter {
     }
 
     fn prepare(&mut self, event: &Event, _now: Option<&Dict>) -> Result<Answer, TargetFault> {
-        let mut answer = Answer::empty(self.alloc);
-        if let Event::Msg { .. } = event {
-            answer.messages.push(count_body(self.alloc, self.next())?)?;
+        let answer = counted(self.alloc, self.next(), event)?;
+        if self.comms.stage(self.alloc, event, &answer).is_err() {
+            drop(answer);
+            return Err(TargetFault::Memory);
         }
-        self.comms.stage(self.alloc, event, &answer)?;
         Ok(answer)
     }
 

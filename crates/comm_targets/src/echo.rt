@@ -1,13 +1,14 @@
-ghost use Rattle.std.specs.Prelude.{◌≡◌, [], None};
+ghost use Rattle.std.specs.Prelude.{◌≡◌, [], None, IfOk};
+ghost use Rattle.comm_targets.specs.Answers.{echo_of};
 
-use crate::answer::Answer;
+use crate::answer::{Answer, Bodies};
 use crate::event::Event;
 use crate::fault::TargetFault;
 use crate::kind::Kind;
 use crate::open_comms::OpenComms;
 use crate::target::Target;
 use comm_value::Dict;
-use std::alloc::Global;
+use std::alloc::{AllocError, Global};
 
 /// A target of kind Echo: each message goes back with the same data and buffers.
 #[derive(Drop)]
@@ -28,6 +29,20 @@ impl Echo {
     }
 }
 
+fn echo_of(alloc: Global, event: &Event) -> Result<Answer, AllocError>
+    ensures { IfOk result (λ a. a ≡ echo_of event.now) }
+{
+    let mut messages = Bodies::new(alloc);
+    if let Event::Msg { body, .. } = event {
+        messages.push(body.copy(alloc)?)?;
+    }
+    Ok(Answer {
+        state: None,
+        messages,
+        custom: None,
+    })
+}
+
 impl Target for Echo {
     ghost use Rattle.comm_targets.specs.declared.kind.Kind.TheVariants as kind;
 
@@ -46,11 +61,11 @@ impl Target for Echo {
     }
 
     fn prepare(&mut self, event: &Event, _now: Option<&Dict>) -> Result<Answer, TargetFault> {
-        let mut answer = Answer::empty(self.alloc);
-        if let Event::Msg { body, .. } = event {
-            answer.messages.push(body.copy(self.alloc)?)?;
+        let answer = echo_of(self.alloc, event)?;
+        if self.comms.stage(self.alloc, event, &answer).is_err() {
+            drop(answer);
+            return Err(TargetFault::Memory);
         }
-        self.comms.stage(self.alloc, event, &answer)?;
         Ok(answer)
     }
 

@@ -3,7 +3,7 @@ ghost use Rattle.comm_targets.specs.Latest.{latest_of};
 ghost use Rattle.comm_targets.specs.Meaning.{has_id};
 ghost use Rattle.comm_targets.specs.OpenComms.{opened_by};
 
-use crate::answer::Answer;
+use crate::answer::{Answer, Bodies};
 use crate::event::Event;
 use crate::fault::TargetFault;
 use crate::kind::Kind;
@@ -37,14 +37,17 @@ impl Latest {
 fn answer_to(alloc: Global, event: &Event) -> Result<Answer, AllocError>
     ensures { IfOk result (λ a. a ≡ latest_of event.now) }
 {
-    let mut answer = Answer::empty(alloc);
-    match event {
-        Event::Open { body, .. } => answer.state = Some(body.content().copy()?),
-        Event::Msg { body, .. } => answer.state = Some(body.content().copy()?),
-        Event::Launch { .. } => {}
-        Event::Push { .. } => {}
-    }
-    Ok(answer)
+    let state = match event {
+        Event::Open { body, .. } => Some(body.content().copy()?),
+        Event::Msg { body, .. } => Some(body.content().copy()?),
+        Event::Launch { .. } => None,
+        Event::Push { .. } => None,
+    };
+    Ok(Answer {
+        state,
+        messages: Bodies::new(alloc),
+        custom: None,
+    })
 }
 
 impl Target for Latest {
@@ -76,7 +79,10 @@ impl Target for Latest {
     {
         let answer = answer_to(self.alloc, event)?;
         // Last, so that an error leaves all as it was.
-        self.comms.stage(self.alloc, event, &answer)?;
+        if self.comms.stage(self.alloc, event, &answer).is_err() {
+            drop(answer);
+            return Err(TargetFault::Memory);
+        }
         Ok(answer)
     }
 

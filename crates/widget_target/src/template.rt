@@ -1,5 +1,7 @@
 ghost use Rattle.std.specs.Prelude.{◌≡◌, [], IfOk, codes};
+ghost use Rattle.comm_value.specs.Put.{insert};
 ghost use Rattle.comm_value.specs.Tree.{no_members};
+ghost use Rattle.comm_value.specs.View.{tree};
 ghost use Rattle.comm_targets.specs.Widget.{update_data};
 
 use comm_value::{Dict, Path, Text, Val, paths_val};
@@ -22,11 +24,7 @@ impl Template {
     fn new(alloc: Global) -> Result<Template, AllocError> {
         let buffer_paths = Text::copy_of(alloc, "buffer_paths")?;
         let state = Text::copy_of(alloc, "state")?;
-        let method = Val::Text(Text::copy_of(alloc, "update")?);
-        let empty = Dict::new()
-            .insert(alloc, buffer_paths.copy()?, paths_val(alloc, &[])?)?
-            .insert(alloc, Text::copy_of(alloc, "method")?, method)?
-            .insert(alloc, state.copy()?, Val::Dict(Dict::new()))?;
+        let empty = empty_data(alloc, &buffer_paths, &state)?;
         Ok(Template {
             empty,
             buffer_paths,
@@ -37,12 +35,57 @@ impl Template {
     fn filled(&self, alloc: Global, plain: Dict, paths: &[Path]) -> Result<Dict, AllocError>
         ensures { IfOk result (λ d. d ≡ update_data paths.now plain) }
     {
-        let data = self.empty.copy()?;
-        let data = data.insert(alloc, self.state.copy()?, Val::Dict(plain))?;
+        let Ok(data) = self.empty.copy() else {
+            drop(plain);
+            return Err(AllocError);
+        };
+        let data = with(alloc, data, &self.state, Val::Dict(plain))?;
         if paths.is_empty() {
             return Ok(data);
         }
-        data.insert(alloc, self.buffer_paths.copy()?, paths_val(alloc, paths)?)
+        match paths_val(alloc, paths) {
+            Ok(paths) => with(alloc, data, &self.buffer_paths, paths),
+            Err(fault) => {
+                drop(data);
+                Err(fault)
+            }
+        }
+    }
+}
+
+// The data of a message that tells nothing, by its keys.
+fn empty_data(alloc: Global, buffer_paths: &Text, state: &Text) -> Result<Dict, AllocError>
+    ensures { buffer_paths.now ≡ codes "buffer_paths" → state.now ≡ codes "state" → IfOk result (λ d. d ≡ update_data [] no_members) }
+{
+    let paths = paths_val(alloc, &[])?;
+    let data = with(alloc, Dict::new(), buffer_paths, paths)?;
+    let Ok((key, method)) = method(alloc) else {
+        drop(data);
+        return Err(AllocError);
+    };
+    let data = data.insert(alloc, key, Val::Text(method))?;
+    with(alloc, data, state, Val::Dict(Dict::new()))
+}
+
+fn method(alloc: Global) -> Result<(Text, Text), AllocError>
+    ensures { IfOk result (λ m. m ≡ (codes "method", codes "update")) }
+{
+    let key = Text::copy_of(alloc, "method")?;
+    let method = Text::copy_of(alloc, "update")?;
+    Ok((key, method))
+}
+
+// A dict with one member more, whose key is shared.
+fn with(alloc: Global, dict: Dict, key: &Text, value: Val) -> Result<Dict, AllocError>
+    ensures { IfOk result (λ d. d ≡ insert key.now (tree value) dict) }
+{
+    match key.copy() {
+        Ok(key) => dict.insert(alloc, key, value),
+        Err(fault) => {
+            drop(dict);
+            drop(value);
+            Err(fault)
+        }
     }
 }
 
@@ -59,8 +102,11 @@ pub fn update_data(
     if let Some(made) = template.as_ref() {
         return made.filled(alloc, plain, paths);
     }
-    let made = Template::new(alloc)?;
-    let data = made.filled(alloc, plain, paths)?;
+    let Ok(made) = Template::new(alloc) else {
+        drop(plain);
+        return Err(AllocError);
+    };
+    let data = made.filled(alloc, plain, paths);
     *template = Some(made);
-    Ok(data)
+    data
 }

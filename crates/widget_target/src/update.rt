@@ -5,11 +5,11 @@ ghost use Rattle.comm_value.specs.Places.{plain_members, member_paths, member_bu
 ghost use Rattle.comm_targets.specs.Widget.{update_answer, update_of};
 ghost use Rattle.widget_target.specs.Gives.{Gives};
 
-use crate::answers::{new_state, one_message};
+use crate::answers::new_state;
 use crate::state::state_of;
 use crate::template::{Template, update_data};
 use comm_messages::Body;
-use comm_targets::{Answer, TargetFault};
+use comm_targets::{Answer, Bodies, TargetFault};
 use comm_value::{Buffers, Dict, Separated, merge, separate};
 use std::alloc::{AllocError, Global};
 
@@ -36,9 +36,25 @@ pub fn pushed(
     ensures { IfOk result (λ a. a ≡ record { state = Some (merged now.now update.now); messages = update_of update.now ∷ []; custom = None }) }
 {
     let merged = merge(alloc, now.copy()?, update.copy()?)?;
-    let mut answer = one_message(alloc, update_body(alloc, template, update)?)?;
-    answer.state = Some(merged);
-    Ok(answer)
+    let Ok(messages) = told(alloc, template, update) else {
+        drop(merged);
+        return Err(AllocError);
+    };
+    Ok(Answer {
+        state: Some(merged),
+        messages,
+        custom: None,
+    })
+}
+
+// The one message that tells these keys.
+fn told(alloc: Global, template: &mut Option<Template>, update: &Dict) -> Result<Bodies, AllocError>
+    ensures { IfOk result (λ m. m ≡ update_of update.now ∷ []) }
+{
+    let body = update_body(alloc, template, update)?;
+    let mut messages = Bodies::new(alloc);
+    messages.push(body)?;
+    Ok(messages)
 }
 
 /// The message that tells a state, or some of its keys: `{"buffer_paths":..,"method":"update","state":..}`, with the

@@ -53,7 +53,10 @@ impl Target for WidgetTarget {
 
     fn prepare(&mut self, event: &Event, now: Option<&Dict>) -> Result<Answer, TargetFault> {
         let answer = answer_to(self.alloc, &mut self.template, event, now)?;
-        self.comms.stage(self.alloc, event, &answer)?;
+        if self.comms.stage(self.alloc, event, &answer).is_err() {
+            drop(answer);
+            return Err(TargetFault::Memory);
+        }
         Ok(answer)
     }
 
@@ -81,8 +84,25 @@ fn answer_to(
 ) -> Result<Answer, TargetFault>
     ensures { Gives result (answer_of (unwrap_or (option_map (λ d. d.now) now.entry) no_members) event.now) }
 {
-    let empty = Dict::new();
-    let now = now.unwrap_or(&empty);
+    match now {
+        Some(now) => answer_over(alloc, template, event, now),
+        None => {
+            let empty = Dict::new();
+            let answer = answer_over(alloc, template, event, &empty);
+            drop(empty);
+            answer
+        }
+    }
+}
+
+fn answer_over(
+    alloc: Global,
+    template: &mut Option<Template>,
+    event: &Event,
+    now: &Dict,
+) -> Result<Answer, TargetFault>
+    ensures { Gives result (answer_of now.now event.now) }
+{
     match event {
         Event::Open { version, body, .. } => {
             Ok(new_state(alloc, opening_state(alloc, version.as_ref(), body)?))

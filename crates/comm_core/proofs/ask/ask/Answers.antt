@@ -40,8 +40,8 @@ returns-in_ok-reply-in-Err-clause-came g c =
     (subst (λ n. (c.in-Err.fault ≡ Memory) ⊎ Refuses m.0.kind m.0.notes n c.args.question.event c.in-Err.fault) c.as_ref.ensures.value (c.in-Err.ensures.refuses m.0 m.1)))
     c.in-Err.ensures.unchanged c.in_ok-reply-in-Err.ensures
 
-pub refused-requires : goal.refused-requires
-refused-requires g c =
+pub refused-refusal-requires : goal.refused-refusal-requires
+refused-refusal-requires g c =
     let m = some-at (at c.args.boxes.now.all c.args.question.name) (sym (has_target c.args.boxes.now.all c.args.question.name) ∙ c.requires.asked.here) in
     can_refuse c.args.boxes.now.all c.args.comms.now.all c.requires.agrees c.args.question.name c.args.question.event c.requires.asked.kind_suits m.0 m.1 _ c.in-Err.fault
     (not_memory c.in-Err.fault (sym c.is_memory.ensures ∙ c.if-is_memory.false) (c.in-Err.ensures.refuses m.0 m.1))

@@ -10,5 +10,5 @@ returns-in-Launch g c = commit_launched _ _ c.requires.agrees c.args.question c.
 pub returns-in-Msg : goal.returns-in-Msg
 returns-in-Msg g c = commit_told _ _ c.requires.agrees c.args.question c.args.answer c.requires.staged c.requires.suits _ _ c.commit.ensures.all _ _ c.in-Msg.is c.note_state.ensures
 
-pub returns : goal.returns
-returns g c = commit_pushed _ _ c.requires.agrees c.args.question c.args.answer c.requires.staged c.requires.suits _ _ c.commit.ensures.all _ _ c.in-Push.is c.note_state-in-Push.ensures
+pub returns-in-Push : goal.returns-in-Push
+returns-in-Push g c = commit_pushed _ _ c.requires.agrees c.args.question c.args.answer c.requires.staged c.requires.suits _ _ c.commit.ensures.all _ _ c.in-Push.is c.note_state-in-Push.ensures

@@ -14,8 +14,8 @@ returns-in-Close-clause-feasible g c = feasible_at (Ok c.judge_close.result) c.a
 pub returns-in-Unregister-clause-verdict : goal.returns-in-Unregister-clause-verdict
 returns-in-Unregister-clause-verdict g c = verdict_at _ c.args.limit _ _ _ c.in-Unregister.is (c.judge_unregister.ensures.verdict c.args.limit)
 
-pub returns-in_ok-target-in-Launch-clause-feasible : goal.returns-in_ok-target-in-Launch-clause-feasible
-returns-in_ok-target-in-Launch-clause-feasible g c = feasible_at (Ok c.judge_launch.result) c.args.boxes.now.all c.args.comms.now.all _ _ c.in-Launch.is (c.judge_launch.ensures.feasible c.in-Launch.id)
+pub returns-in-Ok-clause-feasible : goal.returns-in-Ok-clause-feasible
+returns-in-Ok-clause-feasible g c = feasible_at (Ok c.judge_launch.result) c.args.boxes.now.all c.args.comms.now.all _ _ c.in-Launch.is (c.judge_launch.ensures.feasible c.in-Launch.id)
 
 pub returns-in-Push-clause-verdict : goal.returns-in-Push-clause-verdict
 returns-in-Push-clause-verdict g c = verdict_at _ c.args.limit _ _ _ c.in-Push.is (c.judge_push.ensures.verdict c.args.limit)

@@ -1,11 +1,15 @@
-use Rattle.std.proofs.Common.{refl}
+use Rattle.std.proofs.Common.{refl, sym, subst}
+use Rattle.std.proofs.lemmas.Result.{IfOk-weaker}
+use Rattle.comm_core.specs.Plans.{IsFeasible}
 use Rattle.comm_core.specs.declared.call.Call.TheVariants as call
 use Rattle.comm_core.proofs.judge.judge_msg.Goals as goal
-use Rattle.std.proofs.Common.{sym}
 use Rattle.comm_core.proofs.Asking.{msg_asked}
 
-pub returns-in_default-clause-feasible : goal.returns-in_default-clause-feasible
-returns-in_default-clause-feasible g c = c.stays.ensures.feasible c.args.boxes.now.all c.args.comms.now.all (call.Msg c.args.id c.args.body) refl
+pub returns-in-Some-clause-feasible : goal.returns-in-Some-clause-feasible
+returns-in-Some-clause-feasible g c =
+    IfOk-weaker c.asked.result _ _ (λ j is.
+    subst (IsFeasible c.args.boxes.now.all c.args.comms.now.all (call.Msg c.args.id c.args.body)) (sym is)
+    (msg_asked c.args.boxes.now.all c.args.comms.now.all c.requires _ _ c.in-Some.comm.now _ _ _ (sym c.in-Some.ensures) refl refl, λ bs. refl)) c.asked.ensures
 
-pub returns-clause-feasible : goal.returns-clause-feasible
-returns-clause-feasible g c = (msg_asked c.args.boxes.now.all c.args.comms.now.all c.requires _ _ c.in-Some.comm.now _ _ _ (sym c.in-Some.ensures) c.in_ok-name.ensures refl, λ bs. refl)
+pub returns-in-None-clause-feasible : goal.returns-in-None-clause-feasible
+returns-in-None-clause-feasible g c = c.stays.ensures.feasible c.args.boxes.now.all c.args.comms.now.all (call.Msg c.args.id c.args.body) refl

@@ -1,16 +1,4 @@
-use Rattle.std.proofs.Common.{true}
-use Rattle.std.specs.Prelude.{codes}
-use Rattle.json.specs.Print.{quoted}
-use Rattle.serde_json.specs.Data.{array, object, member, no_members}
-use Rattle.serde_json.specs.Written.{compact_text, members_text}
-use Rattle.comm_value.specs.ToJson.{json_of, json_members}
-use Rattle.comm_value.specs.Paths.{paths_tree}
-use Rattle.comm_messages.specs.Text.{buffer_texts}
-use Rattle.comm_script.proofs.Joining.{first_keyed}
 use Rattle.comm_script.proofs.words.append_state.Goals as goal
 
 pub returns : goal.returns
-returns c = rw (← c.in_ok-parts.ensures.plain, ← c.in_ok-parts.ensures.paths, ← c.in_ok-parts.ensures.buffers, ← c.deref.ensures.value) (
-    first_keyed (quoted (codes "buffer_paths")) (compact_text (json_of (paths_tree c.deref.result.now)))
-    (members_text true (member (codes "buffers") (array (buffer_texts c.in_ok-parts.parts.buffers)) (member (codes "state") (object (json_members c.in_ok-parts.parts.plain)) no_members))) c.args.out.now.items
-    c.append_paths.new.out.items c.append_state_rest.new.out.items c.in_ok-append_paths.ensures c.in_ok-append_state_rest.ensures)
+returns c = rw (← c.in_ok-plain.ensures.plain, ← c.in_ok-plain.ensures.paths, ← c.in_ok-plain.ensures.buffers, ← c.deref.ensures.value) c.append_parts-written.ensures

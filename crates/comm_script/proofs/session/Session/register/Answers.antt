@@ -1,3 +1,4 @@
+use Rattle.std.proofs.lemmas.Result.{on_ok_weaker}
 use Rattle.std.proofs.Common.{◌≡◌, ◌<◌, ◌++◌, [], length, None, Some, arith, ap, sym, subst, ◌∙◌, List}
 use Rattle.std.specs.Prelude.{option_map, option_to_list}
 use Rattle.comm_targets.specs.Meaning.{Meaning}
@@ -31,13 +32,13 @@ returns-in_ok-append_bad-in-None-clause-stands g c = λ limits now stands.
       made = stands.made;
     })
 
-pub returns-in_ok-answer-in-Ok-clause-stands : goal.returns-in_ok-answer-in-Ok-clause-stands
-returns-in_ok-answer-in-Ok-clause-stands g c = λ limits now stands.
+pub returns-in-Ok-clause-stands : goal.returns-in-Ok-clause-stands
+returns-in-Ok-clause-stands g c = on_ok_weaker c.answer-answered.result (λ _. λ limits now stands.
     let inside : c.args.client < length c.args.self.now.made = omega arith in
     let m : Meaning = g.T.Target.means c.in-Some.target in
     let asked : Call = call.Register c.args.name m.kind m.notes in
     let S : Stepped = record { reply = c.in-Ok.reply; outgoing = []; next = core.machine c.register.new.self } in
-    let counted = c.answer.ensures.counted in
+    let counted = c.answer-answered.ensures.counted in
     let first : first_of c.args.kind now.stock ≡ Some (registered_of m) = ap (first_of c.args.kind) (sym stands.stock) ∙ sym c.in-Some.ensures.taken in
     let is = step_of limits now c.args.self.now asked None S c.exact_machines_leave_no_choice.ensures stands (unasked c.args.self.now.core.limit (core.machine c.args.self.now.core) c.args.name m.kind m.notes) c.in-Ok.ensures.step in
     let left : Reply → List Registered = restocked (registered_of m) (rest_of c.args.kind now.stock) in
@@ -46,10 +47,10 @@ returns-in_ok-answer-in-Ok-clause-stands g c = λ limits now stands.
     ∙ ap (λ rest. rest ++ option_to_list (option_map (λ t. registered_of (g.T.Target.means t)) c.in-Ok.back)) (c.in-Some.ensures.targets ∙ ap (rest_of c.args.kind) stands.stock)
     ∙ ap (λ o. rest_of c.args.kind now.stock ++ option_to_list o) (mapped g.T.Target.means c.in-Ok.back ∙ ap (option_map registered_of) c.in-Ok.ensures.back)
     ∙ sym (restocked_is m (rest_of c.args.kind now.stock) S.reply) in
-    subst (λ (t : Turn). Stands limits t.after c.answer.new.self)
+    subst (λ (t : Turn). Stands limits t.after c.answer-answered.new.self)
     (sym (ap (registered limits now c.args.number c.args.client c.args.kind c.args.name) first))
-    (stands_called limits now c.args.client asked left S c.args.self.now c.answer.new.self stands is inside c.requires.client (ap (λ (s : Session g.row.T.Denot). s.limits) counted)
+    (stands_called limits now c.args.client asked left S c.args.self.now c.answer-answered.new.self stands is inside c.requires.client (ap (λ (s : Session g.row.T.Denot). s.limits) counted)
     (ap (λ (s : Session g.row.T.Denot). s.core.limit) counted ∙ c.register.ensures.limit) (ap (λ (s : Session g.row.T.Denot). core.machine s.core) counted)
     (c.steps_keep_machines_exact.ensures c.args.self.now.core.limit (core.machine c.args.self.now.core) asked None S stands.exact
     (first_fits c.args.kind c.args.self.now.stock.targets (registered_of m) (sym c.in-Some.ensures.taken)) c.in-Ok.ensures.step) (ap (λ (s : Session g.row.T.Denot). s.stock.targets) counted ∙ shelf)
-    (ap (λ (s : Session g.row.T.Denot). s.changes) counted) (ap (λ (s : Session g.row.T.Denot). s.made) counted))
+    (ap (λ (s : Session g.row.T.Denot). s.changes) counted) (ap (λ (s : Session g.row.T.Denot). s.made) counted))) c.answer-answered.ensures.text
