@@ -236,18 +236,23 @@ pub fn perform<J: Naming, T: Target, R: Wait>(
     let who = (ticket.client(), ticket.number() + 1);
     match stage(alloc, core, writer, who, request) {
         Ok(staged) => {
-            let done = carry_out(core, journal, staged);
+            let Done {
+                sent,
+                reply,
+                back,
+                ended,
+            } = carry_out(core, journal, staged);
             let stamp = tell(rt, writer, reader);
-            outbox.put(rt, done.sent);
+            outbox.put(rt, sent);
             books.count(ticket);
             Ok(Made {
                 answered: Answered {
                     number: stamp.number(),
-                    reply: done.reply,
+                    reply,
                     stamp,
                 },
-                back: done.back,
-                ended: done.ended,
+                back,
+                ended,
             })
         }
         Err(back) => Err((Unavailable::Memory, back)),

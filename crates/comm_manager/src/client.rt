@@ -11,7 +11,7 @@ ghost use Rattle.comm_manager.specs.Kept.{counts};
 ghost use Rattle.comm_manager.specs.Mine.{IsAnswered, IsSettled, made};
 ghost use Rattle.comm_manager.specs.Who.{who};
 ghost use Rattle.comm_manager.specs.Why.{Because};
-ghost use Rattle.comm_versions.specs.declared.reader.ReadFault.TheVariants as fault;
+ghost use Rattle.comm_versions.specs.declared.reads.ReadFault.TheVariants as fault;
 
 use crate::answered::Answered;
 use crate::change::Made;

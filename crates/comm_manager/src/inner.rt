@@ -1,6 +1,7 @@
 //! What lies under the lock.
 ghost use Rattle.std.specs.Prelude.{◌≡◌, ◌+◌, ◌<◌, ◌≤◌, ◌++◌, [], ◌∷◌, length, false, All, IfOk, IfErr, OnErr, true, option_map, vec_capacity};
 ghost use Rattle.std.specs.Arc.{arc_value};
+ghost use Rattle.std.specs.Mem.{manually_drop_value};
 ghost use Rattle.comm_core.specs.History.{IsLegal, has_end};
 ghost use Rattle.comm_core.specs.Ready.{back_of};
 ghost use Rattle.comm_core.specs.Tables.{IdleWhere};
@@ -26,6 +27,7 @@ use comm_targets::Target;
 use comm_versions::{Change, Stamp, VersionWriter};
 use std::alloc::{AllocError, Global};
 use std::marker::Model;
+use std::mem::ManuallyDrop;
 use std::sync::{Arc, Wait};
 
 /// A one-thread manager with its history, which is published to the readers and goes out through the queue, and how many changes each client made.
@@ -36,7 +38,8 @@ pub struct Inner<J: Naming, T: Target> {
     limits: Limits,
     core: Core<T>,
     journal: Journal,
-    writer: VersionWriter<J>,
+    // the kit can't prove how a writer would be dropped; it never is: `end` alone ends it
+    writer: ManuallyDrop<VersionWriter<J>>,
     outbox: Outbox,
     books: Books<J>,
 }
@@ -45,6 +48,7 @@ impl<J: Naming, T: Target> Model for Inner<J, T> {
     ghost use Rattle.std.specs.Prelude.{◌≡◌, List};
     ghost use Rattle.comm_core.specs.declared.entry.Entry.{Entry};
     ghost use Rattle.comm_versions.specs.Code.{entries_code};
+    ghost use Rattle.std.specs.Mem.{manually_drop_value};
     ghost use Rattle.comm_manager.specs.Kept.{IsKept, Puts};
 
     ghost Value = { List Entry };
@@ -53,7 +57,7 @@ impl<J: Naming, T: Target> Model for Inner<J, T> {
 
     ghost view = { λ s. s.journal.all };
 
-    ghost invariant = { λ s. IsKept J.limits s.journal.all s.core s.writer s.books × Puts J.queue J.limits s.journal.all s.outbox × (s.limits ≡ J.limits) };
+    ghost invariant = { λ s. IsKept J.limits s.journal.all s.core (manually_drop_value s.writer) s.books × Puts J.queue J.limits s.journal.all s.outbox × (s.limits ≡ J.limits) };
 }
 
 impl<J: Naming, T: Target> Inner<J, T> {
@@ -77,7 +81,7 @@ impl<J: Naming, T: Target> Inner<J, T> {
             limits,
             core,
             journal: Journal::new(alloc),
-            writer,
+            writer: kept(writer),
             outbox,
             books,
         }
@@ -114,7 +118,7 @@ impl<J: Naming, T: Target> Inner<J, T> {
             &self.limits,
             &mut self.core,
             &mut self.journal,
-            &mut self.writer,
+            &mut *self.writer,
             &mut self.outbox,
             &mut self.books,
             &mut client.reader,
@@ -143,10 +147,11 @@ impl<J: Naming, T: Target> Inner<J, T> {
             limits,
             core,
             mut journal,
-            mut writer,
+            writer,
             mut outbox,
             mut books,
         } = self;
+        let mut writer = ManuallyDrop::into_inner(writer);
         match close(rt, alloc, &mut journal, &mut writer, &mut outbox, &publisher) {
             Ok((last, room)) => {
                 gather(&mut books, clients, &last);
@@ -162,7 +167,7 @@ impl<J: Naming, T: Target> Inner<J, T> {
                     limits,
                     core,
                     journal,
-                    writer,
+                    writer: kept(writer),
                     outbox,
                     books,
                 },
@@ -182,9 +187,16 @@ impl<J: Naming, T: Target> Inner<J, T> {
             outbox: _outbox,
             books: _books,
         } = self;
-        writer.end(rt);
+        ManuallyDrop::into_inner(writer).end(rt);
         core.stop_all();
     }
+}
+
+// It isn't dropped from now on.
+fn kept<J: Naming>(writer: VersionWriter<J>) -> ManuallyDrop<VersionWriter<J>>
+    ensures { manually_drop_value result ≡ writer }
+{
+    unsafe { ManuallyDrop::new_unchecked(writer) }
 }
 
 /// What a manager leaves: all entries, an end as the last, and those of them that its publisher hadn't taken.

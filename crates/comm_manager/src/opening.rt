@@ -1,5 +1,5 @@
 //! What a manager is made of before it has a name.
-ghost use Rattle.std.specs.Prelude.{◌≡◌, ◌≤◌, ◌++◌, [], ◌∷◌, All, IfOk, IfErr, nat_lt, ◌+◌, ◌<◌, monus, vec_len, if◌then◌else◌};
+ghost use Rattle.std.specs.Prelude.{◌≡◌, ◌≤◌, ◌++◌, [], ◌∷◌, All, IfOk, IfErr, nat_lt, ◌+◌, ◌<◌, ◌-◌, vec_len, if◌then◌else◌};
 ghost use Rattle.comm_core.specs.Limits.{AreAllowed};
 ghost use Rattle.comm_manager.specs.Tally.{tally};
 ghost use Rattle.comm_manager.specs.Who.{who, all_new};
@@ -74,10 +74,10 @@ fn added<J: Naming>(
     ticket: Ticket<J>,
 ) -> Result<Vec<Client<J>>, AllocError>
     requires ticket { (ticket.client < 4) × (ticket.number ≡ 0) }
-    requires readers { vec_len readers.old ≡ monus J.limits.clients ticket.client }
+    requires readers { vec_len readers.old ≡ J.limits.clients - ticket.client }
     requires none { All (λ r. r ≡ []) readers.old.items }
-    ensures { IfOk result (λ v. v.items ≡ (if nat_lt ticket.client J.limits.clients then clients.items ++ who ticket.client 0 [] ∷ [] else clients.items)) }
-    ensures readers { vec_len readers.new ≡ monus J.limits.clients (ticket.client + 1) }
+    ensures clients { IfOk result (λ v. v.items ≡ (if nat_lt ticket.client J.limits.clients then clients.items ++ who ticket.client 0 [] ∷ [] else clients.items)) }
+    ensures readers { vec_len readers.new ≡ J.limits.clients - (ticket.client + 1) }
     ensures none { All (λ r. r ≡ []) readers.new.items }
 {
     let mut clients = clients;

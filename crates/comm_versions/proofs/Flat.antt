@@ -1,7 +1,7 @@
 -- Comms in pieces.
-use Rattle.std.proofs.Common.{◌≡◌, ℕ, zero, suc, ◌<◌, ◌≤◌, ◌+◌, List, [], ◌∷◌, ◌++◌, length, get_or, take, drop, Global, Vec, refl, sym, ap, ◌∙◌, arith, ◌-◌, append_assoc, append-nil, length-append, length-drop, length-take-le, take-append-drop, subst, add-one}
+use Rattle.std.proofs.Common.{◌≡◌, ℕ, zero, suc, ◌<◌, ◌≤◌, ◌+◌, List, [], ◌∷◌, ◌++◌, length, get_or, take, drop, Global, Vec, refl, sym, ap, ◌∙◌, arith, append_assoc, append-nil, length-append, length-drop, length-take-le, take-append-drop, subst, add-one}
 use Rattle.std.proofs.Math.Seq.{drop-cons}
-use Rattle.std.proofs.lemmas.List.{drop_all, take_all, take_more}
+use Rattle.std.proofs.lemmas.List.{take_more}
 use Rattle.std.specs.Prelude.{◌==◌, false, vec_len}
 use Rattle.std.specs.Arc.{arc_value}
 use Rattle.comm_core.specs.Machine.{Name}
@@ -157,3 +157,24 @@ two_set ps rest mid new i n q p xs h out first second tail head =
     let longer = length_put rest mid i q within first in
     rest_flat ps rest i (flat new) xs h out
     (let_in_flat rest new i xs (ap (take i) second ∙ take_put mid i p longer ∙ (ap (take i) first ∙ take_put rest i q within)) (two_behind rest mid new i n q p xs within first second tail head))
+
+-- ---- two pieces that become one
+
+drop_behind : (ps : List Piece) (i : ℕ) → i < length ps → drop (suc i) (take i ps ++ drop (suc i) ps) ≡ drop (suc (suc i)) ps
+drop_behind [] i h = absurd (omega arith)
+drop_behind (p ∷ ps) zero h = refl
+drop_behind (p ∷ ps) (suc i) h = drop_behind ps i (omega arith)
+
+pub both_flat : (slice ps rest : List Piece) (i : ℕ) (p q : Piece) (v w : Vec (Name × Comm) Global) (xs ys both new : Opens) → slice ≡ ps → i + 1 < length slice
+    → p ≡ get_or slice i p → v ≡ arc_value p → xs ≡ v.items → q ≡ get_or slice (i + 1) q → w ≡ arc_value q → ys ≡ w.items → rest ≡ take i ps ++ drop (suc i) ps → both ≡ xs ++ ys
+    → new ≡ flat (take i rest) ++ (both ++ flat (drop (i + 1) rest)) → new ≡ flat ps
+both_flat slice ps rest i p q v w xs ys both new same h is deref items is' deref' items' out joined made =
+    let first : flat (drop i slice) ≡ xs ++ flat (drop (i + 1) slice) = opened slice i p v xs (omega arith) is deref items in
+    let second : flat (drop (i + 1) slice) ≡ ys ++ flat (drop (i + 1 + 1) slice) = opened slice (i + 1) q w ys h is' deref' items' in
+    let within : i < length ps = omega (arith, ap length same) in
+    let before : take i rest ≡ take i ps = ap (take i) out ∙ take_rest ps i within in
+    let after : drop (i + 1) rest ≡ drop (i + 1 + 1) ps = ap (λ n. drop n rest) (add-one i) ∙ ap (drop (suc i)) out ∙ drop_behind ps i within ∙ ap (λ n. drop n ps) (sym (add-one (i + 1) ∙ ap suc (add-one i))) in
+    let whole : flat slice ≡ flat (take i slice) ++ ((xs ++ ys) ++ flat (drop (i + 1 + 1) slice)) =
+        flat_cut slice i ∙ ap (λ l. flat (take i slice) ++ l) (first ∙ ap (λ l. xs ++ l) second ∙ sym (append_assoc xs ys (flat (drop (i + 1 + 1) slice)))) in
+    made ∙ ap (λ l. flat l ++ (both ++ flat (drop (i + 1) rest))) before ∙ ap (λ l. flat (take i ps) ++ (l ++ flat (drop (i + 1) rest))) joined
+    ∙ ap (λ l. flat (take i ps) ++ ((xs ++ ys) ++ flat l)) after ∙ sym (subst (λ l. flat l ≡ flat (take i l) ++ ((xs ++ ys) ++ flat (drop (i + 1 + 1) l))) same whole)

@@ -27,7 +27,7 @@ module _ (p : Name × Comm → Bool) where
       → all ≡ start ++ listed (flat (take i ps)) → new ≡ all ++ listed xs → new ≡ start ++ listed (flat (take (i + 1) ps))
   piece_listed ps i q v xs start all new h is deref items before added =
       let more : flat (take (i + 1) ps) ≡ flat (take i ps) ++ xs =
-          flat_push (take i ps) (take (i + 1) ps) q xs (take_more ps i q h ∙ ap (λ (r : Piece). take i ps ++ r ∷ []) (sym is)) (sym (items ∙ ap (λ (w : Vec (Name × Comm) Global). w.items) deref)) in
+      flat_push (take i ps) (take (i + 1) ps) q xs (take_more ps i q h ∙ ap (λ (r : Piece). take i ps ++ r ∷ []) (sym is)) (sym (items ∙ ap (λ (w : Vec (Name × Comm) Global). w.items) deref)) in
       added ∙ ap (λ l. l ++ listed xs) before ∙ append_assoc start (listed (flat (take i ps))) (listed xs)
       ∙ ap (λ l. start ++ l) (sym (ap listed more ∙ listed-append (flat (take i ps)) xs))
 

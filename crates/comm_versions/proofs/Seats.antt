@@ -1,11 +1,10 @@
 -- The steps that keep the rule over the versions.
-use Rattle.std.proofs.Common.{◌≡◌, ℕ, ◌≢◌, true, false, List, [], ◌∷◌, ◌++◌, fold, set, refl, sym, ap, ◌∙◌, subst, ⊎_elim}
+use Rattle.std.proofs.Common.{◌≡◌, ℕ, ◌≢◌, true, List, [], ◌∷◌, fold, set, refl, sym, ap, ◌∙◌, subst, ⊎_elim}
 use mathlib.Core.List.{IsPrefix}
 use mathlib.Core.Option.{some}
 use lib.ListN.{get_elem?}
 use Rattle.crossbeam_utils.specs.Register.{Admits, TurnsAt, Forks, Merges}
 use Rattle.atomic_table.proofs.Lists.{at_set, at_snoc}
-use Rattle.comm_core.specs.declared.entry.Entry.{Entry}
 use Rattle.comm_versions.specs.declared.version.Version.{Version}
 use Rattle.comm_versions.specs.Known.{Known}
 use Rattle.comm_versions.specs.Seats.{View, Knows, IsShown, stranger}

@@ -46,11 +46,7 @@ fn next_rows(
 }
 
 /// Makes the rows after a change.
-pub fn prepare(
-    alloc: Global,
-    last: &Arc<Rows, Global>,
-    change: Change,
-) -> Result<Ready, AllocError>
+pub fn prepare(alloc: Global, last: &Arc<Rows, Global>, change: Change) -> Result<Ready, AllocError>
     ensures entry { IfOk result (λ r. arc_value r.step.entry ≡ arc_value change.entry) }
     ensures rows { IfOk result (λ r. arc_value r.step.root ≡ with_row change.row (arc_value last.now)) }
     ensures next { IfOk result (λ r. arc_value r.next ≡ with_row change.row (arc_value last.now)) }

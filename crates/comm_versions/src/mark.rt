@@ -97,19 +97,16 @@ impl Mark {
         ensures { MatchBool result (self.new ≡ known self.old.origin (self.old.front ++ arc_value entry.now ∷ [])) (self.new ≡ self.old) }
     {
         let mut seen = self.seen.again();
-        let mut offer: Offer<Entry, u64, Law, Nothing> = seen
-            .plain::<Nothing, Arc<Entry, Global>, Add>(entry);
+        let mut offer: Offer<Entry, u64, Law, Nothing> = seen.plain::<
+            Nothing,
+            Arc<Entry, Global>,
+            Add,
+        >(entry);
         let mut pen = seen.no_pen();
         let count = self.count;
         let found = head
             .head
-            .compare_exchange::<Add, Nothing>(
-                count,
-                count + 1,
-                &mut seen,
-                &mut offer,
-                &mut pen,
-            );
+            .compare_exchange::<Add, Nothing>(count, count + 1, &mut seen, &mut offer, &mut pen);
         if found != count {
             return false;
         }

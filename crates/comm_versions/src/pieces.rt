@@ -13,6 +13,9 @@ use std::sync::Arc;
 // So many comms stand in a piece at most; a longer one is cut in two. It is the root of the greatest number of comms.
 const LONGEST: usize = 64;
 
+// Neighbours that have no more than so many together become one piece, so that there aren't more pieces than the comms need, whatever was closed.
+const SHORT: usize = 32;
+
 // The same pieces, shared.
 fn shared(alloc: Global, pieces: &[Piece]) -> Result<Vec<Piece>, AllocError>
     requires { AllFilled pieces.now }
@@ -109,12 +112,31 @@ fn set_piece(
     Ok(all)
 }
 
+// The pieces, with the one at this place and the next as one where they are short.
+fn joined(alloc: Global, pieces: Vec<Piece>, place: usize) -> Result<Vec<Piece>, AllocError>
+    requires { AllFilled pieces.items }
+    ensures flat { IfOk result (λ all. flat all.items ≡ flat pieces.items) }
+    ensures filled { IfOk result (λ all. AllFilled all.items) }
+{
+    let all = pieces.as_slice();
+    if all.len() < 2 || all.len() - 2 < place {
+        return Ok(pieces);
+    }
+    let first = all[place].as_slice();
+    let second = all[place + 1].as_slice();
+    if SHORT < first.len() + second.len() {
+        return Ok(pieces);
+    }
+    let mut both = Vec::with_capacity(alloc, SHORT)?;
+    copy_all(first, &mut both)?;
+    copy_all(second, &mut both)?;
+    let mut rest = pieces;
+    rest.remove(place);
+    set_piece(alloc, rest, place, both)
+}
+
 // The comm in its place, or in place of the one of its id.
-fn put_in(
-    alloc: Global,
-    pieces: Vec<Piece>,
-    comm: &OpenComm,
-) -> Result<Vec<Piece>, AllocError>
+fn put_in(alloc: Global, pieces: Vec<Piece>, comm: &OpenComm) -> Result<Vec<Piece>, AllocError>
     requires filled { AllFilled pieces.items }
     requires ordered { IsInOrder (flat pieces.items) }
     ensures put { IfOk result (λ all. flat all.items ≡ put (flat pieces.items) comm.now) }
@@ -146,18 +168,16 @@ fn take_out(alloc: Global, pieces: Vec<Piece>, id: &Text) -> Result<Vec<Piece>, 
     match place_of(comms, id) {
         Ok(i) => {
             let left = without_at(alloc, comms, i)?;
-            set_piece(alloc, pieces, place, left)
+            let all = set_piece(alloc, pieces, place, left)?;
+            let all = joined(alloc, all, place)?;
+            joined(alloc, all, place.saturating_sub(1))
         }
         Err(_) => Ok(pieces),
     }
 }
 
 // The pieces without the comms of these ids.
-fn take_all(
-    alloc: Global,
-    pieces: Vec<Piece>,
-    ids: &[Text],
-) -> Result<Vec<Piece>, AllocError>
+fn take_all(alloc: Global, pieces: Vec<Piece>, ids: &[Text]) -> Result<Vec<Piece>, AllocError>
     requires filled { AllFilled pieces.items }
     requires ordered { IsInOrder (flat pieces.items) }
     ensures out { IfOk result (λ all. flat all.items ≡ without_all ids.now (flat pieces.items)) }

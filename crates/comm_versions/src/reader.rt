@@ -110,11 +110,7 @@ impl<J: History> VersionReader<J> {
 
     /// The open comms, those of one target where a name is given, after the entries that are then seen. They begin with all
     /// that was seen before. NoVersion leaves what was seen.
-    pub fn read_infos(
-        &mut self,
-        alloc: Global,
-        asked: Option<&Text>,
-    ) -> Result<InfoRead, ReadFault>
+    pub fn read_infos(&mut self, alloc: Global, asked: Option<&Text>) -> Result<InfoRead, ReadFault>
         ensures later { IsPrefix self.old self.new }
         ensures legal { OnOk result (IsLegal J.limits.clients J.limits.comms self.new) }
         ensures front { IfOk result (λ r. r.front ≡ length self.new) }

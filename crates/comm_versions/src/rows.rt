@@ -55,11 +55,7 @@ fn is_asked(asked: Option<&Text>, target: &Text) -> bool
 }
 
 // Adds those of these comms that are asked for. Their texts are shared.
-fn list_all(
-    comms: &[OpenComm],
-    asked: Option<&Text>,
-    all: &mut Vec<Info>,
-) -> Result<(), AllocError>
+fn list_all(comms: &[OpenComm], asked: Option<&Text>, all: &mut Vec<Info>) -> Result<(), AllocError>
     ensures { OnOk result (all.new.items ≡ all.old.items ++ map info_of (filter (λ e. passes (option_map (λ t. t.now) asked.entry) e.1.target) comms.now)) }
 {
     for open in comms {

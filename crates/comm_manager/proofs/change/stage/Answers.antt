@@ -7,7 +7,7 @@ use Rattle.comm_manager.proofs.Growing.{here, legal_more}
 use Rattle.comm_manager.proofs.change.stage.Goals as goal
 
 pub grow-requires-clause-legal : goal.grow-requires-clause-legal
-grow-requires-clause-legal g c =
+grow-requires-clause-legal g c κs live =
     let limits = g.J.History.limits in
     let w = c.args.writer.now in
     let b = c.in-Ok.ensures in
@@ -17,7 +17,7 @@ grow-requires-clause-legal g c =
     c.legal_histories_grow.ensures c.requires.legal.0 c.requires.legal.1 c.requires.who.0 c.requires.who.1)
 
 pub grow-requires-clause-ready : goal.grow-requires-clause-ready
-grow-requires-clause-ready g c =
+grow-requires-clause-ready g c κs live =
     let limits = g.J.History.limits in
     let w = c.args.writer.now in
     let b = c.in-Ok.ensures in
@@ -27,11 +27,11 @@ grow-requires-clause-ready g c =
       here limits w.front c.args.core.now c.begin.new.core c.args.who.0 c.args.who.1 c.in-Ok.ready c.requires.rests b.ready b.machine b.limit ∙ ap (replay limits.comms) (sym whole),
     )
 
-pub returns-in-Ok-in-Ok-clause-legal : goal.returns-in-Ok-in-Ok-clause-legal
-returns-in-Ok-in-Ok-clause-legal g c =
+pub returns-in-Ok-grow-clause-legal : goal.returns-in-Ok-grow-clause-legal
+returns-in-Ok-grow-clause-legal g c =
     let limits = g.J.History.limits in
     let w = c.args.writer.now in
     let b = c.in-Ok.ensures in
-    subst (λ (e : Entry). IsLegal limits.clients limits.comms (w.front ++ e ∷ [])) (sym c.in-Ok-2.ensures.kept)
+    subst (λ (e : Entry). IsLegal limits.clients limits.comms (w.front ++ e ∷ [])) (sym c.grow-in-Ok.ensures.kept)
     (legal_more limits w.front c.args.core.now c.begin.new.core c.args.who.0 c.args.who.1 c.in-Ok.ready c.requires.rests b.ready b.machine b.limit
     c.legal_histories_grow.ensures c.requires.legal.0 c.requires.legal.1 c.requires.who.0 c.requires.who.1)

@@ -1,4 +1,4 @@
-use Rattle.std.proofs.Common.{◌≡◌, ◌∷◌, ◌++◌, [], List, subst}
+use Rattle.std.proofs.Common.{◌≡◌, ◌∷◌, ◌++◌, List, subst}
 use Rattle.std.specs.Arc.{arc_value}
 use Rattle.comm_versions.specs.declared.adding.Step.{Step}
 use Rattle.comm_core.specs.History.{IsLegal}

@@ -1,4 +1,4 @@
-use Rattle.std.proofs.Common.{◌≡◌, ◌++◌, ◌∷◌, [], List, ap, sym, ◌∙◌, subst}
+use Rattle.std.proofs.Common.{◌++◌, ◌∷◌, [], List, ap, sym, ◌∙◌, subst}
 use mathlib.Core.List.{IsPrefix}
 use Rattle.comm_versions.specs.declared.version.Version.{Version}
 use Rattle.comm_versions.specs.Known.{Known}

@@ -1,4 +1,3 @@
-use Rattle.std.proofs.Common.{rules}
 use Rattle.comm_versions.proofs.Ids.{ordered_piece}
 use Rattle.comm_versions.proofs.Around.{around}
 use Rattle.comm_versions.proofs.search.comms_around.Goals as goal

@@ -1,5 +1,4 @@
-use Rattle.std.proofs.Common.{◌≡◌, ◌<◌, ◌+◌, ◌-◌, ◌/◌, ℕ, length, Less, sym, ap, ◌∙◌, arith}
-use Rattle.comm_versions.specs.Rows.{id_cmp}
+use Rattle.std.proofs.Common.{◌<◌, ◌+◌, ◌-◌, ◌/◌, ℕ, length, Less, sym, ◌∙◌, arith}
 use Rattle.comm_versions.proofs.Flat.{filled_items}
 use Rattle.comm_versions.proofs.Ids.{compared_id}
 use Rattle.comm_versions.proofs.Around.{absent_from, below_from}

@@ -12,7 +12,7 @@ invariant_of-client g c =
     let p = c.perform in
     let k = p.ensures.kept in
     let old : Who = who t.client t.number c.client.inside.reader in
-    let done = after_change p.result (λ m. m.answered.reply) (λ m. m.answered.stamp) (λ m. m.answered.number) g.J.History.limits (call_of g.T.means c.args.request) old c.self.inside.journal.all p.new.journal.all
+    let done = after_change p.result (λ m. m.answered.reply) (λ m. m.answered.stamp) (λ m. m.answered.number) g.J.History.limits (call_of g.T.Target.means c.args.request) old c.self.inside.journal.all p.new.journal.all
     p.new.reader p.new.ticket c.client.invariant.1 k.legal k.few p.ensures.next p.ensures.stamp p.ensures.seen p.ensures.ticket p.ensures.err in
     (_, done.0)
 
@@ -22,6 +22,6 @@ returns-clause-answered g c =
     let p = c.perform in
     let k = p.ensures.kept in
     let old : Who = who t.client t.number c.client.inside.reader in
-    let done = after_change p.result (λ m. m.answered.reply) (λ m. m.answered.stamp) (λ m. m.answered.number) g.J.History.limits (call_of g.T.means c.args.request) old c.self.inside.journal.all p.new.journal.all
+    let done = after_change p.result (λ m. m.answered.reply) (λ m. m.answered.stamp) (λ m. m.answered.number) g.J.History.limits (call_of g.T.Target.means c.args.request) old c.self.inside.journal.all p.new.journal.all
     p.new.reader p.new.ticket c.client.invariant.1 k.legal k.few p.ensures.next p.ensures.stamp p.ensures.seen p.ensures.ticket p.ensures.err in
-    subst (λ (w : Who). IfOk p.result (λ m. IsAnswered g.J.History.limits w (who_of p.new.ticket p.new.reader) (call_of g.T.means c.args.request) m.answered.number m.answered.reply m.answered.stamp)) c.client.view_is done.1
+    subst (λ (w : Who). IfOk p.result (λ m. IsAnswered g.J.History.limits w (who_of p.new.ticket p.new.reader) (call_of g.T.Target.means c.args.request) m.answered.number m.answered.reply m.answered.stamp)) c.client.view_is done.1

@@ -1,4 +1,4 @@
-use Rattle.std.proofs.Common.{◌≡◌, ◌++◌, ◌∷◌, [], sym, ◌∙◌, ap, subst}
+use Rattle.std.proofs.Common.{◌++◌, ◌∷◌, [], sym, ◌∙◌, ap, subst}
 use Rattle.std.specs.Arc.{arc_value}
 use Rattle.comm_core.specs.History.{IsLegal}
 use Rattle.comm_versions.specs.Known.{Known}
@@ -14,7 +14,7 @@ compare_exchange-found-requires g c =
     let offer = c.plain-offer.ensures in
     let pen = c.no_pen-pen.ensures in
     let may : IsLegal s.clients s.comms (s.seen.log ++ arc_value c.args.entry.now ∷ []) =
-        subst (λ (k : Known). IsLegal k.origin.clients k.origin.limit (k.front ++ arc_value c.args.entry.now ∷ [])) (sym c.self.view_is) c.requires.legal in (
+    subst (λ (k : Known). IsLegal k.origin.clients k.origin.limit (k.front ++ arc_value c.args.entry.now ∷ [])) (sym c.self.view_is) c.requires.legal in (
       ap (λ w. w.tracked) h,
       book ∙ sym (ap (λ w. w.book) h),
       pen.0 ∙ (book ∙ sym (ap (λ w. w.book) h)),

@@ -1,4 +1,4 @@
-use Rattle.std.proofs.Common.{◌≡◌, ◌++◌, ◌∷◌, [], ◌∙◌, sym, subst, ap, List}
+use Rattle.std.proofs.Common.{◌≡◌, ◌++◌, ◌∷◌, [], ◌∙◌, sym, subst, ap}
 use Rattle.std.specs.Arc.{arc_value}
 use Rattle.comm_core.specs.History.{IsLegal, replay}
 use Rattle.comm_core.specs.Row.{rows, with_row}
@@ -19,7 +19,7 @@ invariant_of-self-2 g c =
     let all = w.front ++ entries w.pending.items in
     let may : IsLegal clients comms (all ++ e ∷ []) = subst (λ (w : Written). IsLegal clients comms ((w.front ++ w.pending) ++ e ∷ [])) (sym c.self.view_is) c.requires.legal in
     let row : with_row r (rows (replay comms all)) ≡ rows (replay comms (all ++ e ∷ [])) =
-        subst (λ (w : Written). with_row r (rows (replay comms (w.front ++ w.pending))) ≡ rows (replay comms ((w.front ++ w.pending) ++ e ∷ []))) (sym c.self.view_is) c.requires.row in
+    subst (λ (w : Written). with_row r (rows (replay comms (w.front ++ w.pending))) ≡ rows (replay comms ((w.front ++ w.pending) ++ e ∷ []))) (sym c.self.view_is) c.requires.row in
     let m = c.in_ok-made.made in
     let same : arc_value m.step.entry ≡ e = c.in_ok-made.ensures.entry in
     let goes : with_row r (arc_value w.next) ≡ rows (replay comms (all ++ e ∷ [])) = ap (λ (t : Opens). with_row r t) c.self.invariant.4 ∙ row in
