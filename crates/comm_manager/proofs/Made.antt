@@ -88,15 +88,19 @@ pub after_change : {A E : Type 0} (r : Result A E) (reply_of : A → Reply) (sta
     → IfOk r (λ a. IsNext before after old.client (old.number + 1) asked (reply_of a))
     → IfOk r (λ a. (stamp_of a ≡ after) × (number_of a ≡ length after)) → IfOk r (λ a. (seen ≡ after) × IsPrefix old.seen before)
     → OnOk r ((t ≡ tally old.client (old.number + 1)) × (length (mine before old.client) ≡ old.number))
-    → OnErr r ((t ≡ tally old.client old.number) × ((seen ≡ old.seen) × (after ≡ before)))
-    → (t.number ≤ length (mine seen t.client)) × IfOk r (λ a. IsAnswered limits old (who_of t seen) asked (number_of a) (reply_of a) (stamp_of a))
+    → OnErr r ((t ≡ tally old.client old.number) × (seen ≡ old.seen) × (after ≡ before))
+    → (t.client ≡ old.client) × (t.number ≤ length (mine seen t.client)) × IfOk r (λ a. IsAnswered limits old (who_of t seen) asked (number_of a) (reply_of a) (stamp_of a))
 after_change (Ok a) reply_of stamp_of number_of limits asked old before after seen t some legal few next stamp saw number err =
     let whole : who_of t seen ≡ who old.client (old.number + 1) (stamp_of a) =
     ap (λ (x : Tally). who_of x seen) number.0 ∙ ap (λ (l : List Entry). who old.client (old.number + 1) l) (saw.0 ∙ sym stamp.0) in
     let more = made_more limits old (who_of t seen) before after (stamp_of a) asked (reply_of a) (number_of a) some saw.1 number.1 next legal few stamp.0 stamp.1 whole in
-    (more.1, more.0)
+    (ap (λ (x : Tally). x.client) number.0, more.1, more.0)
 after_change (Err e) reply_of stamp_of number_of limits asked old before after seen t some legal few next stamp saw number err =
-    (subst (λ (x : Tally). x.number ≤ length (mine seen x.client)) (sym err.0) (subst (λ (l : List Entry). old.number ≤ length (mine l old.client)) (sym err.1.0) some), tt)
+    (
+      ap (λ (x : Tally). x.client) err.0,
+      subst (λ (x : Tally). x.number ≤ length (mine seen x.client)) (sym err.0) (subst (λ (l : List Entry). old.number ≤ length (mine l old.client)) (sym err.1) some),
+      tt,
+    )
 
 -- what a client made stays as it sees more
 pub made_stays : (c n : ℕ) (seen more : List Entry) → n ≤ length (mine seen c) → IsPrefix seen more → (n ≤ length (mine more c)) × (made (who c n more) ≡ made (who c n seen))

@@ -18,6 +18,7 @@ use crate::naming::Naming;
 use crate::request::Request;
 use comm_core::{
     Core, Entry, Finished, Limits, Ready, Reply, Unavailable, legal_histories_grow, replays_grow,
+    rows_are_what_entries_change,
 };
 use comm_outbox::Outbox;
 use comm_targets::{Held, Target};
@@ -61,6 +62,7 @@ fn grow<J: Naming, T: Target>(
     ensures front { writer.new.front ≡ writer.old.front }
     ensures pending { MatchResult result (λ _. writer.new.pending ≡ writer.old.pending ++ entry_of who.0 who.1 ready.now ∷ []) (λ _. writer.new.pending ≡ writer.old.pending) }
 {
+    rows_are_what_entries_change();
     let (client, number) = who;
     let entry = ready.entry(alloc, client, number)?;
     let row = ready.row(alloc)?;

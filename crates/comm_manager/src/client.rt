@@ -167,8 +167,10 @@ impl<J: Naming> Client<J> {
     {
         match self.change(rt, manager, Request::Registering(name, target)) {
             Ok(done) => Ok(done),
-            Err((why, Some(target))) => Err((why, target)),
-            Err((_why, None)) => unreachable!(),
+            Err((why, back)) => match back {
+                Some(target) => Err((why, target)),
+                None => unreachable!(),
+            },
         }
     }
 

@@ -21,7 +21,7 @@ use crate::ledger::Books;
 use crate::naming::Naming;
 use crate::publisher::Publisher;
 use crate::request::Request;
-use comm_core::{Core, Entry, Limits, Row, Unavailable, legal_histories_grow};
+use comm_core::{Core, Entry, Limits, Row, Unavailable, legal_histories_grow, rows_are_what_entries_change};
 use comm_outbox::Outbox;
 use comm_targets::Target;
 use comm_versions::{Change, Stamp, VersionWriter};
@@ -243,6 +243,7 @@ fn close<J: Naming, R: Wait>(
     ensures err { OnErr result ((journal.new.all ≡ journal.old.all) × (writer.new ≡ writer.old) × (outbox.new ≡ outbox.old)) }
 {
     legal_histories_grow();
+    rows_are_what_entries_change();
     journal.reserve()?;
     let all = journal.len() as u64 + 1;
     let left = all.saturating_sub(publisher.taken());

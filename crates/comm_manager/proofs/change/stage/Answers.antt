@@ -32,6 +32,6 @@ returns-in-Ok-grow-clause-legal g c =
     let limits = g.J.History.limits in
     let w = c.args.writer.now in
     let b = c.in-Ok.ensures in
-    subst (λ (e : Entry). IsLegal limits.clients limits.comms (w.front ++ e ∷ [])) (sym c.grow-in-Ok.ensures.kept)
+    subst (λ (e : Entry). IsLegal limits.clients limits.comms (w.front ++ e ∷ [])) (sym c.in-Ok-grow.ensures.kept)
     (legal_more limits w.front c.args.core.now c.begin.new.core c.args.who.0 c.args.who.1 c.in-Ok.ready c.requires.rests b.ready b.machine b.limit
     c.legal_histories_grow.ensures c.requires.legal.0 c.requires.legal.1 c.requires.who.0 c.requires.who.1)

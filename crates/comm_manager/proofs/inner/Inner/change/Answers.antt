@@ -1,4 +1,4 @@
-use Rattle.std.proofs.Common.{subst, ℕ, List}
+use Rattle.std.proofs.Common.{◌<◌, ℕ, subst, sym}
 use Rattle.std.specs.Prelude.{IfOk}
 use Rattle.comm_manager.specs.Asked.{call_of}
 use Rattle.comm_manager.specs.Mine.{IsAnswered}
@@ -14,7 +14,7 @@ invariant_of-client g c =
     let old : Who = who t.client t.number c.client.inside.reader in
     let done = after_change p.result (λ m. m.answered.reply) (λ m. m.answered.stamp) (λ m. m.answered.number) g.J.History.limits (call_of g.T.Target.means c.args.request) old c.self.inside.journal.all p.new.journal.all
     p.new.reader p.new.ticket c.client.invariant.1 k.legal k.few p.ensures.next p.ensures.stamp p.ensures.seen p.ensures.ticket p.ensures.err in
-    (_, done.0)
+    (subst (λ (k : ℕ). k < g.J.History.limits.clients) (sym done.0) c.client.invariant.0, done.1)
 
 pub returns-clause-answered : goal.returns-clause-answered
 returns-clause-answered g c =
@@ -24,4 +24,4 @@ returns-clause-answered g c =
     let old : Who = who t.client t.number c.client.inside.reader in
     let done = after_change p.result (λ m. m.answered.reply) (λ m. m.answered.stamp) (λ m. m.answered.number) g.J.History.limits (call_of g.T.Target.means c.args.request) old c.self.inside.journal.all p.new.journal.all
     p.new.reader p.new.ticket c.client.invariant.1 k.legal k.few p.ensures.next p.ensures.stamp p.ensures.seen p.ensures.ticket p.ensures.err in
-    subst (λ (w : Who). IfOk p.result (λ m. IsAnswered g.J.History.limits w (who_of p.new.ticket p.new.reader) (call_of g.T.Target.means c.args.request) m.answered.number m.answered.reply m.answered.stamp)) c.client.view_is done.1
+    subst (λ (w : Who). IfOk p.result (λ m. IsAnswered g.J.History.limits w (who_of p.new.ticket p.new.reader) (call_of g.T.Target.means c.args.request) m.answered.number m.answered.reply m.answered.stamp)) c.client.view_is done.2

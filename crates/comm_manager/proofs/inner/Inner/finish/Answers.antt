@@ -15,3 +15,7 @@ gather-requires-clause-ended g c = ap has_end c.in-Ok.ensures.stamp.0 ∙ has_en
 pub gather-requires-clause-books : goal.gather-requires-clause-books
 gather-requires-clause-books g c =
     c.self.invariant.0.totals_are ∙ sym (counts-end c.self.inside.journal.all) ∙ ap counts (sym c.in-Ok.ensures.stamp.0)
+
+pub returns-in-Ok-clause-settled : goal.returns-in-Ok-clause-settled
+returns-in-Ok-clause-settled g c =
+    subst (λ (l : List Entry). All (λ (w : Who). IsSettled l w) c.args.clients.items) (sym (c.into_list.ensures ∙ c.in-Ok.ensures.history)) c.gather.ensures
