@@ -1,5 +1,5 @@
 -- One close more of a comm that isn't there.
-use Rattle.std.proofs.Common.{◌≡◌, ℕ, suc, ◌+◌, false, List, [], ◌∷◌, ◌++◌, length, None, Some, refl, ap, sym, subst, ◌∙◌, arith, length-append}
+use Rattle.std.proofs.Common.{◌≡◌, ℕ, ◌+◌, ◌-◌, false, List, [], ◌∷◌, ◌++◌, length, None, Some, refl, ap, sym, subst, ◌∙◌, arith, length-append}
 use Rattle.std.proofs.lemmas.List.Elements.{filter-append}
 use Rattle.comm_core.specs.Machine.{Machine, Name, empty}
 use Rattle.comm_core.specs.Step.{Stepped, Allowed, asks, step}
@@ -8,6 +8,7 @@ use Rattle.comm_core.specs.declared.call.Call.TheVariants as call
 use Rattle.comm_core.specs.declared.entry.Entry.{Entry}
 use Rattle.comm_core.specs.declared.entry.Entry.TheVariants.{Change, End}
 use Rattle.comm_core.specs.declared.reply.Reply.TheVariants as reply
+use Rattle.comm_outbox.specs.Sides.{Putting}
 use Rattle.comm_thread_tests.specs.Closes.{closing, OnlyCloses}
 
 -- the laws of legal histories, and of replays
@@ -51,5 +52,18 @@ module _ (comms : ℕ) (h : List Entry) (n : ℕ) (id : Name) (closes : OnlyClos
         all_are = omega arith;
       }
 
-  pub ends : Grows → IsLegal 1 comms (h ++ End ∷ [])
-  ends grows = grows 1 comms h End closes.legal closes.going
+-- what the queue that was seen to have room says of the close that is put
+module _ (old looked : Putting) (made room : ℕ) (id : Name) (e : Entry) (one : old.clients ≡ 1) (closes : OnlyCloses old.comms old.puts made)
+    (same : looked ≡ record old { room = room }) (is : e ≡ closing (made + 1) id) (grows : Grows) (replays : Replays) where
+  more : OnlyCloses old.comms (old.puts ++ e ∷ []) (made + 1)
+  more = subst (λ (x : Entry). OnlyCloses old.comms (old.puts ++ x ∷ []) (made + 1)) (sym is) (closes_more old.comms old.puts made id closes grows replays)
+
+  pub legal_next : IsLegal looked.clients looked.comms (looked.puts ++ e ∷ [])
+  legal_next =
+      subst (λ (o : Putting). IsLegal o.clients o.comms (o.puts ++ e ∷ [])) {x = record old { room = room }} (sym same)
+      (subst (λ (n : ℕ). IsLegal n old.comms (old.puts ++ e ∷ [])) {x = 1} (sym one) more.legal)
+
+  pub closes_next : (new : Putting) → new ≡ record looked { room = looked.room - 1; puts = looked.puts ++ e ∷ [] } → OnlyCloses new.comms new.puts (made + 1)
+  closes_next new put =
+      subst (λ (o : Putting). OnlyCloses o.comms o.puts (made + 1)) {x = record looked { room = looked.room - 1; puts = looked.puts ++ e ∷ [] }} (sym put)
+      (subst (λ (o : Putting). OnlyCloses o.comms (o.puts ++ e ∷ []) (made + 1)) {x = record old { room = room }} (sym same) more)

@@ -6,9 +6,7 @@ ghost use Rattle.comm_outbox.specs.Sides.{unfilled};
 ghost use Rattle.comm_thread_tests.specs.Closes.{closing, OnlyCloses};
 
 use crate::tests::words::Wrong;
-use comm_core::{
-    Call, Entry, Outgoings, Reply, Unavailable, legal_histories_grow, replays_grow,
-};
+use comm_core::{Call, Entry, Outgoings, Reply, Unavailable, legal_histories_grow, replays_grow};
 use comm_outbox::{Outbox, Publisher};
 use comm_value::Text;
 use std::alloc::{AllocError, Global};
@@ -119,7 +117,12 @@ impl<J: Line> Desk<J> {
     }
 
     /// Makes a change, whose number it gives.
-    pub fn put<R: Wait>(&mut self, rt: &R, alloc: Global, id: &str) -> Result<u64, Unavailable<u64>> {
+    pub fn put<R: Wait>(
+        &mut self,
+        rt: &R,
+        alloc: Global,
+        id: &str,
+    ) -> Result<u64, Unavailable<u64>> {
         let made = put_on(rt, alloc, &mut self.outbox, self.made, self.limit, id)?;
         self.made = made;
         Ok(made)

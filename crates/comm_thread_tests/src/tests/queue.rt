@@ -1,5 +1,6 @@
 //! The queue on which entries go out: two threads put under a lock, and a third takes.
-ghost use Rattle.std.specs.Prelude.{◌≡◌, ◌<◌};
+ghost use Rattle.std.specs.Prelude.{◌≡◌, ◌<◌, ◌≤◌, [], vec_capacity};
+ghost use Rattle.std.specs.Arc.{arc_value};
 ghost use Rattle.comm_outbox.specs.Sides.{unfilled};
 
 use crate::tests::desk::{Desk, Line};
@@ -7,7 +8,7 @@ use crate::tests::words::{Wrong, holds, whose};
 use comm_core::{Call, Entry, Unavailable};
 use comm_fakes::{has_leaked, mark, refuse, was_refused};
 use comm_outbox::{Outbox, Publisher, outbox};
-use std::alloc::Global;
+use std::alloc::{AllocError, Global};
 use std::marker::Brand;
 use std::sync::{Arc, Mutex, Wait};
 use std::test::*;
@@ -134,10 +135,7 @@ fn count_of(entries: &[Arc<Entry, Global>], wanted: &str) -> usize {
 }
 
 // What was taken and what wasn't are the 200 changes in their order, 100 of each thread, and then the end.
-fn are_all(
-    taken: &[Arc<Entry, Global>],
-    untaken: Vec<Arc<Entry, Global>>,
-) -> Result<(), Wrong> {
+fn are_all(taken: &[Arc<Entry, Global>], untaken: Vec<Arc<Entry, Global>>) -> Result<(), Wrong> {
     let mut untaken = untaken;
     let end = untaken.pop().ok_or(Wrong)?;
     holds(matches!(&*end, Entry::End))?;
@@ -230,17 +228,35 @@ fn the_queue_is_full_of_one(rt: HostRuntime) -> Result<(), Fail> {
     played(&rt, rt.alloc(), 1, None).map_err(|_| Fail::new("full of one"))
 }
 
-/// Each allocation of a new queue is refused in turn: there is no queue then, and nothing leaks.
+// A queue, in which the end is put and taken. Tells whether it was.
+fn passed<R: Wait>(
+    rt: &R,
+    alloc: Global,
+    end: Arc<Entry, Global>,
+    room: Vec<Arc<Entry, Global>>,
+) -> Result<bool, AllocError>
+    requires end { arc_value end ≡ Entry.End }
+    requires room { (room.items ≡ []) × (1 ≤ vec_capacity room) }
+{
+    let (mut outbox, mut publisher) = outbox(alloc, 2, 1, 16)?;
+    outbox.put(rt, end);
+    let is_taken = publisher.take(rt).is_some();
+    let rest = outbox.take_rest(rt, publisher, room);
+    Ok(is_taken && rest.is_empty())
+}
+
+/// Each allocation of a new queue is refused in turn: there is no queue then, and nothing leaks. What comes after it asks for none.
 #[test]
 fn refused_outbox(rt: HostRuntime) -> Result<(), Fail> {
     let alloc = rt.alloc();
     for number in 1..100u32 {
         mark(alloc);
+        let end = Arc::new(alloc, Entry::End)?;
+        let room = Vec::with_capacity(alloc, 1)?;
         let _is_heard = refuse(alloc, number);
-        let sides = outbox(alloc, 65, 1, 16);
+        let is_passed = passed(&rt, alloc, end, room).unwrap_or(false);
         let is_whole = !was_refused(alloc);
-        assert!(rt; sides.is_ok() == is_whole, "at {number}");
-        drop(sides);
+        assert!(rt; is_passed == is_whole, "at {number}");
         assert!(rt; !has_leaked(alloc), "at {number}");
         if is_whole {
             return Ok(());
