@@ -175,6 +175,6 @@ both_flat slice ps rest i p q v w xs ys both new same h is deref items is' deref
     let before : take i rest ≡ take i ps = ap (take i) out ∙ take_rest ps i within in
     let after : drop (i + 1) rest ≡ drop (i + 1 + 1) ps = ap (λ n. drop n rest) (add-one i) ∙ ap (drop (suc i)) out ∙ drop_behind ps i within ∙ ap (λ n. drop n ps) (sym (add-one (i + 1) ∙ ap suc (add-one i))) in
     let whole : flat slice ≡ flat (take i slice) ++ ((xs ++ ys) ++ flat (drop (i + 1 + 1) slice)) =
-        flat_cut slice i ∙ ap (λ l. flat (take i slice) ++ l) (first ∙ ap (λ l. xs ++ l) second ∙ sym (append_assoc xs ys (flat (drop (i + 1 + 1) slice)))) in
+    flat_cut slice i ∙ ap (λ l. flat (take i slice) ++ l) (first ∙ ap (λ l. xs ++ l) second ∙ sym (append_assoc xs ys (flat (drop (i + 1 + 1) slice)))) in
     made ∙ ap (λ l. flat l ++ (both ++ flat (drop (i + 1) rest))) before ∙ ap (λ l. flat (take i ps) ++ (l ++ flat (drop (i + 1) rest))) joined
     ∙ ap (λ l. flat (take i ps) ++ ((xs ++ ys) ++ flat l)) after ∙ sym (subst (λ l. flat l ≡ flat (take i l) ++ ((xs ++ ys) ++ flat (drop (i + 1 + 1) l))) same whole)

@@ -7,3 +7,4 @@ pub mod Flat
 pub mod Ids
 pub mod Around
 pub mod Listed
+pub mod Crossing

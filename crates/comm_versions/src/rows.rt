@@ -59,7 +59,7 @@ fn list_all(comms: &[OpenComm], asked: Option<&Text>, all: &mut Vec<Info>) -> Re
     ensures { OnOk result (all.new.items ≡ all.old.items ++ map info_of (filter (λ e. passes (option_map (λ t. t.now) asked.entry) e.1.target) comms.now)) }
 {
     for open in comms {
-        let target = &open.comm().target;
+        let target = open.target();
         if is_asked(asked, target) {
             let id = open.id().copy()?;
             let target = target.copy()?;
@@ -118,7 +118,7 @@ impl Rows {
         ensures { IfOk result (λ s. s ≡ state_at (at self.now id.now)) }
     {
         match self.get(id) {
-            Some(open) => answer(&open.comm().state),
+            Some(open) => answer(open.state()),
             None => Ok(StateAnswer::NoComm),
         }
     }
