@@ -1,4 +1,4 @@
-
+pub mod Crossing
 pub mod Entries
 pub mod Gathering
 pub mod Growing
