@@ -77,7 +77,6 @@ mod opening;
 mod outgoing;
 mod publisher;
 
-pub use line::{InOrder, Line, Log};
 pub use opening::outbox;
 pub use outgoing::Outbox;
 pub use publisher::Publisher;
