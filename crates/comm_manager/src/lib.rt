@@ -114,11 +114,14 @@
 //! }
 //! ```
 //!
-//! Where a function starts threads, the check asks that what it hands to them may cross. Put the call of `join` into a small function, `both`,
-//! and answer it in `proofs/both/Answers.antt`; the bounds are bound by name, so that the search finds them:
+//! Where a function starts threads, the check asks that what it hands to them, and what they give back, may cross. Put the call of `join` into a
+//! small function, `both`, and answer it in `proofs/both/Answers.antt`; the bounds, and what follows of the manager's parts, are bound by name, so
+//! that the search finds them:
 //!
 //! ```text
-//! use Rattle.comm_manager.proofs.Crossing.{shared}
+//! use denote.Param.Send.{sendable}
+//! use Rattle.std.proofs.Crossing.{crosses}
+//! use Rattle.comm_manager.proofs.Crossing.{manager_sync, client_send, publisher_send}
 //! use Rattle.mine.proofs.both.Goals as goal
 //!
 //! pub join-requires-send-F : goal.join-requires-send-F
@@ -127,7 +130,18 @@
 //!     let j = c.type_bounds.send-J in
 //!     let k = c.type_bounds.sync-J in
 //!     let t = c.type_bounds.send-T in
-//!     search shared depth 60
+//!     let m = manager_sync _ g.J.Naming g.J.History j k _ g.T.Target t in
+//!     let l = client_send _ g.J.Naming g.J.History j k in
+//!     let p = publisher_send _ g.J.Naming g.J.History j k in
+//!     search (sendable, crosses) depth 60
+//!
+//! pub join-requires-send-A : goal.join-requires-send-A
+//! join-requires-send-A g c κs within =
+//!     let j = c.type_bounds.send-J in
+//!     let k = c.type_bounds.sync-J in
+//!     let l = client_send _ g.J.Naming g.J.History j k in
+//!     let p = publisher_send _ g.J.Naming g.J.History j k in
+//!     search (sendable, crosses) depth 60
 //! ```
 //!
 //! `comm_thread_tests` has this whole, in `src/tests/threads.rt`.
