@@ -69,9 +69,10 @@ pub fn make<T: Target>(
         }
         Plan::Register { name, .. } => {
             drop(outcome);
-            if let Some(target) = boxed {
-                boxes.push(name, Held::new(target));
-            }
+            let Some(target) = boxed else {
+                return Made::ending_none(None);
+            };
+            boxes.push(name, Held::new(target));
             Made::ending_none(None)
         }
         Plan::Unregister { name } => {
