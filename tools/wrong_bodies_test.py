@@ -3,7 +3,7 @@ import tempfile
 import unittest
 from pathlib import Path
 
-from wrong_bodies_lib import choice, edits, kit, lanes, record, sums
+from wrong_bodies_lib import batches, choice, edits, kit, lanes, record, sums
 
 GB = 1_000_000_000
 
@@ -117,6 +117,50 @@ class Choice(unittest.TestCase):
     def test_crates_begin_elsewhere(self):
         self.assertEqual(choice.crates_in_turn(["c", "a", "b"], 4), ["b", "c", "a"])
         self.assertEqual(choice.crates_in_turn([], 4), [])
+
+
+class Batches(unittest.TestCase):
+    FILE = "src/a/b.rt"
+    TEXT = "fn one() {\n    1\n}\n\nimpl A {\n    pub fn two(&self) -> u8\n        ensures { x }\n    {\n        2\n    }\n\n    pub(crate) fn one() {\n        3\n    }\n}\n"
+
+    def function(self, old, new):
+        return batches.function_of({self.FILE: self.TEXT}, {self.FILE: self.TEXT.replace(old, new)})
+
+    def test_where_a_function_stands(self):
+        found = [(it.name, it.first, it.last, it.is_only_one) for it in batches.functions_in(self.FILE, self.TEXT)]
+        self.assertEqual(found, [("one", 1, 3, False), ("two", 6, 10, True), ("one", 12, 14, False)])
+
+    def test_the_function_of_an_edit(self):
+        self.assertEqual(self.function("        2", "        4").name, "two")
+        self.assertEqual(self.function("        3", "        4").first, 12)
+        self.assertIsNone(self.function("impl A", "impl B"))
+        self.assertIsNone(self.function("    1\n", ""))
+        self.assertIsNone(self.function("    1\n}\n\nimpl A {\n    pub fn two(&self)", "    2\n}\n\nimpl A {\n    pub fn two(&mut self)"))
+        self.assertIsNone(batches.function_of({"src/a.rt": "x", "src/b.rt": "x"}, {"src/a.rt": "y", "src/b.rt": "y"}))
+
+    def test_groups(self):
+        one, two, three = self.function("    1", "    4"), self.function("        2", "        4"), self.function("        3", "        4")
+        a, b, c, d, e = (edit(it) for it in "abcde")
+        self.assertEqual(batches.grouped([a, b, c, d, e], {a: one, b: one, c: None, d: two, e: three}), [[a, d, e], [b], [c]])
+        many = [batches.Function(self.FILE, "f", number, number, True) for number in range(batches.SIZE + 1)]
+        self.assertEqual([len(it) for it in batches.grouped(many, {it: it for it in many})], [batches.SIZE, 1])
+
+    def test_one_text_of_several(self):
+        afters = [{self.FILE: self.TEXT.replace("    1\n", "    7\n")}, {self.FILE: self.TEXT.replace("        2", "        8")}]
+        wanted = self.TEXT.replace("    1\n", "    7\n").replace("        2", "        8")
+        self.assertEqual(batches.merged({self.FILE: self.TEXT}, afters), {self.FILE: wanted})
+
+    def test_what_is_told_of_a_function(self):
+        two, one = self.function("        2", "        4"), self.function("        3", "        4")
+        notes = "note: src/a/b.rt:{}:5: it is not proved that what the function ensures holds when it returns (`returns`)"
+        self.assertTrue(batches.is_refused(two, ["logic=not-proved", notes.format(6)]))
+        self.assertTrue(batches.is_refused(two, [notes.format(10)]))
+        self.assertFalse(batches.is_refused(two, [notes.format(11), notes.format(5), "so far: " + notes.format(6)]))
+        self.assertFalse(batches.is_refused(two, [notes.format(6).replace("b.rt", "c.rt"), "note: src/a/b.rt:6:5: large solution"]))
+        proof = "./proofs/a/b/{}/Answers.antt:9:5: error: `returns`: {}"
+        self.assertTrue(batches.is_refused(two, [proof.format("A/two", "the two types differ")]))
+        self.assertFalse(batches.is_refused(two, [proof.format("A/one", "the two types differ"), proof.format("A/two", "it has no field `x`")]))
+        self.assertFalse(batches.is_refused(one, [proof.format("A/one", "the two types differ")]))
 
 
 class Judging(unittest.TestCase):

@@ -8,8 +8,9 @@ import os
 import shutil
 import subprocess
 import sys
+from pathlib import Path
 
-NEEDED = ("must_fail", "checked", "need", "free", "processors")
+NEEDED = ("must_fail", "read_edit", "unread", "checked", "need", "free", "processors")
 REFUSED = "refused, as it must be"
 BY_NAME = "only because a proof file names what the edit took away"
 UNSURE = ("NOT REFUSED", "did not reach the prover", "could not be used")
@@ -83,6 +84,20 @@ class Kit:
         if not is_refused and any(it in text for it in UNSURE):
             is_refused, text = self.rt.must_fail(crate, str(path), ONE_JOB)
         return how_refused(is_refused, text), text.partition(".edit: ")[2] or text
+
+
+    def texts_of(self, edit, path):
+        """The texts that the edit changes, by their file, and the same as they are; nothing where it can't be applied."""
+        crate = self.crates[edit.crate]
+        after, _why = self.rt.read_edit(str(path), crate.folder)
+        return after or {}, {file: Path(crate.folder, file).read_text() for file in after or {}}
+
+    def refusal(self, name, texts, kept):
+        """The lines in which the prover refuses the crate with these texts; none where it proves it, or can't read them."""
+        ran = self.rt.checked(self.crates[name], texts, ONE_JOB, str(kept))
+        lines = ran.stdout.rstrip("\n").split("\n")
+        is_read = not any(self.rt.unread(it, texts) for it in lines) and not self.rt.rtlib.STALE.search(ran.stdout)
+        return lines if is_read and ran.returncode == 1 and lines[-1].startswith("logic=not-proved") else []
 
 
 @contextlib.contextmanager

@@ -12,6 +12,8 @@ from .trying import Run, Wish
 
 CRATE = "comm_fakes"
 PLACE = "file: src/writer.rt\nold:             calls: 0,\nnew: "
+BESIDE = "file: src/reader.rt\nold: self.calls.saturating_add(1)\nnew: "
+APART = "file: src/writer.rt\nold: let count = buf.len().min(self.step.max(1));\nnew: "
 # No commits are counted in the copy: of those that the record has as they are, 'harmless_but_recorded' has its turn, and 'stands' not.
 EDITS = {
     "refused": PLACE + "            calls: 1,\n",
@@ -23,6 +25,8 @@ EDITS = {
     "has_another_type": PLACE + '            calls: "none",\n',
     "does_not_fit": PLACE.replace("calls", "no_such_field") + "            calls: 1,\n",
     "changes_a_definition": PLACE.replace("src/", "specs/") + "            calls: 1,\n",
+    "refused_beside_others": BESIDE + "self.calls.saturating_add(2)\n",
+    "changes_nothing_beside_others": APART + "let count = buf.len().min(self.step.max(1)).max(0);\n",
 }
 WANTED = {
     "refused": "proof",
@@ -34,6 +38,8 @@ WANTED = {
     "has_another_type": "BAD EDIT",
     "does_not_fit": "BAD EDIT",
     "changes_a_definition": "which is no body",
+    "refused_beside_others": "proof",
+    "changes_nothing_beside_others": "NOT REFUSED",
 }
 
 

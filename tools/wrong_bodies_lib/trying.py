@@ -7,6 +7,7 @@ from dataclasses import dataclass, field
 from pathlib import Path
 
 from . import kit as kits
+from .batches import function_of, grouped, is_refused, merged
 from .choice import Mode, chosen, crates_in_turn
 from .edits import FOLDERS, body_fault, edits_below
 from .lanes import Job, in_lanes
@@ -154,30 +155,66 @@ class Run:
                         self.told.failed[edit] = "not tried, since its crate isn't proved as it stands"
                         self.unreached.discard(edit)
                 return []
-            over_kept = int(self.kit.need(name) * OVER_KEPT)
-            firsts = sorted(edits, key=lambda it: it not in self.must)
-            return [Job(lambda it=it: self.trial(it), over_kept, it not in self.must) for it in firsts]
+            return self.trials(name, [it for it in edits if it in self.must]) + self.trials(name, [it for it in edits if it not in self.must])
 
         return Job(run, need, not any(it in self.must for it in edits))
 
-    def trial(self, edit):
+    def job(self, edits, work):
+        """The work on these edits of one crate."""
+        return Job(work, int(self.kit.need(edits[0].crate) * OVER_KEPT), edits[0] not in self.must)
+
+    def trials(self, name, edits):
+        """The trials of these edits of a crate: a few together where each lies in a function of its own."""
+        texts = {it: self.kit.texts_of(it, it.path(self.room.top)) for it in edits}
+        functions = {it: function_of(before, after) for it, (after, before) in texts.items()}
+        made = []
+        for group in grouped(edits, functions):
+            if len(group) == 1:
+                made.append(self.job(group, lambda it=group[0]: self.trial(it)))
+            else:
+                made.append(self.job(group, lambda its=group: self.trial_together(name, {it: (functions[it], *texts[it]) for it in its})))
+        return made
+
+    def trial_together(self, name, group):
+        """Tries edits in one copy. What isn't told to be refused in its own function is tried alone."""
+        began, number = time.monotonic(), self.next_number()
+        kept = self.room.lane(name, number)
+        before = {file: text for _, _, texts in group.values() for file, text in texts.items()}
+        try:
+            told = self.kit.refusal(name, merged(before, [after for _, after, _ in group.values()]), kept)
+        finally:
+            self.room.leave(number)
+        seconds = (time.monotonic() - began) / len(group)
+        refused = [it for it, (function, _, _) in group.items() if is_refused(function, told)]
+        with self.lock:
+            for edit in refused:
+                self.note(edit, "proof", "", seconds)
+        return [self.job([it], lambda it=it: self.trial(it)) for it in group if it not in refused]
+
+    def next_number(self):
         with self.lock:
             self.number += 1
-            number = self.number
-        began = time.monotonic()
+            return self.number
+
+    def trial(self, edit):
+        began, number = time.monotonic(), self.next_number()
         kept = self.room.lane(edit.crate, number)
         try:
             how, text = self.kit.tried(edit, edit.path(self.room.top), kept)
         finally:
             self.room.leave(number)
         with self.lock:
-            self.unreached.discard(edit)
-            if how:
-                self.told.refused[edit] = how
-                self.record.put(edit, self.sums[edit], how)
-            else:
-                self.told.failed[edit] = "; ".join(text.splitlines())
-                self.record.drop(edit)
-            self.done += 1
-            self.say(f"{self.done} of {self.count}: {edit}: {how or 'FAILED: ' + self.told.failed[edit]}, {time.monotonic() - began:.0f} s")
+            self.note(edit, how, "; ".join(text.splitlines()), time.monotonic() - began)
         return []
+
+    def note(self, edit, how, why, seconds):
+        """What came of an edit: how it was refused, or why that can't be said."""
+        self.unreached.discard(edit)
+        if how:
+            self.told.refused[edit] = how
+            self.record.put(edit, self.sums[edit], how)
+        else:
+            self.told.failed[edit] = why
+            self.record.drop(edit)
+        self.done += 1
+        self.say(f"{self.done} of {self.count}: {edit}: {how or 'FAILED: ' + why}, {seconds:.0f} s")
