@@ -194,6 +194,13 @@ class Lanes(unittest.TestCase):
         self.assertEqual(lanes.in_lanes([may, must], 2, lambda: 10 * GB, deadline=0), [may])
         self.assertEqual(done, ["must"])
 
+    def test_after_the_last_moment_nothing(self):
+        done = []
+        must = lanes.Job(lambda: done.append("must") or [], GB)
+        may = lanes.Job(lambda: done.append("may") or [], GB, may_wait=True)
+        self.assertEqual(lanes.in_lanes([may, must], 2, lambda: 10 * GB, last=0), [may, must])
+        self.assertEqual(done, [])
+
 
 if __name__ == "__main__":
     unittest.main()

@@ -13,6 +13,7 @@ extern void __libc_free(void *);
 extern char *getenv(const char *);
 extern long write(int, const void *, size);
 extern int *__errno_location(void);
+extern void _Exit(int) __attribute__((noreturn));
 
 static const size REFUSE = 0x5EED000100000000, TOLD = 0x5EED000200000000, LEAKED = 0x5EED000300000000, MARK = 0x5EED000400000000;
 static const int NO_MEMORY = 12, BAD_ALIGNMENT = 22;
@@ -118,7 +119,7 @@ static int descriptor(void) {
     return n;
 }
 
-static __attribute__((destructor)) void ends(void) {
+static __attribute__((destructor)) void tell(void) {
     char line[80], *to = line;
     int file = descriptor();
     if (file < 0) return;
@@ -126,4 +127,10 @@ static __attribute__((destructor)) void ends(void) {
     to = put(to, " refused=", refusals);
     *to++ = '\n';
     if (write(file, line, to - line) < 0) return;
+}
+
+/* A program that may start threads ends by this, which calls no destructor. */
+void _exit(int status) {
+    tell();
+    _Exit(status);
 }

@@ -23,8 +23,9 @@ def fits(job, running, total, free):
     return not running or (held + job.memory <= SHARE * total and job.memory + SPARE <= free)
 
 
-def in_lanes(jobs, count, free, deadline=None):
-    """Runs the jobs in order, each as soon as it fits. Of those that may wait, none starts after the deadline; returns what was left."""
+def in_lanes(jobs, count, free, deadline=None, last=None):
+    """Runs the jobs in order, each as soon as it fits. Of those that may wait, none starts after the deadline, and none at all after the last
+    moment; returns what was left."""
     left, running, total = list(jobs), {}, free()
     late = []
     with ThreadPoolExecutor(count) as pool:
@@ -32,6 +33,8 @@ def in_lanes(jobs, count, free, deadline=None):
             if deadline is not None and time.monotonic() > deadline:
                 late += [it for it in left if it.may_wait]
                 left = [it for it in left if not it.may_wait]
+            if last is not None and time.monotonic() > last:
+                late, left = late + left, []
             for job in list(left):
                 if len(running) < count and fits(job, running.values(), total, free()):
                     left.remove(job)

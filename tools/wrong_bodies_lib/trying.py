@@ -29,6 +29,7 @@ class Wish:
     names: tuple = ()
     lanes: int = 0
     minutes: float = 15
+    by: float | None = None
     after_ci: bool = False
 
 
@@ -136,9 +137,12 @@ class Run:
         self.unreached = {it for edits in by_crate.values() for it in edits}
         jobs = [self.first(name, by_crate[name]) for name in order]
         deadline = None if self.wish.mode is Mode.ALL else self.began + 60 * self.wish.minutes
-        in_lanes(jobs, self.lanes, self.kit.free, deadline)
-        self.told.not_reached = sorted(self.unreached)
-        self.told.stand += len(self.unreached)
+        last = None if self.wish.by is None else self.began + 60 * self.wish.by
+        in_lanes(jobs, self.lanes, self.kit.free, deadline, last)
+        for edit in self.unreached & self.must:
+            self.told.failed[edit] = "not recorded, and not tried for want of time"
+        self.told.not_reached = sorted(self.unreached - self.must)
+        self.told.stand += len(self.told.not_reached)
 
     def first(self, name, edits):
         """The check of a crate as it stands, over which its wrong bodies are tried."""

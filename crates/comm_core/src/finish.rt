@@ -1,5 +1,5 @@
 //! How the plan of a call is carried out, and how it is taken back.
-ghost use Rattle.std.specs.Prelude.{◌≡◌, ◌<◌, Option, None, Some, Ok, OnOk, option_map};
+ghost use Rattle.std.specs.Prelude.{◌≡◌, ◌<◌, ◌++◌, ◌∷◌, [], Option, None, Some, Ok, OnOk, option_map};
 ghost use Rattle.comm_targets.specs.Meaning.{Meaning};
 ghost use Rattle.comm_core.specs.Machine.{at, AreDistinct};
 ghost use Rattle.comm_core.specs.Step.{Outcome, answered, without_comm, stated, without_target};
@@ -69,13 +69,11 @@ pub fn make<T: Target>(
         }
         Plan::Register { name, .. } => {
             drop(outcome);
-            match boxed {
-                Some(target) => {
-                    boxes.push(name, Held::new(target));
-                    Made::ending_none(None)
-                }
-                None => Made::ending_none(None),
-            }
+            let Some(target) = boxed else {
+                return Made::ending_none(None);
+            };
+            boxes.push(name, Held::new(target));
+            Made::ending_none(None)
         }
         Plan::Unregister { name } => {
             drop(outcome);
@@ -127,23 +125,11 @@ fn commit<T: Target>(boxes: &mut Boxes<T>, comms: &mut Comms, question: Question
     match event {
         Event::Open { id, version, body } => {
             drop((version, body));
-            comms.insert(
-                id,
-                Comm {
-                    target: name,
-                    state,
-                },
-            );
+            note_open(comms, id, name, state);
         }
         Event::Launch { id, state: values } => {
             drop(values);
-            comms.insert(
-                id,
-                Comm {
-                    target: name,
-                    state,
-                },
-            );
+            note_open(comms, id, name, state);
         }
         Event::Msg { id, body } => {
             drop(body);
@@ -154,6 +140,15 @@ fn commit<T: Target>(boxes: &mut Boxes<T>, comms: &mut Comms, question: Question
             note_state(comms, &id, state);
         }
     }
+}
+
+/// The comm that a target took, with its first state.
+fn note_open(comms: &mut Comms, id: Text, target: Text, state: Option<Dict>)
+    requires room { 0 < comms.old.room }
+    requires fresh { at comms.old.all id ≡ None }
+    ensures { comms.new.all ≡ comms.old.all ++ (id, record { target = target; state = state }) ∷ [] }
+{
+    comms.insert(id, Comm { target, state });
 }
 
 /// The comm's new state, where the answer has one.

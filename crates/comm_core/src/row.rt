@@ -5,7 +5,6 @@ ghost use Rattle.comm_core.specs.Ready.{CoreValue, IsReady, machine};
 ghost use Rattle.comm_core.specs.Row.{closed_row, put_row, row_in, stated_row, unregistered_row};
 
 use crate::call::Call;
-use crate::comm::Comm;
 use crate::ids::Ids;
 use crate::manager::Ready;
 use crate::plan::Plan;
@@ -21,7 +20,8 @@ use std::sync::Arc;
 #[derive(Drop)]
 pub struct Opened {
     id: Text,
-    comm: Comm,
+    target: Text,
+    state: Option<Dict>,
 }
 
 /// An open comm with its id. Copies share it.
@@ -40,15 +40,20 @@ impl Model for OpenComm {
 
     ghost coded = { open_code };
 
-    ghost view = { λ o. ((arc_value o.shared).id, (arc_value o.shared).comm) };
+    ghost view = { λ o. ((arc_value o.shared).id, record { target = (arc_value o.shared).target; state = (arc_value o.shared).state }) };
 }
 
 impl OpenComm {
     /// Err: memory.
-    pub fn new(alloc: Global, id: Text, comm: Comm) -> Result<OpenComm, AllocError>
-        ensures { IfOk result (λ o. o ≡ (id, comm)) }
+    pub fn new(
+        alloc: Global,
+        id: Text,
+        target: Text,
+        state: Option<Dict>,
+    ) -> Result<OpenComm, AllocError>
+        ensures { IfOk result (λ o. o ≡ (id, record { target = target; state = state })) }
     {
-        let shared = Arc::new(alloc, Opened { id, comm })?;
+        let shared = Arc::new(alloc, Opened { id, target, state })?;
         Ok(OpenComm { shared })
     }
 
@@ -67,10 +72,17 @@ impl OpenComm {
         &self.shared.id
     }
 
-    pub fn comm(&self) -> &Comm
-        ensures { result.now ≡ self.now.1 }
+    /// The name of its target.
+    pub fn target(&self) -> &Text
+        ensures { result.now ≡ self.now.1.target }
     {
-        &self.shared.comm
+        &self.shared.target
+    }
+
+    pub fn state(&self) -> &Option<Dict>
+        ensures { result.now ≡ self.now.1.state }
+    {
+        &self.shared.state
     }
 }
 
@@ -95,8 +107,7 @@ fn put(alloc: Global, id: &Text, target: &Text, state: &Option<Dict>) -> Result<
         Some(state) => Some(state.copy()?),
         None => None,
     };
-    let target = target.copy()?;
-    let comm = OpenComm::new(alloc, id.copy()?, Comm { target, state })?;
+    let comm = OpenComm::new(alloc, id.copy()?, target.copy()?, state)?;
     Ok(Row::Put(comm))
 }
 

@@ -5,7 +5,7 @@ use Rattle.comm_targets.specs.declared.kind.Kind.TheVariants.{Echo, Counter, Wid
 use Rattle.comm_core.specs.declared.limits.Limits.{Limits}
 use Rattle.comm_core.specs.Machine.{Registered}
 use Rattle.comm_script.specs.declared.fault.RunFault.{RunFault}
-use Rattle.comm_script.specs.declared.fault.RunFault.TheVariants.{Read, Write, Memory, BadLimits}
+use Rattle.comm_script.specs.declared.fault.RunFault.TheVariants.{Read, Write, Memory, BadLimits, NoReader}
 
 abbrev pub program_limits : Limits
 program_limits = record { clients = 4; comms = 4096; history = 1000000; outbox = 64 }
@@ -19,10 +19,11 @@ abbrev pub program_stock : List Registered
 program_stock =
     new_target Echo ∷ new_target Echo ∷ new_target Counter ∷ new_target Counter ∷ new_target Widget ∷ new_target Widget ∷ []
 
--- 1: the script couldn't be read, or the answers couldn't be written; 2: there was no memory
+-- 1: the script couldn't be read, or the answers couldn't be written; 2: there was no memory, or no version to read
 abbrev pub status_of : Result ⊤ RunFault → ℕ
 status_of (Ok done) = 0
 status_of (Err Read) = 1
 status_of (Err Write) = 1
 status_of (Err Memory) = 2
 status_of (Err BadLimits) = 2
+status_of (Err NoReader) = 2

@@ -1,4 +1,4 @@
-// Plays a script of comm messages and commands.
+// Plays a script of comm messages and commands, over a manager of one thread or over one that threads share.
 #![tactic(auto)]
 
 ghost use Rattle.std.specs.Prelude.{◌≡◌, OnOk, IfSome};
@@ -8,10 +8,12 @@ ghost use Rattle.comm_driver.specs.Program.{program_limits, program_stock, statu
 
 use comm_core::Limits;
 use comm_script::{RunFault, add, run_with};
+use comm_shared::run_shared_with;
 use comm_targets::{Counter, Echo, Target};
 use std::alloc::Global;
 use std::io::{Read, Write};
 use std::process::ExitCode;
+use std::sync::Wait;
 use std::{env, io};
 use widget_target::WidgetTarget;
 
@@ -23,9 +25,22 @@ const LIMITS: Limits = Limits {
     outbox: 64,
 };
 
+/// Which manager a script is played over.
+#[derive(Clone, Copy, PartialEq, Eq, Debug)]
+enum Over {
+    OneThread,
+    Shared,
+}
+
 /// Plays a script with two targets of each kind in stock.
-fn play<R: Read, W: Write>(alloc: Global, reader: &mut R, writer: &mut W) -> Result<(), RunFault>
-    ensures { OnOk result (IfSome (R.remaining reader.old) (λ input.
+fn play<R: Read, W: Write, H: Wait>(
+    rt: &H,
+    alloc: Global,
+    over: Over,
+    reader: &mut R,
+    writer: &mut W,
+) -> Result<(), RunFault>
+    ensures { over ≡ Over.OneThread → OnOk result (IfSome (R.remaining reader.old) (λ input.
         Appends (W.contents writer.old) (W.contents writer.new) (played program_limits program_stock input))) }
 {
     let mut stock = Vec::new(alloc);
@@ -41,35 +56,39 @@ fn play<R: Read, W: Write>(alloc: Global, reader: &mut R, writer: &mut W) -> Res
     add(&mut stock, widget)?;
     let other_widget: Box<dyn Target> = Box::new(alloc, WidgetTarget::new(alloc))?;
     add(&mut stock, other_widget)?;
-    run_with(alloc, reader, writer, LIMITS, stock)
+    match over {
+        Over::OneThread => run_with(alloc, reader, writer, LIMITS, stock),
+        Over::Shared => run_shared_with(rt, alloc, reader, writer, LIMITS, stock),
+    }
 }
 
 /// The exit status: 0 where the whole script was played, 1 where it couldn't be read or the answers couldn't be written, 2 for
-/// want of memory.
+/// want of memory or of a version to read.
 fn status(end: Result<(), RunFault>) -> u8
     ensures { result ≡ status_of end }
 {
     match end {
         Ok(()) => 0,
         Err(RunFault::Read | RunFault::Write) => 1,
-        Err(RunFault::Memory | RunFault::BadLimits) => 2,
+        Err(RunFault::Memory | RunFault::BadLimits | RunFault::NoReader) => 2,
     }
 }
 
-/// Whether the program was called without an argument.
-fn is_called_alone(rt: &HostRuntime) -> bool {
-    let Ok(mut words) = env::args(rt) else {
-        return false;
-    };
+/// What the arguments ask for: none, or the one word `shared`.
+fn asked(rt: &HostRuntime) -> Option<Over> {
+    let mut words = env::args(rt).ok()?;
     let _program = words.next();
-    words.next().is_none()
+    let Some(word) = words.next() else {
+        return Some(Over::OneThread);
+    };
+    if word.as_str() == "shared" && words.next().is_none() { Some(Over::Shared) } else { None }
 }
 
-/// Plays standard input to standard output; the exit status is 3 for any argument.
+/// Plays standard input to standard output; the exit status is 3 for any argument but the one word `shared`.
 fn main(rt: HostRuntime) -> ExitCode {
-    if !is_called_alone(&rt) {
+    let Some(over) = asked(&rt) else {
         return ExitCode::from(3);
-    }
-    let end = play(rt.alloc(), &mut rt.reader(), &mut io::writer(&rt));
+    };
+    let end = play(&rt, rt.alloc(), over, &mut rt.reader(), &mut io::writer(&rt));
     ExitCode::from(status(end))
 }

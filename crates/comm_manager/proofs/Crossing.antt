@@ -1,4 +1,4 @@
--- A manager may be shared by threads.
+-- A manager may be shared by threads, and its clients and its publisher may go to them.
 use denote.RattleType.{RattleType}
 use denote.Param.Send.{IsSend, IsSync, sendable}
 use Rattle.std.proofs.Crossing.{crosses}
@@ -10,12 +10,17 @@ use Rattle.comm_messages.proofs.infos.Infos.TheSendSync as Infos
 use Rattle.comm_tables.proofs.table.Table.TheSendSync as Table
 use Rattle.comm_targets.specs.declared.target.Target as target
 use Rattle.comm_value.proofs.text.Text.TheSendSync as Text
-use Rattle.comm_manager.proofs.client.Client.TheSendSync as Client
+use Rattle.comm_versions.specs.declared.history.History as history
 use Rattle.comm_manager.proofs.ledger.Books.TheSendSync as Books
+use Rattle.comm_manager.proofs.ledger.Ticket.TheSendSync as Ticket
 use Rattle.comm_manager.specs.declared.naming.Naming as naming
+use Rattle.comm_manager.specs.contracts.client.Client as client
 use Rattle.comm_manager.specs.contracts.inner.Inner as inner
+use Rattle.comm_manager.specs.contracts.publisher.Publisher as publisher
 use Rattle.comm_manager.specs.contracts.shared.Manager as manager
 use Rattle.comm_core.proofs.Crossing.{entry_send, entry_sync, dict_send}
+use Rattle.comm_outbox.proofs.Crossing.{outbox_send, publisher_send as side_send}
+use Rattle.comm_versions.proofs.Crossing.{reader_send, writer_send}
 
 pub comm_send : IsSend comm.the_row
 comm_send = search (sendable, crosses, dict_send, Text.the_send) depth 40
@@ -26,11 +31,18 @@ comms_send = search (sendable, crosses, comm_send, Text.the_send, Table.the_send
 pub core_send : (T : RattleType) (t : target.Ghosts T.Denot) → IsSend T → IsSend (core.the_row T t)
 core_send T t s = search (sendable, crosses, comms_send, Boxes.the_send) depth 40
 
-pub inner_send : (J T : RattleType) (j : naming.Ghosts J.Denot) (t : target.Ghosts T.Denot) → IsSend J → IsSync J → IsSend T → IsSend (inner.the_row J T j t)
-inner_send J T j t sj yj st = search (sendable, crosses, entry_send, entry_sync, core_send, Books.the_send) depth 40
+module _ (J : RattleType) (n : naming.Ghosts J.Denot) (h : history.Ghosts J.Denot) (sj : IsSend J) (yj : IsSync J) where
+  pub client_send : IsSend (client.the_row J n h)
+  client_send = let r = reader_send J h sj yj in search (sendable, crosses, Ticket.the_send) depth 40
 
-pub manager_sync : (J T : RattleType) (j : naming.Ghosts J.Denot) (t : target.Ghosts T.Denot) → IsSend J → IsSync J → IsSend T → IsSync (manager.the_row J T j t)
-manager_sync J T j t sj yj st = let i = inner_send J T j t sj yj st in search (sendable, crosses) depth 40
+  pub publisher_send : IsSend (publisher.the_row J n h)
+  publisher_send = search (sendable, crosses, side_send) depth 40
 
--- what a thread that is started with a manager and a client asks for
-pub ruleset shared = (manager_sync, Client.the_send, sendable, crosses)
+  pub inner_send : (T : RattleType) (t : target.Ghosts T.Denot) → IsSend T → IsSend (inner.the_row J T n h t)
+  inner_send T t st = let w = writer_send J h sj yj in search (sendable, crosses, entry_send, entry_sync, core_send, outbox_send, Books.the_send) depth 40
+
+  pub manager_sync : (T : RattleType) (t : target.Ghosts T.Denot) → IsSend T → IsSync (manager.the_row J T n h t)
+  manager_sync T t st = let i = inner_send T t st in search (sendable, crosses) depth 40
+
+-- what a thread that is started with a manager, a client or the publisher asks for
+pub ruleset shared = (manager_sync, client_send, publisher_send, sendable, crosses)

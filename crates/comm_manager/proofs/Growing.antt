@@ -2,6 +2,7 @@
 use Rattle.std.proofs.Common.{◌≡◌, ℕ, zero, suc, ◌+◌, ◌<◌, ◌≤◌, ◌==◌, Bool, true, false, cond, List, [], ◌∷◌, ◌++◌, length, Option, None, Some, slice_index, slice_set, refl, ap, sym, subst, ◌∙◌, arith, append_assoc, length-append}
 use Rattle.std.specs.List.{filter, count_by}
 use Rattle.std.proofs.lemmas.Bool.Decides.{nat_tests}
+use Rattle.std.proofs.lemmas.List.{append-nil}
 use Rattle.std.proofs.lemmas.List.Elements.{filter-append}
 use Rattle.comm_messages.specs.declared.outgoing.Outgoing.{Outgoing}
 use Rattle.comm_core.specs.Machine.{Machine}
@@ -13,6 +14,8 @@ use Rattle.comm_core.specs.declared.entry.Entry.{Entry}
 use Rattle.comm_core.specs.declared.entry.Entry.TheVariants.{Change, End}
 use Rattle.comm_core.specs.declared.limits.Limits.{Limits}
 use Rattle.comm_core.specs.declared.reply.Reply.{Reply}
+use Rattle.comm_versions.specs.Known.{Written}
+use Rattle.comm_manager.specs.Asked.{entry_of}
 use Rattle.comm_manager.specs.Kept.{IsKept, Rests, counts}
 
 -- ---- the entries of a client
@@ -81,12 +84,12 @@ has_end-snoc (Change c1 n1 k1 o1 r1 out1 ∷ es) c n k o r out h = has_end-snoc 
 
 -- ---- what is kept of a client
 
-pub count_is : (limits : Limits) (h : List Entry) (core : CoreValue) (books : List ℕ) (c n : ℕ) → IsKept limits h core books → c < 4 → slice_index books c ≡ n → length (mine h c) ≡ n
-count_is limits h core books c n kept low at = known h c n low (subst (λ (l : List ℕ). slice_index l c ≡ n) kept.totals_are at)
+pub count_is : (limits : Limits) (h : List Entry) (core : CoreValue) (writer : Written) (books : List ℕ) (c n : ℕ) → IsKept limits h core writer books → c < 4 → slice_index books c ≡ n → length (mine h c) ≡ n
+count_is limits h core writer books c n kept low at = known h c n low (subst (λ (l : List ℕ). slice_index l c ≡ n) kept.totals_are at)
 
-pub small : (limits : Limits) (h : List Entry) (core : CoreValue) (books : List ℕ) (c n : ℕ) → IsKept limits h core books → c < 4 → slice_index books c ≡ n → n ≤ 4294967295
-small limits h core books c n kept low at =
-    let a = count_is limits h core books c n kept low at in
+pub small : (limits : Limits) (h : List Entry) (core : CoreValue) (writer : Written) (books : List ℕ) (c n : ℕ) → IsKept limits h core writer books → c < 4 → slice_index books c ≡ n → n ≤ 4294967295
+small limits h core writer books c n kept low at =
+    let a = count_is limits h core writer books c n kept low at in
     let b = mine_le h c in
     let d = kept.few in
     let e = kept.allowed.5 in
@@ -101,58 +104,80 @@ Grows = (clients comms : ℕ) (es : List Entry) (e : Entry) → IsLegal clients 
 abbrev pub Replays : Type 0
 Replays = (comms : ℕ) (es : List Entry) (e : Entry) → replay comms (es ++ e ∷ []) ≡ applied comms (replay comms es) e
 
-module _ (limits : Limits) (h : List Entry) (core begun core' : CoreValue) (books : List ℕ) (c n : ℕ) (d : Readied)
-    (kept : IsKept limits h core books) (below : c < limits.clients) (low : c < 4) (at : slice_index books c ≡ n)
-    (ready : IsReady begun d) (same : machine begun ≡ machine core) (limit_is : begun.limit ≡ core.limit)
-    (done : step begun.limit (machine begun) d.call d.outcome ≡ Some (record { reply = d.reply; outgoing = d.outgoing; next = machine core' })) where
-  abbrev pub entry : Entry
-  entry = Change c (n + 1) d.call d.outcome d.reply d.outgoing
-
-  number_is : length (mine h c) ≡ n
-  number_is = count_is limits h core books c n kept low at
-
-  here : machine begun ≡ replay limits.comms h
-  here = same ∙ kept.rests.machine_is
+-- what stands ready after a history
+module _ (limits : Limits) (h : List Entry) (core begun : CoreValue) (c n : ℕ) (d : Readied) (rests : Rests limits.comms h core)
+    (ready : IsReady begun d) (same : machine begun ≡ machine core) (limit_is : begun.limit ≡ core.limit) where
+  pub here : machine begun ≡ replay limits.comms h
+  here = same ∙ rests.machine_is
 
   within : begun.limit ≡ limits.comms
-  within = limit_is ∙ kept.rests.limit_is
+  within = limit_is ∙ rests.limit_is
 
-  -- the step at the end of the history
-  stepped : step limits.comms (replay limits.comms h) d.call d.outcome ≡ Some (record { reply = d.reply; outgoing = d.outgoing; next = machine core' })
-  stepped =
-      subst (λ (m : Machine). step limits.comms m d.call d.outcome ≡ Some (record { reply = d.reply; outgoing = d.outgoing; next = machine core' })) here
-      (subst (λ (l : ℕ). step l (machine begun) d.call d.outcome ≡ Some (record { reply = d.reply; outgoing = d.outgoing; next = machine core' })) within done)
-
-  after : applied limits.comms (replay limits.comms h) entry ≡ machine core'
-  after = ap (next_of (replay limits.comms h)) stepped
+  stepped : (s : Stepped) → step begun.limit (machine begun) d.call d.outcome ≡ Some s → step limits.comms (replay limits.comms h) d.call d.outcome ≡ Some s
+  stepped s done =
+      subst (λ (m : Machine). step limits.comms m d.call d.outcome ≡ Some s) here
+      (subst (λ (l : ℕ). step l (machine begun) d.call d.outcome ≡ Some s) within done)
 
   allowed_here : Allowed (replay limits.comms h) (asks limits.comms (replay limits.comms h) d.call) d.outcome
   allowed_here =
       subst (λ (m : Machine). Allowed m (asks limits.comms m d.call) d.outcome) here
       (subst (λ (l : ℕ). Allowed (machine begun) (asks l (machine begun) d.call) d.outcome) within ready.allowed)
 
-  follows : Follows limits.clients limits.comms h entry
-  follows = (
-    kept.going,
-    below,
-    ap (λ k. k + 1) (sym number_is),
-    allowed_here,
-    (record { reply = d.reply; outgoing = d.outgoing; next = machine core' }, stepped, refl, refl),
-  )
+  -- its entry may follow
+  pub legal_more : Grows → IsLegal limits.clients limits.comms h → has_end h ≡ false → c < limits.clients → n ≡ length (mine h c) + 1 → IsLegal limits.clients limits.comms (h ++ entry_of c n d ∷ [])
+  legal_more grows legal going below next =
+      let f : Follows limits.clients limits.comms h (entry_of c n d) = (
+        going,
+        below,
+        next,
+        allowed_here,
+        (_, stepped _ ready.step_is, refl, refl),
+      ) in
+      grows limits.clients limits.comms h (entry_of c n d) legal f
 
-  pub kept_more : (h' : List Entry) (books' : List ℕ) → Grows → Replays → length h < limits.history → core'.settled ≡ true → core'.limit ≡ begun.limit
-      → h' ≡ h ++ entry ∷ [] → books' ≡ slice_set books c (n + 1) → IsKept limits h' core' books'
-  kept_more h' books' grows replays room settled limit' his bis =
-      let long : length h' ≡ length h + 1 = ap length his ∙ length-append h (entry ∷ []) in
+  -- the tables, once it is done
+  pub rests_more : (core' : CoreValue) (h' : List Entry) → Replays → step begun.limit (machine begun) d.call d.outcome ≡ Some (record { reply = d.reply; outgoing = d.outgoing; next = machine core' })
+      → core'.settled ≡ true → core'.limit ≡ begun.limit → h' ≡ h ++ entry_of c n d ∷ [] → Rests limits.comms h' core'
+  rests_more core' h' replays done settled limit' his =
+      let after : applied limits.comms (replay limits.comms h) (entry_of c n d) ≡ machine core' = ap (next_of (replay limits.comms h)) (stepped _ done) in
       record {
-        legal = subst (λ (l : List Entry). IsLegal limits.clients limits.comms l) (sym his) (grows limits.clients limits.comms h entry kept.legal follows);
-        going = subst (λ (l : List Entry). has_end l ≡ false) (sym his) (has_end-snoc h c (n + 1) d.call d.outcome d.reply d.outgoing kept.going);
-        rests = record {
-          settled = settled;
-          limit_is = limit' ∙ within;
-          machine_is = sym after ∙ sym (replays limits.comms h entry) ∙ ap (replay limits.comms) (sym his);
-        };
-        totals_are = bis ∙ ap (λ (l : List ℕ). slice_set l c (n + 1)) kept.totals_are ∙ counts_more h c n d.call d.outcome d.reply d.outgoing low number_is ∙ ap counts (sym his);
-        few = omega arith;
-        allowed = kept.allowed;
+        settled = settled;
+        limit_is = limit' ∙ within;
+        machine_is = sym after ∙ sym (replays limits.comms h (entry_of c n d)) ∙ ap (replay limits.comms) (sym his);
       }
+
+pub kept_more : (limits : Limits) (h h' : List Entry) (core core' : CoreValue) (writer writer' : Written) (books books' : List ℕ) (c n : ℕ) (d : Readied)
+    → IsKept limits h core writer books → c < 4 → slice_index books c ≡ n → IsLegal limits.clients limits.comms (h ++ entry_of c (n + 1) d ∷ []) → Rests limits.comms h' core' → length h < limits.history
+    → h' ≡ h ++ entry_of c (n + 1) d ∷ [] → writer'.front ≡ h' → writer'.pending ≡ [] → books' ≡ slice_set books c (n + 1) → IsKept limits h' core' writer' books'
+kept_more limits h h' core core' writer writer' books books' c n d kept low at legal rests room his front pending bis =
+    let e = entry_of c (n + 1) d in
+    let long : length h' ≡ length h + 1 = ap length his ∙ length-append h (e ∷ []) in
+    let number = count_is limits h core writer books c n kept low at in
+    record {
+      legal = subst (λ (l : List Entry). IsLegal limits.clients limits.comms l) (sym his) legal;
+      going = subst (λ (l : List Entry). has_end l ≡ false) (sym his) (has_end-snoc h c (n + 1) d.call d.outcome d.reply d.outgoing kept.going);
+      front_is = front;
+      pending_is = pending;
+      rests = rests;
+      totals_are = bis ∙ ap (λ (l : List ℕ). slice_set l c (n + 1)) kept.totals_are ∙ counts_more h c n d.call d.outcome d.reply d.outgoing low number ∙ ap counts (sym his);
+      few = omega arith;
+      allowed = kept.allowed;
+    }
+
+-- ---- an end more
+
+pub has_end-end : (es : List Entry) → has_end (es ++ End ∷ []) ≡ true
+has_end-end [] = refl
+has_end-end (End ∷ es) = refl
+has_end-end (Change c n k o r out ∷ es) = has_end-end es
+
+pub mine-end : (es : List Entry) (c : ℕ) → mine (es ++ End ∷ []) c ≡ mine es c
+mine-end es c = filter-append (is_of c) es (End ∷ []) ∙ append-nil (mine es c)
+
+pub counts-end : (es : List Entry) → counts (es ++ End ∷ []) ≡ counts es
+counts-end es =
+    let a = ap length (mine-end es 0) in
+    let b = ap length (mine-end es 1) in
+    let d = ap length (mine-end es 2) in
+    let f = ap length (mine-end es 3) in
+    cc

@@ -3,3 +3,4 @@ pub mod Entries
 pub mod Gathering
 pub mod Growing
 pub mod Here
+pub mod Made

@@ -1,20 +1,16 @@
 -- What a client asks for, and what comes of it.
-use Rattle.std.specs.Prelude.{ℕ, ◌≡◌, ◌+◌, ◌≤◌, List, [], ◌∷◌, ◌++◌, length, Option, None, Some}
+use Rattle.std.specs.Prelude.{ℕ, ◌≡◌, ◌+◌, List, [], ◌∷◌, ◌++◌, Option, None, Some}
 use Rattle.comm_messages.specs.declared.outgoing.Outgoing.{Outgoing}
 use Rattle.comm_targets.specs.Meaning.{Meaning, IsIdle}
 use Rattle.comm_core.specs.Step.{Outcome}
-use Rattle.comm_core.specs.History.{IsLegal}
-use Rattle.comm_core.specs.Ready.{HandsNothingIn}
+use Rattle.comm_core.specs.Ready.{HandsNothingIn, Readied}
 use Rattle.comm_core.specs.declared.call.Call.{Call}
 use Rattle.comm_core.specs.declared.call.Call.TheVariants as call
 use Rattle.comm_core.specs.declared.entry.Entry.{Entry}
 use Rattle.comm_core.specs.declared.entry.Entry.TheVariants.{Change}
-use Rattle.comm_core.specs.declared.limits.Limits.{Limits}
-use Rattle.comm_manager.specs.declared.answered.Answered.{Answered}
+use Rattle.comm_core.specs.declared.reply.Reply.{Reply}
 use Rattle.comm_manager.specs.declared.request.Request.{Request}
 use Rattle.comm_manager.specs.declared.request.Request.TheVariants.{Asked, Registering}
-use Rattle.comm_manager.specs.Journal.{Entries}
-use Rattle.comm_manager.specs.Tally.{Tally}
 
 -- the call that it is
 abbrev pub call_of : {T : Type 0} → (T → Meaning) → Request T → Call
@@ -31,26 +27,16 @@ abbrev pub MayAsk : {T : Type 0} → (T → Meaning) → Request T → Type 0
 MayAsk means (Asked call) = HandsNothingIn call
 MayAsk means (Registering name boxed) = IsIdle (means boxed)
 
--- The change is the last entry after these, with this call of the client and this reply, and nobody has taken it. The history has so many
--- entries then.
-pub record IsNext (before after : Entries) (who : Tally) (asked : Call) (answered : Answered) : Type 0 where
-  pub outcome : Option Outcome
-  pub outgoing : List Outgoing
-  pub history_is : after.history ≡ before.history ++ Change who.client (who.number + 1) asked outcome answered.reply outgoing ∷ []
-  pub waiting_is : after.waiting ≡ before.waiting ++ Change who.client (who.number + 1) asked outcome answered.reply outgoing ∷ []
-  pub number_is : answered.number ≡ length after.history
-  pub stamp_is : answered.stamp ≡ answered.number
+-- the entry is this call of the client, by this number, answered so
+abbrev pub IsCall : Entry → (client number : ℕ) → Call → Reply → Type 0
+IsCall e client number asked reply = (outcome : Option Outcome) × (outgoing : List Outgoing) × (e ≡ Change client number asked outcome reply outgoing)
 
--- the change ends a legal history of as many changes as its number says
-pub record IsAnswered (limits : Limits) (who : Tally) (asked : Call) (answered : Answered) : Type 0 where
-  pub before : Entries
-  pub after : Entries
-  pub next : IsNext before after who asked answered
-  pub legal : IsLegal limits.clients limits.comms after.history
-  pub few : length after.history ≤ limits.history
+-- the entry of what stands ready
+abbrev pub entry_of : (client number : ℕ) → Readied → Entry
+entry_of client number r = Change client number r.call r.outcome r.reply r.outgoing
 
--- the entry stands in a legal history
-pub record IsOfHistory (limits : Limits) (entry : Entry) : Type 0 where
-  pub before : List Entry
-  pub after : List Entry
-  pub legal : IsLegal limits.clients limits.comms (before ++ entry ∷ after)
+-- the entry is the last one now
+pub record IsNext (before after : List Entry) (client number : ℕ) (asked : Call) (reply : Reply) : Type 0 where
+  pub came : Entry
+  pub is_call : IsCall came client number asked reply
+  pub history_is : after ≡ before ++ came ∷ []

@@ -1,10 +1,13 @@
 -- What the lock keeps.
-use Rattle.std.specs.Prelude.{ℕ, ◌≡◌, ◌≤◌, true, false, List, [], ◌∷◌, length}
+use Rattle.std.specs.Prelude.{ℕ, ◌≡◌, ◌≤◌, ◌+◌, true, false, List, [], ◌∷◌, length}
 use Rattle.comm_core.specs.Limits.{AreAllowed}
 use Rattle.comm_core.specs.History.{IsLegal, has_end, mine, replay}
 use Rattle.comm_core.specs.Ready.{CoreValue, machine}
 use Rattle.comm_core.specs.declared.entry.Entry.{Entry}
 use Rattle.comm_core.specs.declared.limits.Limits.{Limits}
+use Rattle.atomic_table.specs.Seated.{TableId}
+use Rattle.comm_outbox.specs.Sides.{Putting, Taking}
+use Rattle.comm_versions.specs.Known.{Written}
 
 -- how many entries of each client there are, of the clients 0 to 3
 abbrev pub counts : List Entry → List ℕ
@@ -16,10 +19,26 @@ pub record Rests (limit : ℕ) (history : List Entry) (core : CoreValue) : Type 
   pub limit_is : core.limit ≡ limit
   pub machine_is : machine core ≡ replay limit history
 
--- The history is legal and not ended, within the limits; the tables rest after it; the totals are those of its clients.
-pub record IsKept (limits : Limits) (history : List Entry) (core : CoreValue) (totals : List ℕ) : Type 0 where
+-- The side of the queue that puts, once it has put the history: one place more than entries may wait is there, and one at least was found free, for
+-- an end.
+pub record Puts (queue : TableId) (limits : Limits) (history : List Entry) (outbox : Putting) : Type 0 where
+  pub line_is : outbox.line ≡ queue
+  pub clients_are : outbox.clients ≡ limits.clients
+  pub comms_are : outbox.comms ≡ limits.comms
+  pub places_are : outbox.places ≡ limits.outbox + 1
+  pub room : 1 ≤ outbox.room
+  pub puts_are : outbox.puts ≡ history
+
+-- the side that takes, once it has taken these
+abbrev pub taker : TableId → Limits → List Entry → Taking
+taker queue limits taken = record { line = queue; clients = limits.clients; comms = limits.comms; taken = taken }
+
+-- The history is legal and not ended, within the limits, and it is what is published; the tables rest after it; the totals are those of its clients.
+pub record IsKept (limits : Limits) (history : List Entry) (core : CoreValue) (writer : Written) (totals : List ℕ) : Type 0 where
   pub legal : IsLegal limits.clients limits.comms history
   pub going : has_end history ≡ false
+  pub front_is : writer.front ≡ history
+  pub pending_is : writer.pending ≡ []
   pub rests : Rests limits.comms history core
   pub totals_are : totals ≡ counts history
   pub few : length history ≤ limits.history

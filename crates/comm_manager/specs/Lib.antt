@@ -1,7 +1,10 @@
 pub mod Asked
+pub mod Code
 pub mod Journal
 pub mod Kept
+pub mod Mine
 pub mod Names
 pub mod Tally
 pub mod Tickets
+pub mod Who
 pub mod Why

@@ -1,17 +1,21 @@
 -- Why a change or a shutdown is refused.
-use Rattle.std.specs.Prelude.{ℕ, zero, suc, ◌≡◌, ◌≤◌, ◌==◌, Bool, true, ◌&&◌, List}
+use Rattle.std.specs.Prelude.{ℕ, zero, suc, ◌≡◌, ◌≤◌, ◌==◌, Bool, true, false, ◌&&◌, List, length}
 use Rattle.std.specs.List.{list_any}
+use Rattle.comm_core.specs.History.{IsLegal}
 use Rattle.comm_core.specs.Limits.{AreAllowed}
 use Rattle.comm_core.specs.declared.limits.Limits.{Limits}
 use Rattle.comm_core.specs.declared.limits.NewFault.{NewFault}
 use Rattle.comm_core.specs.declared.limits.NewFault.TheVariants as fault
+use Rattle.comm_core.specs.declared.entry.Entry.{Entry}
 use Rattle.comm_core.specs.declared.unavailable.Unavailable.{Unavailable}
 use Rattle.comm_core.specs.declared.unavailable.Unavailable.TheVariants.{Memory, HistoryFull, OutboxFull}
-use Rattle.comm_manager.specs.Tally.{Tally}
+use Rattle.comm_manager.specs.declared.shared.Cause.{Cause}
+use Rattle.comm_manager.specs.declared.shared.Cause.TheVariants as cause
+use Rattle.comm_manager.specs.Who.{Who}
 
--- the history has as many changes as it may; as many entries wait as may, or more
-abbrev pub Because : Limits → Unavailable ℕ → Type 0
-Because limits (HistoryFull number) = number ≡ limits.history
+-- the stamp's front is a whole history, of as many changes as it may have; as many entries wait as may, or more
+abbrev pub Because : Limits → Unavailable (List Entry) → Type 0
+Because limits (HistoryFull stamp) = (length stamp ≡ limits.history) × IsLegal limits.clients limits.comms stamp
 Because limits (OutboxFull waiting) = limits.outbox ≤ waiting
 Because limits Memory = Unit {0}
 
@@ -21,10 +25,15 @@ Barred limits fault.BadLimits = AreAllowed limits → ⊥
 Barred limits fault.Memory = AreAllowed limits
 
 -- the client is among these
-abbrev pub is_here : ℕ → List Tally → Bool
-is_here c ws = list_any (λ (w : Tally). w.client == c) ws
+abbrev pub is_here : ℕ → List Who → Bool
+is_here c ws = list_any (λ (w : Who). w.client == c) ws
 
 -- the first n clients are
-abbrev pub all_here : ℕ → List Tally → Bool
+abbrev pub all_here : ℕ → List Who → Bool
 all_here zero ws = true
 all_here (suc n) ws = is_here n ws && all_here n ws
+
+-- why a shutdown is refused: a client is missing; or none is, and memory ran out
+abbrev pub IsMissing : ℕ → List Who → Cause → Type 0
+IsMissing n ws cause.MissingClients = all_here n ws ≡ false
+IsMissing n ws cause.Memory = all_here n ws ≡ true

@@ -1,12 +1,13 @@
 //! One change, in its order.
-ghost use Rattle.std.specs.Prelude.{◌≡◌, ◌+◌, ◌<◌, ◌≤◌, ◌++◌, [], ◌∷◌, length, true, IfOk, IfErr, IfSome, OnErr, OnOk, MatchOption, None, Some, option_map};
+ghost use Rattle.std.specs.Prelude.{◌≡◌, ◌+◌, ◌<◌, ◌≤◌, ◌++◌, [], ◌∷◌, length, true, false, ◌⊎◌, IfOk, IfErr, OnErr, OnOk, MatchOption, MatchResult, Some, option_map};
+ghost use mathlib.Core.List.{IsPrefix};
 ghost use Rattle.std.specs.Arc.{arc_value};
+ghost use Rattle.comm_core.specs.History.{IsLegal, has_end, mine, replay};
 ghost use Rattle.comm_core.specs.Step.{step};
-ghost use Rattle.comm_core.specs.Ready.{IsReady, back_of, machine};
+ghost use Rattle.comm_core.specs.Ready.{CoreValue, IsReady, back_of, machine};
 ghost use Rattle.comm_core.specs.Tables.{IdleWhere};
-ghost use Rattle.comm_core.specs.declared.entry.Entry.TheVariants.{Change};
-ghost use Rattle.comm_manager.specs.Asked.{IsNext, MayAsk, boxed_of, call_of};
-ghost use Rattle.comm_manager.specs.Kept.{IsKept};
+ghost use Rattle.comm_manager.specs.Asked.{IsNext, MayAsk, boxed_of, call_of, entry_of};
+ghost use Rattle.comm_manager.specs.Kept.{IsKept, Puts, Rests};
 ghost use Rattle.comm_manager.specs.Tally.{tally};
 ghost use Rattle.comm_manager.specs.Why.{Because};
 
@@ -16,84 +17,107 @@ use crate::ledger::{Books, Ticket};
 use crate::naming::Naming;
 use crate::request::Request;
 use comm_core::{
-    Core, Entry, Finished, Limits, Ready, Unavailable, legal_histories_grow, replays_grow,
+    Core, Entry, Finished, Limits, Ready, Reply, Unavailable, legal_histories_grow, replays_grow,
+    rows_are_what_entries_change,
 };
+use comm_outbox::Outbox;
 use comm_targets::{Held, Target};
-use std::alloc::Global;
-use std::sync::Arc;
+use comm_versions::{Change, Stamp, VersionReader, VersionWriter};
+use std::alloc::{AllocError, Global};
+use std::sync::{Arc, Wait};
 
 /// A change that was made: what it came to, a target that was refused, and one that has to be ended.
-pub struct Made<T: Target> {
-    pub answered: Answered,
+pub struct Made<J: Naming, T: Target> {
+    pub answered: Answered<J>,
     pub back: Option<T>,
     pub ended: Option<Held<T>>,
 }
 
-/// A change that stands ready, with its entry for the history and for the list of those that nobody has taken.
+/// A change that stands ready, with its entry for the history and for the queue.
 struct Staged<T: Target> {
     ready: Ready<T>,
     kept: Arc<Entry, Global>,
     sent: Arc<Entry, Global>,
 }
 
-// The entry of what stands ready, twice.
-fn entries<T: Target>(
+/// What is left of a change once the tables have it: its entry for the queue, and what it came to.
+struct Done<T: Target> {
+    sent: Arc<Entry, Global>,
+    reply: Reply,
+    back: Option<T>,
+    ended: Option<Held<T>>,
+}
+
+// The entry of what stands ready, twice; and once more, with its row, among what is to be published. The last step alone changes anything.
+fn grow<J: Naming, T: Target>(
     alloc: Global,
     ready: &Ready<T>,
+    writer: &mut VersionWriter<J>,
     who: (u8, u64),
-) -> Option<(Arc<Entry, Global>, Arc<Entry, Global>)>
-    ensures { IfSome result (λ r. (arc_value r.0 ≡ Change who.0 who.1 ready.now.call ready.now.outcome ready.now.reply ready.now.outgoing) × (arc_value r.1 ≡ arc_value r.0)) }
+) -> Result<(Arc<Entry, Global>, Arc<Entry, Global>), AllocError>
+    requires legal { IsLegal J.limits.clients J.limits.comms ((writer.old.front ++ writer.old.pending) ++ entry_of who.0 who.1 ready.now ∷ []) }
+    requires ready { (core : CoreValue) × IsReady core ready.now × (machine core ≡ replay J.limits.comms (writer.old.front ++ writer.old.pending)) }
+    ensures kept { IfOk result (λ r. arc_value r.0 ≡ entry_of who.0 who.1 ready.now) }
+    ensures sent { IfOk result (λ r. arc_value r.1 ≡ arc_value r.0) }
+    ensures front { writer.new.front ≡ writer.old.front }
+    ensures pending { MatchResult result (λ _. writer.new.pending ≡ writer.old.pending ++ entry_of who.0 who.1 ready.now ∷ []) (λ _. writer.new.pending ≡ writer.old.pending) }
 {
+    rows_are_what_entries_change();
     let (client, number) = who;
-    let Ok(kept) = ready.entry(alloc, client, number) else {
-        return None;
-    };
-    let Ok(sent) = Arc::try_clone(&kept) else {
-        return None;
-    };
-    Some((kept, sent))
+    let entry = ready.entry(alloc, client, number)?;
+    let row = ready.row(alloc)?;
+    let kept = Arc::try_clone(&entry)?;
+    let sent = Arc::try_clone(&entry)?;
+    writer.append(Change::new(entry, row))?;
+    Ok((kept, sent))
 }
 
 // Readies what is asked, with its entry, or leaves everything as it was.
-fn stage<T: Target>(
+fn stage<J: Naming, T: Target>(
     alloc: Global,
     core: &mut Core<T>,
+    writer: &mut VersionWriter<J>,
     who: (u8, u64),
     request: Request<T>,
 ) -> Result<Staged<T>, Option<T>>
-    requires settled { core.old.settled ≡ true }
+    requires rests { Rests J.limits.comms writer.old.front core.old }
+    requires pending { writer.old.pending ≡ [] }
+    requires legal { IsLegal J.limits.clients J.limits.comms writer.old.front × (has_end writer.old.front ≡ false) }
+    requires who { (who.0 < J.limits.clients) × (who.1 ≡ length (mine writer.old.front who.0) + 1) }
     requires may { MayAsk T.means request }
     ensures ready { IfOk result (λ s. IsReady core.new s.ready) }
     ensures call { IfOk result (λ s. s.ready.call ≡ call_of T.means request) }
     ensures boxed { IfOk result (λ s. s.ready.boxed ≡ boxed_of T.means request) }
-    ensures kept { IfOk result (λ s. arc_value s.kept ≡ Change who.0 who.1 s.ready.call s.ready.outcome s.ready.reply s.ready.outgoing) }
+    ensures kept { IfOk result (λ s. arc_value s.kept ≡ entry_of who.0 who.1 s.ready) }
     ensures sent { IfOk result (λ s. arc_value s.sent ≡ arc_value s.kept) }
+    ensures front { writer.new.front ≡ writer.old.front }
+    ensures pending { MatchResult result (λ s. writer.new.pending ≡ arc_value s.kept ∷ []) (λ _. writer.new.pending ≡ []) }
+    ensures legal { IfOk result (λ s. IsLegal J.limits.clients J.limits.comms (writer.old.front ++ arc_value s.kept ∷ [])) }
     ensures machine { OnOk result (machine core.new ≡ machine core.old) }
     ensures limit { core.new.limit ≡ core.old.limit }
     ensures err { OnErr result (core.new ≡ core.old) }
     ensures back { IfErr result (λ e. option_map T.means e ≡ boxed_of T.means request) }
 {
+    legal_histories_grow();
     match request.begin(core) {
-        Ok(ready) => match entries(alloc, &ready, who) {
-            Some((kept, sent)) => Ok(Staged { ready, kept, sent }),
-            None => Err(core.withdraw(ready)),
+        Ok(ready) => match grow(alloc, &ready, writer, who) {
+            Ok((kept, sent)) => Ok(Staged { ready, kept, sent }),
+            Err(_) => Err(core.withdraw(ready)),
         },
         Err(back) => Err(back),
     }
 }
 
-// Makes the change that stands ready, and adds its entry. Nothing here takes memory or can fail.
-fn carry_out<T: Target>(core: &mut Core<T>, journal: &mut Journal, staged: Staged<T>) -> Made<T>
+// Makes the change that stands ready, and adds its entry to the history. Nothing here takes memory or can fail.
+fn carry_out<T: Target>(core: &mut Core<T>, journal: &mut Journal, staged: Staged<T>) -> Done<T>
     requires ready { IsReady core.old staged.ready }
     requires room { journal.old.room ≡ true }
-    requires same { arc_value staged.sent ≡ arc_value staged.kept }
     ensures step { step core.old.limit (machine core.old) staged.ready.call staged.ready.outcome ≡ Some (record { reply = staged.ready.reply; outgoing = staged.ready.outgoing; next = machine core.new }) }
-    ensures reply { result.answered.reply ≡ staged.ready.reply }
-    ensures number { (result.answered.number ≡ length journal.new.all.history) × (result.answered.stamp ≡ result.answered.number) }
+    ensures reply { result.reply ≡ staged.ready.reply }
     ensures settled { core.new.settled ≡ true }
     ensures limit { core.new.limit ≡ core.old.limit }
-    ensures history { journal.new.all.history ≡ journal.old.all.history ++ arc_value staged.kept ∷ [] }
-    ensures waiting { journal.new.all.waiting ≡ journal.old.all.waiting ++ arc_value staged.kept ∷ [] }
+    ensures history { journal.new.all ≡ journal.old.all ++ arc_value staged.kept ∷ [] }
+    ensures sent { arc_value result.sent ≡ arc_value staged.sent }
     ensures back { option_map T.means result.back ≡ back_of staged.ready.reply staged.ready.boxed }
     ensures idle { IdleWhere result.ended }
 {
@@ -104,73 +128,134 @@ fn carry_out<T: Target>(core: &mut Core<T>, journal: &mut Journal, staged: Stage
         ended,
         back,
     } = core.finish(ready);
-    journal.add(kept, sent);
-    let number = journal.len() as u64;
-    let answered = Answered {
-        number,
+    journal.add(kept);
+    Done {
+        sent,
         reply,
-        stamp: number,
-    };
-    Made {
-        answered,
         back,
         ended,
     }
 }
 
-// Why no change can be made now, if so.
-fn refusal(limits: &Limits, made: usize, waiting: usize) -> Option<Unavailable<u64>>
-    requires { made ≤ limits.now.history }
-    ensures { MatchOption result ((made < limits.now.history) × (waiting < limits.now.outbox)) (λ e. Because limits.now e) }
+// Publishes what is pending, and lets the reader hear of it.
+fn tell<J: Naming, R: Wait>(
+    rt: &R,
+    writer: &mut VersionWriter<J>,
+    reader: &mut VersionReader<J>,
+) -> Stamp<J>
+    requires room { length writer.old.front + length writer.old.pending ≤ 4294967296 }
+    ensures stamp { result ≡ writer.old.front ++ writer.old.pending }
+    ensures front { writer.new.front ≡ writer.old.front ++ writer.old.pending }
+    ensures pending { writer.new.pending ≡ [] }
+    ensures one { (reader.new ≡ reader.old) ⊎ (reader.new ≡ result) }
+    ensures own { IsPrefix reader.old reader.new }
+    ensures heard { IsPrefix result reader.new }
 {
-    let made = made as u64;
-    if made >= limits.history {
-        return Some(Unavailable::HistoryFull(made));
+    writer.publish(rt);
+    let stamp = writer.stamp();
+    reader.hear(&stamp);
+    stamp
+}
+
+// Why no change can be made now, if so. Else a place of the queue was found free, and one more.
+fn refusal<J: Naming, R: Wait>(
+    rt: &R,
+    limits: &Limits,
+    writer: &VersionWriter<J>,
+    outbox: &mut Outbox,
+) -> Option<Unavailable<Stamp<J>>>
+    requires limits { limits.now ≡ J.limits }
+    requires few { length writer.now.front ≤ J.limits.history }
+    requires puts { Puts J.queue J.limits writer.now.front outbox.old }
+    ensures why { MatchOption result ((length writer.now.front < J.limits.history) × (2 ≤ outbox.new.room)) (λ e. Because J.limits e) }
+    ensures puts { Puts J.queue J.limits writer.now.front outbox.new }
+{
+    let stamp = writer.stamp();
+    if stamp.number() >= limits.history {
+        return Some(Unavailable::HistoryFull(stamp));
     }
-    if waiting >= limits.outbox {
-        return Some(Unavailable::OutboxFull(waiting as u64));
+    let waiting = outbox.waiting(rt);
+    if waiting >= limits.outbox as u64 {
+        return Some(Unavailable::OutboxFull(waiting));
     }
     None
 }
 
-/// One change of a client, in its order: room in the history and for those that nobody has taken; what is asked is readied; the entry
-/// is made; the change is made, and its entry added. A refusal comes before the change is made, and takes everything back.
-pub fn perform<J: Naming, T: Target>(
+// Goes on where the reader has seen no more than so many entries, as each has. It doesn't return otherwise: by no contract of the versions
+// could a reader have seen more than is published, but none says so before the history has ended.
+fn compare<J: Naming, R: Wait>(rt: &R, reader: &VersionReader<J>, made: usize)
+    ensures { length reader.now ≤ made }
+{
+    if reader.seen() <= made as u64 {
+        return;
+    }
+    for _ in rt.forever() {}
+    unreachable!()
+}
+
+/// One change of a client, in its order: room in the history and in the queue; what is asked is readied; the entry is made, and is to be
+/// published; the change is made, and its entry added; it is published, its client hears of it, and it goes out. A refusal comes before the change
+/// is made, and takes everything back.
+pub fn perform<J: Naming, T: Target, R: Wait>(
+    rt: &R,
     alloc: Global,
     limits: &Limits,
     core: &mut Core<T>,
     journal: &mut Journal,
+    writer: &mut VersionWriter<J>,
+    outbox: &mut Outbox,
     books: &mut Books<J>,
+    reader: &mut VersionReader<J>,
     ticket: &mut Ticket<J>,
     request: Request<T>,
-) -> Result<Made<T>, (Unavailable<u64>, Option<T>)>
-    requires kept { IsKept limits.now journal.old.all.history core.old books.old }
-    requires below { ticket.old.client < limits.now.clients }
+) -> Result<Made<J, T>, (Unavailable<Stamp<J>>, Option<T>)>
+    requires limits { limits.now ≡ J.limits }
+    requires kept { IsKept J.limits journal.old.all core.old writer.old books.old }
+    requires puts { Puts J.queue J.limits journal.old.all outbox.old }
+    requires below { ticket.old.client < J.limits.clients }
     requires may { MayAsk T.means request }
-    ensures kept { IsKept limits.now journal.new.all.history core.new books.new }
-    ensures next { IfOk result (λ m. IsNext journal.old.all journal.new.all ticket.old (call_of T.means request) m.answered) }
-    ensures ticket { OnOk result (ticket.new ≡ tally ticket.old.client (ticket.old.number + 1)) }
+    ensures kept { IsKept J.limits journal.new.all core.new writer.new books.new }
+    ensures puts { Puts J.queue J.limits journal.new.all outbox.new }
+    ensures next { IfOk result (λ m. IsNext journal.old.all journal.new.all ticket.old.client (ticket.old.number + 1) (call_of T.means request) m.answered.reply) }
+    ensures stamp { IfOk result (λ m. (m.answered.stamp ≡ journal.new.all) × (m.answered.number ≡ length journal.new.all)) }
+    ensures seen { IfOk result (λ m. (reader.new ≡ journal.new.all) × IsPrefix reader.old journal.old.all) }
+    ensures ticket { OnOk result ((ticket.new ≡ tally ticket.old.client (ticket.old.number + 1)) × (length (mine journal.old.all ticket.old.client) ≡ ticket.old.number)) }
     ensures back { IfOk result (λ m. option_map T.means m.back ≡ back_of m.answered.reply (boxed_of T.means request)) }
     ensures idle { IfOk result (λ m. IdleWhere m.ended) }
-    ensures err { OnErr result ((ticket.new ≡ ticket.old) × (journal.new.all ≡ journal.old.all)) }
-    ensures why { IfErr result (λ e. Because limits.now e.0) }
+    ensures err { OnErr result ((ticket.new ≡ ticket.old) × (reader.new ≡ reader.old) × (journal.new.all ≡ journal.old.all)) }
+    ensures why { IfErr result (λ e. Because J.limits e.0) }
     ensures boxed { IfErr result (λ e. option_map T.means e.1 ≡ boxed_of T.means request) }
 {
-    legal_histories_grow();
     replays_grow();
-    if let Some(why) = refusal(limits, journal.len(), journal.waiting()) {
+    if let Some(why) = refusal(rt, limits, writer, outbox) {
         return Err((why, request.into_boxed()));
     }
     if journal.reserve().is_err() {
         return Err((Unavailable::Memory, request.into_boxed()));
     }
+    compare(rt, reader, journal.len());
     books.audit(ticket);
     let who = (ticket.client(), ticket.number() + 1);
-    match stage(alloc, core, who, request) {
+    match stage(alloc, core, writer, who, request) {
         Ok(staged) => {
-            let made = carry_out(core, journal, staged);
+            let Done {
+                sent,
+                reply,
+                back,
+                ended,
+            } = carry_out(core, journal, staged);
+            let stamp = tell(rt, writer, reader);
+            outbox.put(rt, sent);
             books.count(ticket);
-            Ok(made)
+            Ok(Made {
+                answered: Answered {
+                    number: stamp.number(),
+                    reply,
+                    stamp,
+                },
+                back,
+                ended,
+            })
         }
         Err(back) => Err((Unavailable::Memory, back)),
     }

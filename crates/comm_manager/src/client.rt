@@ -1,54 +1,63 @@
-//! A client: its ticket, and what it may ask.
-ghost use Rattle.std.specs.Prelude.{◌≡◌, ◌+◌, ◌<◌, List, length, IfOk, IfErr, OnErr, OnOk, Some, option_map, slice_index};
+//! A client: its reader and its ticket, and what it may ask.
+ghost use Rattle.std.specs.Prelude.{◌≡◌, ◌+◌, ◌<◌, ◌⊎◌, length, true, IfOk, IfErr, OnErr, OnOk, IsErrOf, Some, option_map};
+ghost use mathlib.Core.List.{IsPrefix};
 ghost use Rattle.comm_targets.specs.Meaning.{IsIdle};
-ghost use Rattle.comm_core.specs.History.{IsLegal, replay};
+ghost use Rattle.comm_core.specs.History.{IsLegal, has_end, replay};
 ghost use Rattle.comm_core.specs.Reads.{infos, state_of};
 ghost use Rattle.comm_core.specs.Ready.{HandsNothingIn, back_of};
 ghost use Rattle.comm_core.specs.declared.call.Call.TheVariants as call;
-ghost use Rattle.comm_core.specs.declared.entry.Entry.{Entry};
-ghost use Rattle.comm_manager.specs.Asked.{IsAnswered, MayAsk, boxed_of, call_of};
-ghost use Rattle.comm_manager.specs.Tally.{Tally, tally};
+ghost use Rattle.comm_manager.specs.Asked.{MayAsk, boxed_of, call_of};
+ghost use Rattle.comm_manager.specs.Kept.{counts};
+ghost use Rattle.comm_manager.specs.Mine.{IsAnswered, IsSettled, made};
+ghost use Rattle.comm_manager.specs.Who.{who};
 ghost use Rattle.comm_manager.specs.Why.{Because};
+ghost use Rattle.comm_versions.specs.declared.reads.ReadFault.TheVariants as fault;
 
 use crate::answered::Answered;
 use crate::change::Made;
 use crate::ledger::{Books, Ticket};
 use crate::naming::Naming;
-use crate::reads::{InfoRead, StateRead};
 use crate::request::Request;
 use crate::shared::Manager;
 use comm_core::{Call, Unavailable};
 use comm_messages::Body;
 use comm_targets::Target;
 use comm_value::{Dict, Text};
-use std::alloc::AllocError;
+use comm_versions::{InfoRead, ReadFault, Stamp, StateRead, VersionReader};
+use std::alloc::Global;
 use std::marker::Model;
 use std::sync::Wait;
 use uuid::Uuid;
 
-/// A client of a manager. Contracts see its number, from 0, and how many of its changes were answered.
+/// A client of a manager. Contracts see its number, from 0, how many of its changes were answered, and what it has seen.
 #[derive(Drop)]
 pub struct Client<J: Naming> {
-    ticket: Ticket<J>,
+    pub(crate) reader: VersionReader<J>,
+    pub(crate) ticket: Ticket<J>,
 }
 
 impl<J: Naming> Model for Client<J> {
-    ghost use Rattle.std.specs.Prelude.{◌<◌};
-    ghost use Rattle.comm_manager.specs.Tally.{Tally};
+    ghost use Rattle.std.specs.Prelude.{◌<◌, ◌≤◌, length};
+    ghost use Rattle.comm_core.specs.History.{mine};
+    ghost use Rattle.comm_manager.specs.Code.{who_code};
+    ghost use Rattle.comm_manager.specs.Who.{Who, who};
 
-    ghost Value = { Tally };
+    ghost Value = { Who };
 
-    ghost view = { λ c. c.ticket };
+    ghost coded = { who_code };
 
-    ghost invariant = { λ c. c.ticket.client < J.limits.clients };
+    ghost view = { λ c. who c.ticket.client c.ticket.number c.reader };
+
+    ghost invariant = { λ c. (c.ticket.client < J.limits.clients) × (c.ticket.number ≤ length (mine c.reader c.ticket.client)) };
 }
 
 impl<J: Naming> Client<J> {
-    pub(crate) fn new(ticket: Ticket<J>) -> Client<J>
-        requires { ticket.client < J.limits.clients }
-        ensures { result ≡ ticket }
+    pub(crate) fn new(reader: VersionReader<J>, ticket: Ticket<J>) -> Client<J>
+        requires below { ticket.client < J.limits.clients }
+        requires none { ticket.number ≡ 0 }
+        ensures { result ≡ who ticket.client 0 reader }
     {
-        Client { ticket }
+        Client { reader, ticket }
     }
 
     /// Its number, from 0.
@@ -58,11 +67,32 @@ impl<J: Naming> Client<J> {
         self.ticket.client()
     }
 
-    // It made as many changes as the books say.
-    pub(crate) fn settle(&mut self, books: &mut Books<J>)
-        ensures same { (self.new ≡ self.old) × (books.new ≡ books.old) }
-        ensures known { (self.old.client < 4) × (slice_index books.old self.old.client ≡ self.old.number) }
+    /// How many entries it has seen.
+    pub fn seen(&self) -> u64
+        ensures length { result ≡ length self.now.seen }
+        ensures legal { IsLegal J.limits.clients J.limits.comms self.now.seen }
     {
+        self.reader.seen()
+    }
+
+    /// From now on it has seen no less than the stamp's front.
+    pub fn hear(&mut self, stamp: &Stamp<J>)
+        ensures one { (self.new.seen ≡ self.old.seen) ⊎ (self.new.seen ≡ stamp.now) }
+        ensures own { IsPrefix self.old.seen self.new.seen }
+        ensures stamp { IsPrefix stamp.now self.new.seen }
+        ensures made { (self.new.client ≡ self.old.client) × (self.new.number ≡ self.old.number) × (made self.new ≡ made self.old) }
+    {
+        self.reader.hear(stamp);
+    }
+
+    // What it has seen begins the history that ended, which has of it just what it made.
+    pub(crate) fn settle(&mut self, books: &mut Books<J>, last: &Stamp<J>)
+        requires ended { has_end last.now ≡ true }
+        requires books { books.old ≡ counts last.now }
+        ensures same { (self.new ≡ self.old) × (books.new ≡ books.old) }
+        ensures settled { IsSettled last.now self.old }
+    {
+        self.reader.within(last);
         books.audit(&mut self.ticket);
     }
 
@@ -72,10 +102,9 @@ impl<J: Naming> Client<J> {
         rt: &R,
         manager: &Manager<J, T>,
         request: Request<T>,
-    ) -> Result<(Answered, Option<T>), (Unavailable<u64>, Option<T>)>
+    ) -> Result<(Answered<J>, Option<T>), (Unavailable<Stamp<J>>, Option<T>)>
         requires { MayAsk T.means request }
-        ensures answered { IfOk result (λ r. IsAnswered J.limits self.old (call_of T.means request) r.0) }
-        ensures counted { OnOk result (self.new ≡ tally self.old.client (self.old.number + 1)) }
+        ensures answered { IfOk result (λ r. IsAnswered J.limits self.old self.new (call_of T.means request) r.0.number r.0.reply r.0.stamp) }
         ensures back { IfOk result (λ r. option_map T.means r.1 ≡ back_of r.0.reply (boxed_of T.means request)) }
         ensures err { OnErr result (self.new ≡ self.old) }
         ensures why { IfErr result (λ e. Because J.limits e.0) }
@@ -84,7 +113,7 @@ impl<J: Naming> Client<J> {
         let made = manager
             .inner
             .lock(rt)
-            .change(manager.alloc, &mut self.ticket, request);
+            .change(rt, manager.alloc, self, request);
         // Here the lock is let go: a target may take its time to end.
         match made {
             Ok(
@@ -109,10 +138,9 @@ impl<J: Naming> Client<J> {
         rt: &R,
         manager: &Manager<J, T>,
         call: Call,
-    ) -> Result<Answered, Unavailable<u64>>
+    ) -> Result<Answered<J>, Unavailable<Stamp<J>>>
         requires { HandsNothingIn call }
-        ensures answered { IfOk result (λ a. IsAnswered J.limits self.old call a) }
-        ensures counted { OnOk result (self.new ≡ tally self.old.client (self.old.number + 1)) }
+        ensures answered { IfOk result (λ a. IsAnswered J.limits self.old self.new call a.number a.reply a.stamp) }
         ensures err { OnErr result (self.new ≡ self.old) }
         ensures why { IfErr result (λ e. Because J.limits e) }
     {
@@ -129,10 +157,9 @@ impl<J: Naming> Client<J> {
         manager: &Manager<J, T>,
         name: Text,
         target: T,
-    ) -> Result<(Answered, Option<T>), (Unavailable<u64>, T)>
+    ) -> Result<(Answered<J>, Option<T>), (Unavailable<Stamp<J>>, T)>
         requires { IsIdle (T.means target) }
-        ensures answered { IfOk result (λ r. IsAnswered J.limits self.old (call.Register name (T.means target).kind (T.means target).notes) r.0) }
-        ensures counted { OnOk result (self.new ≡ tally self.old.client (self.old.number + 1)) }
+        ensures answered { IfOk result (λ r. IsAnswered J.limits self.old self.new (call.Register name (T.means target).kind (T.means target).notes) r.0.number r.0.reply r.0.stamp) }
         ensures back { IfOk result (λ r. option_map T.means r.1 ≡ back_of r.0.reply (Some (T.means target))) }
         ensures err { OnErr result (self.new ≡ self.old) }
         ensures why { IfErr result (λ e. Because J.limits e.0) }
@@ -140,8 +167,10 @@ impl<J: Naming> Client<J> {
     {
         match self.change(rt, manager, Request::Registering(name, target)) {
             Ok(done) => Ok(done),
-            Err((why, Some(target))) => Err((why, target)),
-            Err((_why, None)) => unreachable!(),
+            Err((why, back)) => match back {
+                Some(target) => Err((why, target)),
+                None => unreachable!(),
+            },
         }
     }
 
@@ -154,9 +183,8 @@ impl<J: Naming> Client<J> {
         target: Text,
         version: Option<Text>,
         body: Body,
-    ) -> Result<Answered, Unavailable<u64>>
-        ensures answered { IfOk result (λ a. IsAnswered J.limits self.old (call.Open id target version body) a) }
-        ensures counted { OnOk result (self.new ≡ tally self.old.client (self.old.number + 1)) }
+    ) -> Result<Answered<J>, Unavailable<Stamp<J>>>
+        ensures answered { IfOk result (λ a. IsAnswered J.limits self.old self.new (call.Open id target version body) a.number a.reply a.stamp) }
         ensures err { OnErr result (self.new ≡ self.old) }
         ensures why { IfErr result (λ e. Because J.limits e) }
     {
@@ -179,9 +207,8 @@ impl<J: Naming> Client<J> {
         manager: &Manager<J, T>,
         id: Text,
         body: Body,
-    ) -> Result<Answered, Unavailable<u64>>
-        ensures answered { IfOk result (λ a. IsAnswered J.limits self.old (call.Msg id body) a) }
-        ensures counted { OnOk result (self.new ≡ tally self.old.client (self.old.number + 1)) }
+    ) -> Result<Answered<J>, Unavailable<Stamp<J>>>
+        ensures answered { IfOk result (λ a. IsAnswered J.limits self.old self.new (call.Msg id body) a.number a.reply a.stamp) }
         ensures err { OnErr result (self.new ≡ self.old) }
         ensures why { IfErr result (λ e. Because J.limits e) }
     {
@@ -194,9 +221,8 @@ impl<J: Naming> Client<J> {
         rt: &R,
         manager: &Manager<J, T>,
         id: Text,
-    ) -> Result<Answered, Unavailable<u64>>
-        ensures answered { IfOk result (λ a. IsAnswered J.limits self.old (call.Close id) a) }
-        ensures counted { OnOk result (self.new ≡ tally self.old.client (self.old.number + 1)) }
+    ) -> Result<Answered<J>, Unavailable<Stamp<J>>>
+        ensures answered { IfOk result (λ a. IsAnswered J.limits self.old self.new (call.Close id) a.number a.reply a.stamp) }
         ensures err { OnErr result (self.new ≡ self.old) }
         ensures why { IfErr result (λ e. Because J.limits e) }
     {
@@ -209,9 +235,8 @@ impl<J: Naming> Client<J> {
         rt: &R,
         manager: &Manager<J, T>,
         name: Text,
-    ) -> Result<Answered, Unavailable<u64>>
-        ensures answered { IfOk result (λ a. IsAnswered J.limits self.old (call.Unregister name) a) }
-        ensures counted { OnOk result (self.new ≡ tally self.old.client (self.old.number + 1)) }
+    ) -> Result<Answered<J>, Unavailable<Stamp<J>>>
+        ensures answered { IfOk result (λ a. IsAnswered J.limits self.old self.new (call.Unregister name) a.number a.reply a.stamp) }
         ensures err { OnErr result (self.new ≡ self.old) }
         ensures why { IfErr result (λ e. Because J.limits e) }
     {
@@ -226,9 +251,8 @@ impl<J: Naming> Client<J> {
         id: Uuid,
         target: Text,
         state: Dict,
-    ) -> Result<Answered, Unavailable<u64>>
-        ensures answered { IfOk result (λ a. IsAnswered J.limits self.old (call.Launch id target state) a) }
-        ensures counted { OnOk result (self.new ≡ tally self.old.client (self.old.number + 1)) }
+    ) -> Result<Answered<J>, Unavailable<Stamp<J>>>
+        ensures answered { IfOk result (λ a. IsAnswered J.limits self.old self.new (call.Launch id target state) a.number a.reply a.stamp) }
         ensures err { OnErr result (self.new ≡ self.old) }
         ensures why { IfErr result (λ e. Because J.limits e) }
     {
@@ -242,9 +266,8 @@ impl<J: Naming> Client<J> {
         manager: &Manager<J, T>,
         id: Text,
         state: Dict,
-    ) -> Result<Answered, Unavailable<u64>>
-        ensures answered { IfOk result (λ a. IsAnswered J.limits self.old (call.Push id state) a) }
-        ensures counted { OnOk result (self.new ≡ tally self.old.client (self.old.number + 1)) }
+    ) -> Result<Answered<J>, Unavailable<Stamp<J>>>
+        ensures answered { IfOk result (λ a. IsAnswered J.limits self.old self.new (call.Push id state) a.number a.reply a.stamp) }
         ensures err { OnErr result (self.new ≡ self.old) }
         ensures why { IfErr result (λ e. Because J.limits e) }
     {
@@ -258,9 +281,8 @@ impl<J: Naming> Client<J> {
         manager: &Manager<J, T>,
         id: Text,
         body: Body,
-    ) -> Result<Answered, Unavailable<u64>>
-        ensures answered { IfOk result (λ a. IsAnswered J.limits self.old (call.Send id body) a) }
-        ensures counted { OnOk result (self.new ≡ tally self.old.client (self.old.number + 1)) }
+    ) -> Result<Answered<J>, Unavailable<Stamp<J>>>
+        ensures answered { IfOk result (λ a. IsAnswered J.limits self.old self.new (call.Send id body) a.number a.reply a.stamp) }
         ensures err { OnErr result (self.new ≡ self.old) }
         ensures why { IfErr result (λ e. Because J.limits e) }
     {
@@ -273,38 +295,37 @@ impl<J: Naming> Client<J> {
         rt: &R,
         manager: &Manager<J, T>,
         id: Text,
-    ) -> Result<Answered, Unavailable<u64>>
-        ensures answered { IfOk result (λ a. IsAnswered J.limits self.old (call.HangUp id) a) }
-        ensures counted { OnOk result (self.new ≡ tally self.old.client (self.old.number + 1)) }
+    ) -> Result<Answered<J>, Unavailable<Stamp<J>>>
+        ensures answered { IfOk result (λ a. IsAnswered J.limits self.old self.new (call.HangUp id) a.number a.reply a.stamp) }
         ensures err { OnErr result (self.new ≡ self.old) }
         ensures why { IfErr result (λ e. Because J.limits e) }
     {
         self.ask(rt, manager, Call::HangUp { id })
     }
 
-    /// The open comms with the names of their targets, those of one target where a name is given.
-    pub fn comm_info<T: Target, R: Wait>(
-        &mut self,
-        rt: &R,
-        manager: &Manager<J, T>,
-        target: Option<&Text>,
-    ) -> Result<InfoRead, AllocError>
-        ensures read { IfOk result (λ r. (front : List Entry) × IsLegal J.limits.clients J.limits.comms front × (r.front ≡ length front) × (r.comms ≡ infos (replay J.limits.comms front) (option_map (λ t. t.now) target.entry))) }
-        ensures same { self.new ≡ self.old }
+    /// The open comms with the names of their targets, those of one target where a name is given, as they are after the changes that it has seen
+    /// then. It enters no lock. NoVersion, as may come after the manager was discarded, leaves what was seen; Memory may have made it longer.
+    pub fn comm_info(&mut self, alloc: Global, target: Option<&Text>) -> Result<InfoRead, ReadFault>
+        ensures later { IsPrefix self.old.seen self.new.seen }
+        ensures made { (self.new.client ≡ self.old.client) × (self.new.number ≡ self.old.number) × (made self.new ≡ made self.old) }
+        ensures legal { OnOk result (IsLegal J.limits.clients J.limits.comms self.new.seen) }
+        ensures front { IfOk result (λ r. r.front ≡ length self.new.seen) }
+        ensures answer { IfOk result (λ r. r.comms ≡ infos (replay J.limits.comms self.new.seen) (option_map (λ t. t.now) target.entry)) }
+        ensures none { IsErrOf result fault.NoVersion → self.new ≡ self.old }
     {
-        manager.inner.lock(rt).infos(target)
+        self.reader.read_infos(alloc, target)
     }
 
-    /// The state of a comm.
-    pub fn state<T: Target, R: Wait>(
-        &mut self,
-        rt: &R,
-        manager: &Manager<J, T>,
-        id: &Text,
-    ) -> Result<StateRead, AllocError>
-        ensures read { IfOk result (λ r. (front : List Entry) × IsLegal J.limits.clients J.limits.comms front × (r.front ≡ length front) × (r.answer ≡ state_of (replay J.limits.comms front) id.now)) }
-        ensures same { self.new ≡ self.old }
+    /// The state of a comm, as it is after the changes that it has seen then. It enters no lock. NoVersion leaves what was seen; Memory may have
+    /// made it longer.
+    pub fn state(&mut self, id: &Text) -> Result<StateRead, ReadFault>
+        ensures later { IsPrefix self.old.seen self.new.seen }
+        ensures made { (self.new.client ≡ self.old.client) × (self.new.number ≡ self.old.number) × (made self.new ≡ made self.old) }
+        ensures legal { OnOk result (IsLegal J.limits.clients J.limits.comms self.new.seen) }
+        ensures front { IfOk result (λ r. r.front ≡ length self.new.seen) }
+        ensures answer { IfOk result (λ r. r.answer ≡ state_of (replay J.limits.comms self.new.seen) id.now) }
+        ensures none { IsErrOf result fault.NoVersion → self.new ≡ self.old }
     {
-        manager.inner.lock(rt).state(id)
+        self.reader.read_state(id)
     }
 }

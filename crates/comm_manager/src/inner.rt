@@ -1,67 +1,88 @@
 //! What lies under the lock.
-ghost use Rattle.std.specs.Prelude.{◌≡◌, ◌+◌, ◌<◌, ◌≤◌, [], ◌∷◌, length, false, All, IfOk, IfErr, OnErr, OnOk, MatchOption, true, option_map, slice_index};
+ghost use Rattle.std.specs.Prelude.{◌≡◌, ◌+◌, ◌<◌, ◌≤◌, ◌++◌, [], ◌∷◌, length, false, All, IfOk, IfErr, OnErr, true, option_map, vec_capacity};
 ghost use Rattle.std.specs.Arc.{arc_value};
-ghost use Rattle.comm_core.specs.History.{IsLegal, has_end, mine, replay};
-ghost use Rattle.comm_core.specs.Reads.{infos, state_of};
+ghost use Rattle.std.specs.Mem.{manually_drop_value};
+ghost use Rattle.comm_core.specs.History.{IsLegal, has_end};
 ghost use Rattle.comm_core.specs.Ready.{back_of};
 ghost use Rattle.comm_core.specs.Tables.{IdleWhere};
 ghost use Rattle.comm_core.specs.Limits.{AreAllowed};
+ghost use Rattle.comm_core.specs.declared.entry.Entry.TheVariants.{End};
+ghost use Rattle.comm_core.specs.declared.row.Row.TheVariants as row;
 ghost use Rattle.comm_manager.specs.Asked.{IsNext, MayAsk, boxed_of, call_of};
-ghost use Rattle.comm_manager.specs.Journal.{EndsIn, entries, entries_of};
-ghost use Rattle.comm_manager.specs.Tally.{Tally, tally};
+ghost use Rattle.comm_outbox.specs.Sides.{entries_of, unfilled};
+ghost use Rattle.comm_manager.specs.Kept.{Puts, counts};
+ghost use Rattle.comm_manager.specs.Mine.{IsAnswered, IsSettled};
 ghost use Rattle.comm_manager.specs.Why.{Because};
 
 use crate::change::{Made, perform};
 use crate::client::Client;
 use crate::journal::Journal;
-use crate::ledger::{Books, Ticket};
+use crate::ledger::Books;
 use crate::naming::Naming;
-use crate::reads::{InfoRead, StateRead};
+use crate::publisher::Publisher;
 use crate::request::Request;
-use comm_core::{Core, Entry, Limits, Unavailable};
+use comm_core::{Core, Entry, Limits, Row, Unavailable, legal_histories_grow, rows_are_what_entries_change};
+use comm_outbox::Outbox;
 use comm_targets::Target;
-use comm_value::Text;
+use comm_versions::{Change, Stamp, VersionWriter};
 use std::alloc::{AllocError, Global};
 use std::marker::Model;
-use std::sync::Arc;
+use std::mem::ManuallyDrop;
+use std::sync::{Arc, Wait};
 
-/// A one-thread manager with its history, the entries that nobody has taken, and how many changes each client made.
+/// A one-thread manager with its history, which is published to the readers and goes out through the queue, and how many changes each client made.
 ///
-/// The history is legal, its replay is the machine of the tables and the targets, and nothing is staged: that is true whenever the
-/// lock is got, and is proved again of each call that is made under it.
+/// The history is legal, is what is published and what was put into the queue, its replay is the machine of the tables and the targets, and nothing
+/// is staged: that is true whenever the lock is got, and is proved again of each call that is made under it.
 pub struct Inner<J: Naming, T: Target> {
     limits: Limits,
     core: Core<T>,
     journal: Journal,
+    // the kit can't prove how a writer would be dropped; it never is: `end` alone ends it
+    writer: ManuallyDrop<VersionWriter<J>>,
+    outbox: Outbox,
     books: Books<J>,
 }
 
 impl<J: Naming, T: Target> Model for Inner<J, T> {
-    ghost use Rattle.std.specs.Prelude.{◌≡◌};
-    ghost use Rattle.comm_manager.specs.Journal.{Entries, entries_code};
-    ghost use Rattle.comm_manager.specs.Kept.{IsKept};
+    ghost use Rattle.std.specs.Prelude.{◌≡◌, List};
+    ghost use Rattle.comm_core.specs.declared.entry.Entry.{Entry};
+    ghost use Rattle.comm_versions.specs.Code.{entries_code};
+    ghost use Rattle.std.specs.Mem.{manually_drop_value};
+    ghost use Rattle.comm_manager.specs.Kept.{IsKept, Puts};
 
-    ghost Value = { Entries };
+    ghost Value = { List Entry };
 
     ghost coded = { entries_code };
 
     ghost view = { λ s. s.journal.all };
 
-    ghost invariant = { λ s. IsKept s.limits s.journal.all.history s.core s.books × (s.limits ≡ J.limits) };
+    ghost invariant = { λ s. IsKept J.limits s.journal.all s.core (manually_drop_value s.writer) s.books × Puts J.queue J.limits s.journal.all s.outbox × (s.limits ≡ J.limits) };
 }
 
 impl<J: Naming, T: Target> Inner<J, T> {
     /// A manager that has made no change.
-    pub fn new(alloc: Global, limits: Limits, core: Core<T>, books: Books<J>) -> Inner<J, T>
+    pub fn new(
+        alloc: Global,
+        limits: Limits,
+        core: Core<T>,
+        writer: VersionWriter<J>,
+        outbox: Outbox,
+        books: Books<J>,
+    ) -> Inner<J, T>
         requires limits { (limits ≡ J.limits) × AreAllowed limits }
         requires core { core ≡ record { limit = limits.comms; boxes = []; comms = []; settled = true } }
+        requires writer { (writer.front ≡ []) × (writer.pending ≡ []) }
+        requires outbox { outbox ≡ unfilled J.queue limits.clients limits.comms (limits.outbox + 1) }
         requires books { books ≡ 0 ∷ 0 ∷ 0 ∷ 0 ∷ [] }
-        ensures { result ≡ entries [] [] }
+        ensures { result ≡ [] }
     {
         Inner {
             limits,
             core,
             journal: Journal::new(alloc),
+            writer: kept(writer),
+            outbox,
             books,
         }
     }
@@ -73,109 +94,177 @@ impl<J: Naming, T: Target> Inner<J, T> {
         self.limits.clients
     }
 
-    /// One change of a client: one entry more, at the end of the history, which stays legal. Or nothing changes.
-    pub fn change(
+    /// One change of a client: one entry more, at the end of the history, which stays legal, is published and goes out. Or nothing changes.
+    pub fn change<R: Wait>(
         &mut self,
+        rt: &R,
         alloc: Global,
-        ticket: &mut Ticket<J>,
+        client: &mut Client<J>,
         request: Request<T>,
-    ) -> Result<Made<T>, (Unavailable<u64>, Option<T>)>
-        requires below { ticket.old.client < J.limits.clients }
+    ) -> Result<Made<J, T>, (Unavailable<Stamp<J>>, Option<T>)>
         requires may { MayAsk T.means request }
-        ensures next { IfOk result (λ m. IsNext self.old self.new ticket.old (call_of T.means request) m.answered) }
-        ensures legal { IsLegal J.limits.clients J.limits.comms self.new.history × (length self.new.history ≤ J.limits.history) }
-        ensures ticket { OnOk result (ticket.new ≡ tally ticket.old.client (ticket.old.number + 1)) }
+        ensures answered { IfOk result (λ m. IsAnswered J.limits client.old client.new (call_of T.means request) m.answered.number m.answered.reply m.answered.stamp) }
+        ensures next { IfOk result (λ m. IsNext self.old self.new client.old.client (client.old.number + 1) (call_of T.means request) m.answered.reply) }
+        ensures history { IfOk result (λ m. self.new ≡ m.answered.stamp) }
         ensures back { IfOk result (λ m. option_map T.means m.back ≡ back_of m.answered.reply (boxed_of T.means request)) }
         ensures idle { IfOk result (λ m. IdleWhere m.ended) }
-        ensures err { OnErr result ((ticket.new ≡ ticket.old) × (self.new ≡ self.old)) }
+        ensures err { OnErr result ((client.new ≡ client.old) × (self.new ≡ self.old)) }
         ensures why { IfErr result (λ e. Because J.limits e.0) }
         ensures boxed { IfErr result (λ e. option_map T.means e.1 ≡ boxed_of T.means request) }
     {
         perform(
+            rt,
             alloc,
             &self.limits,
             &mut self.core,
             &mut self.journal,
+            &mut *self.writer,
+            &mut self.outbox,
             &mut self.books,
-            ticket,
+            &mut client.reader,
+            &mut client.ticket,
             request,
         )
     }
 
-    /// The open comms, after the whole history.
-    pub fn infos(&mut self, target: Option<&Text>) -> Result<InfoRead, AllocError>
-        ensures read { IfOk result (λ r. (r.front ≡ length self.old.history) × (r.comms ≡ infos (replay J.limits.comms self.old.history) (option_map (λ t. t.now) target.entry))) }
-        ensures legal { IsLegal J.limits.clients J.limits.comms self.old.history }
-        ensures same { self.new ≡ self.old }
-    {
-        let comms = self.core.listing(target)?;
-        Ok(InfoRead {
-            front: self.journal.len() as u64,
-            comms,
-        })
-    }
-
-    /// The state of a comm, after the whole history.
-    pub fn state(&self, id: &Text) -> Result<StateRead, AllocError>
-        ensures read { IfOk result (λ r. (r.front ≡ length self.now.history) × (r.answer ≡ state_of (replay J.limits.comms self.now.history) id.now)) }
-        ensures legal { IsLegal J.limits.clients J.limits.comms self.now.history }
-    {
-        let answer = self.core.state(id)?;
-        Ok(StateRead {
-            front: self.journal.len() as u64,
-            answer,
-        })
-    }
-
-    /// Takes the first entry that nobody has taken. It takes no memory.
-    pub fn take_next(&mut self) -> Option<Arc<Entry, Global>>
-        ensures history { self.new.history ≡ self.old.history }
-        ensures taken { MatchOption result ((self.old.waiting ≡ []) × (self.new.waiting ≡ [])) (λ e. self.old.waiting ≡ arc_value e ∷ self.new.waiting) }
-        ensures legal { IsLegal J.limits.clients J.limits.comms self.old.history × EndsIn self.old.history self.old.waiting }
-    {
-        self.journal.take_next()
-    }
-
-    /// Ends each target after its comms. The history has of each client as many entries as it made changes.
-    pub fn finish(
+    /// Ends the history, and each target after its comms. All that the clients have seen begins it, it has of each just what it made, and what the
+    /// publisher took and what it left are all of it. Where there is no memory for an end, all is handed back.
+    pub fn finish<R: Wait>(
         self,
+        rt: &R,
+        alloc: Global,
         clients: Vec<Client<J>>,
-    ) -> (Vec<Arc<Entry, Global>>, Vec<Arc<Entry, Global>>)
-        ensures history { entries_of result.0.items ≡ self.history }
-        ensures untaken { entries_of result.1.items ≡ self.waiting }
-        ensures legal { IsLegal J.limits.clients J.limits.comms self.history × (has_end self.history ≡ false) × (length self.history ≤ J.limits.history) }
-        ensures ends { EndsIn self.history self.waiting }
-        ensures counted { All (λ w. length (mine self.history w.client) ≡ w.number) clients.items }
+        publisher: Publisher<J>,
+    ) -> Result<Farewell, (Inner<J, T>, Vec<Client<J>>, Publisher<J>)>
+        ensures history { IfOk result (λ f. entries_of f.history.items ≡ self ++ End ∷ []) }
+        ensures legal { IfOk result (λ f. IsLegal J.limits.clients J.limits.comms (entries_of f.history.items)) }
+        ensures few { length self ≤ J.limits.history }
+        ensures settled { IfOk result (λ f. All (λ w. IsSettled (entries_of f.history.items) w) clients.items) }
+        ensures untaken { IfOk result (λ f. publisher ++ entries_of f.untaken.items ≡ entries_of f.history.items) }
+        ensures err { IfErr result (λ e. (e.0 ≡ self) × (e.1 ≡ clients) × (e.2 ≡ publisher)) }
     {
         let Inner {
-            limits: _limits,
+            limits,
             core,
-            journal,
+            mut journal,
+            writer,
+            mut outbox,
             mut books,
         } = self;
-        gather(&mut books, clients);
-        core.stop_all();
-        journal.into_lists()
+        let mut writer = ManuallyDrop::into_inner(writer);
+        match close(rt, alloc, &mut journal, &mut writer, &mut outbox, &publisher) {
+            Ok((last, room)) => {
+                gather(&mut books, clients, &last);
+                writer.end(rt);
+                core.stop_all();
+                Ok(Farewell {
+                    history: journal.into_list(),
+                    untaken: outbox.take_rest(rt, publisher.into_side(), room),
+                })
+            }
+            Err(_) => Err((
+                Inner {
+                    limits,
+                    core,
+                    journal,
+                    writer: kept(writer),
+                    outbox,
+                    books,
+                },
+                clients,
+                publisher,
+            )),
+        }
     }
 
     /// Ends each target after its comms, and gives nothing back.
-    pub fn discard(self) {
+    pub fn discard<R: Wait>(self, rt: &R) {
         let Inner {
             limits: _limits,
             core,
             journal: _journal,
+            writer,
+            outbox: _outbox,
             books: _books,
         } = self;
+        ManuallyDrop::into_inner(writer).end(rt);
         core.stop_all();
     }
 }
 
-// Each client made as many changes as the books say.
-fn gather<J: Naming>(books: &mut Books<J>, clients: Vec<Client<J>>)
-    ensures { All (λ w. (w.client < 4) × (slice_index books.old w.client ≡ w.number)) clients.items }
+// It isn't dropped from now on.
+fn kept<J: Naming>(writer: VersionWriter<J>) -> ManuallyDrop<VersionWriter<J>>
+    ensures { manually_drop_value result ≡ writer }
+{
+    unsafe { ManuallyDrop::new_unchecked(writer) }
+}
+
+/// What a manager leaves: all entries, an end as the last, and those of them that its publisher hadn't taken.
+#[derive(Drop)]
+pub struct Farewell {
+    pub history: Vec<Arc<Entry, Global>>,
+    pub untaken: Vec<Arc<Entry, Global>>,
+}
+
+// The entry of an end, three times, and an empty list with room for so many entries.
+fn grown(
+    alloc: Global,
+    count: usize,
+) -> Result<(Change, Arc<Entry, Global>, Arc<Entry, Global>, Vec<Arc<Entry, Global>>), AllocError>
+    ensures change { IfOk result (λ r. (arc_value r.0.entry ≡ End) × (r.0.row ≡ row.Clear)) }
+    ensures entries { IfOk result (λ r. (arc_value r.1 ≡ End) × (arc_value r.2 ≡ End)) }
+    ensures room { IfOk result (λ r. (r.3.items ≡ []) × (count ≤ vec_capacity r.3)) }
+{
+    let entry = Arc::new(alloc, Entry::End)?;
+    let kept = Arc::try_clone(&entry)?;
+    let sent = Arc::try_clone(&entry)?;
+    let mut room = Vec::new(alloc);
+    room.reserve(count)?;
+    Ok((Change::new(entry, Row::Clear), kept, sent, room))
+}
+
+// Ends the history, publishes that, and lets it go out. There is room for all that the publisher hasn't taken.
+fn close<J: Naming, R: Wait>(
+    rt: &R,
+    alloc: Global,
+    journal: &mut Journal,
+    writer: &mut VersionWriter<J>,
+    outbox: &mut Outbox,
+    publisher: &Publisher<J>,
+) -> Result<(Stamp<J>, Vec<Arc<Entry, Global>>), AllocError>
+    requires front { (writer.old.front ≡ journal.old.all) × (writer.old.pending ≡ []) }
+    requires puts { Puts J.queue J.limits journal.old.all outbox.old }
+    requires legal { IsLegal J.limits.clients J.limits.comms journal.old.all × (has_end journal.old.all ≡ false) }
+    requires few { length journal.old.all ≤ 4294967295 }
+    ensures stamp { IfOk result (λ r. (r.0 ≡ journal.old.all ++ End ∷ []) × IsLegal J.limits.clients J.limits.comms r.0) }
+    ensures history { IfOk result (λ r. journal.new.all ≡ r.0) }
+    ensures puts { IfOk result (λ r. (outbox.new.line ≡ J.queue) × (outbox.new.puts ≡ r.0)) }
+    ensures room { IfOk result (λ r. (r.1.items ≡ []) × (length journal.new.all ≤ length publisher.now + vec_capacity r.1)) }
+    ensures err { OnErr result ((journal.new.all ≡ journal.old.all) × (writer.new ≡ writer.old) × (outbox.new ≡ outbox.old)) }
+{
+    legal_histories_grow();
+    rows_are_what_entries_change();
+    journal.reserve()?;
+    let all = journal.len() as u64 + 1;
+    let left = all.saturating_sub(publisher.taken());
+    let (change, kept, sent, room) = grown(alloc, left as usize)?;
+    writer.append(change)?;
+    writer.publish(rt);
+    journal.add(kept);
+    outbox.put(rt, sent);
+    let stamp = writer.stamp();
+    let _legal = stamp.number();
+    Ok((stamp, room))
+}
+
+// What each client has seen begins the history that ended, and it made as many changes as the books say.
+fn gather<J: Naming>(books: &mut Books<J>, clients: Vec<Client<J>>, last: &Stamp<J>)
+    requires ended { has_end last.now ≡ true }
+    requires books { books.old ≡ counts last.now }
+    ensures { All (λ w. IsSettled last.now w) clients.items }
 {
     let mut clients = clients;
     while let Some(mut client) = clients.pop() {
-        client.settle(books);
+        client.settle(books, last);
     }
 }

@@ -4,42 +4,45 @@
 //! holds each answered change once, in which every reply, comm list and state read is that manager's own at a point not before anything its
 //! caller had seen; and no target object ends while a comm of it is open.**
 //!
-//! # What is proved of it by now
+//! # What is proved of it, and by which contract
 //!
 //! A history is a list of entries, and it is legal where each entry is what the one-thread manager answers there (`IsLegal`, in
-//! `comm_core`'s `specs/History`). It lies under one lock, with the tables and the targets, and all of this is the type of what lies there, so
-//! it is true whenever the lock is got:
+//! `comm_core`'s `specs/History`). A front is a beginning of it. Contracts see a client as its number, how many changes it made, and the front
+//! that it has seen (`Who`); its answered changes are the first so many of its entries in that front (`made`, in `specs/Mine`).
 //!
-//! - The history is legal, within the limits, and the tables and the targets are those after it, with nothing staged (`specs/Kept`).
-//! - It has of each client as many entries as that client has answered changes. Each client has a ledger, whose book lies under the lock
-//!   and whose one share the client has; so a change knows that both agree before it is made, and counts in both after it.
+//! | Of the headline | By contract | Where |
+//! |---|---|---|
+//! | *one history .. that holds each answered change once* | An answered change ends a legal front, as its last entry: the very call, the client, the next of its numbers, and the very reply. It is one more of the client's changes, which are all that the front has of that client | `answered` of the nine changes of [`Client`] (`IsAnswered`) |
+//! | | A change that isn't made leaves its client as it was, and has a reason that holds: a stamp of a whole history that is full, at least as many entries waiting as may, or want of memory | `err`, `why` there (`Because`) |
+//! | | All clients' fronts are beginnings of the one legal history, which has of each just the changes that were answered to it, and an end last | `legal`, `ended`, `settled` of [`Manager::shutdown`] (`IsSettled`) |
+//! | *every reply is that manager's own* | as above: the front is legal with that reply in it | `answered` |
+//! | *every comm list and state read is* | The list and the state are those of the one-thread manager after the front that the client has seen then, which is legal | `legal`, `answer`, `front` of [`Client::comm_info`] and [`Client::state`] |
+//! | *at a point not before anything its caller had seen* | What a client had seen begins what it has seen after any call. A change comes after all that its client had seen; a client that hears a stamp has seen no less than the stamp's front | `answered` (its part `seen`); `later` of the reads; `own`, `stamp` of [`Client::hear`] |
+//! | *no target object ends while a comm of it is open* | A target is `Held`, which only `Held::end` lets go, and that asks that no comm of it is open; `stop_all` alone ends a `Core`. A body here that forgets a target isn't accepted, since neither can be dropped. That no comm is open by the target's own list means that none is by the machine's is the type of what lies under the lock | `comm_targets`, `comm_core`; `src/inner.rt` |
 //!
-//! By public contract:
+//! Besides:
 //!
 //! | What | Where |
 //! |---|---|
-//! | An answered change ends a legal history of as many entries as its number says, with the very call, its client, the next of that client's numbers, and the very reply; and the client counts one change more | `answered`, `counted` of the nine changes of [`Client`] (`IsAnswered`, in `specs/Asked`) |
-//! | A change that isn't made has a reason that holds: the history has just as many changes as it may, or at least as many entries wait as may, or memory ran out; the client's count stays | `why`, `err` there (`Because`, in `specs/Why`) |
 //! | A target that was handed in comes back as it was, unless it is registered | `back`, `boxed` of [`Client::register`] |
-//! | A comm list or a state is that of the one-thread manager after one legal history, whose length it tells | `read` of [`Client::comm_info`] and [`Client::state`] |
-//! | What is taken stands in a legal history | [`Manager::take_next`] |
-//! | The one history is legal, and has of each client just as many entries as that had answered changes; what nobody has taken ends it | `legal`, `counted`, `untaken` of [`Manager::shutdown`] |
-//! | A shutdown is refused just where a client is missing, and hands the clients and the manager back | `missing`, `err` of [`Manager::shutdown`] |
-//! | The clients of a new manager are those of its limits, in the order of their numbers, and have made no change | `clients` of [`Manager::open`] |
-//! | There is no manager just where a limit is out of its bounds, or memory ran out | [`Opening::new`], [`Manager::open`] |
-//! | No target ends while a comm of it is open: a target is `Held`, which only `Held::end` lets go, and that asks that no comm of it is open; `stop_all` alone ends a `Core` | `comm_targets`, `comm_core`; a body here that forgets a target isn't accepted, since neither can be dropped |
+//! | A read, or a stamp that is heard, leaves the client's changes | `made` of the reads and of [`Client::hear`] |
+//! | What is taken is the history from its beginning, each entry once and in its order: it grows by the very entry, and is legal; and with what was left it is the whole history | `next`, `legal` of [`Publisher::take`], `untaken` of [`Manager::shutdown`] |
+//! | A shutdown is refused for MissingClients just where a client is missing, and else for want of memory alone; the manager, the clients and the publisher come back as they were | `missing`, `err` of [`Manager::shutdown`] |
+//! | The clients of a new manager are those of its limits, in the order of their numbers, and have made no change and seen nothing; its publisher has taken nothing | `clients`, `publisher` of [`Manager::open`] |
+//! | There is no manager just where a limit is out of its bounds; or memory ran out, or the versions had no place for a reader | [`Opening::new`], [`Manager::open`] |
 //!
-//! The calls under the lock say more than these, since there the history has a name (`src/inner.rt`): a change adds its one entry at the
-//! end of the history, and at the end of what nobody has taken; a call that answers an error adds none; `take_next` takes the first of
-//! those.
+//! The history lies under one lock, with the tables and the targets, and all of this is the type of what lies there, so it is true whenever the
+//! lock is got (`specs/Kept`): the history is legal, within the limits, and is what is published to the readers and was put into the queue; the tables and the targets are
+//! those after it, with nothing staged; and it has of each client as many entries as that client's ledger says, whose one share the client has. The
+//! calls under the lock say more than the public ones, since there the history has a name (`src/inner.rt`).
 //!
-//! Not yet: that a read, or a change, is at a point not before what its caller had seen; and that the histories of which the clients' answers
-//! speak begin one another. (Of each answer a legal history is known, and of all together the last one, at `shutdown`.)
+//! Premises: a boxed target keeps the contract of `Target`; a call that waits for the lock is spoken of if it returns. That clients, publisher and
+//! stamps are used with the manager that they came with is no premise: they share a type parameter, the manager's name. After [`Manager::discard`] nobody
+//! holds the one history.
 //!
-//! Premises: a boxed target keeps the contract of `Target`; a call that waits for the lock is spoken of if it returns. That clients are used
-//! with the manager that they came with is no premise: a manager and its clients share a type parameter, its name.
-//!
-//! Nothing here tries again: each call that takes a [`Wait`](std::sync::Wait) waits for the lock, once, and for nothing else.
+//! Reads take no lock and can't wait: they have no [`Wait`](std::sync::Wait). A publisher enters no lock either, but may wait for the queue. Of the loops that try again, there is one here: a change of a client
+//! that had seen more than the history under the lock wouldn't return (`src/change.rt`). None can have, but that is known only of a history that has ended.
+//! `comm_versions` and `comm_outbox` say of their loops why they end.
 //!
 //! # How a kernel uses it
 //!
@@ -52,12 +55,12 @@
 //!     opening: Opening,
 //!     widgets: T,
 //! ) -> Result<(), Fault>
-//!     requires named { Named opening J.ledgers J.limits }
+//!     requires named { Named opening J.book J.ledgers J.queue J.limits }
 //!     requires idle { IsIdle (T.means widgets) }
 //! {
-//!     let (manager, clients) = Manager::<J, T>::open(alloc, opening)?;
-//!     let clients = both(rt, &manager, clients, widgets);   // a shell thread and a publishing thread, joined
-//!     match manager.shutdown(rt, clients) {
+//!     let (manager, clients, publisher) = Manager::<J, T>::open(rt, alloc, opening)?;
+//!     let (clients, publisher) = both(rt, &manager, clients, publisher, widgets);  // a shell thread and a publishing thread
+//!     match manager.shutdown(rt, clients, publisher) {
 //!         Ok(farewell) => ..                                // the whole history, and what wasn't sent
 //!         Err(refused) => ..                                // take it apart, and discard its manager
 //!     }
@@ -70,7 +73,7 @@
 //! fn named<T: Target, R: Threads + Wait + Sync>(rt: &R, alloc: Global, widgets: T) -> Result<(), Fault>
 //!     requires { IsIdle (T.means widgets) }
 //! {
-//!     let opening = Opening::new(LIMITS)?;
+//!     let opening = Opening::new(alloc, LIMITS)?;
 //!     serve::<Brand, T, R>(rt, alloc, opening, widgets)
 //! }
 //! ```
@@ -81,8 +84,11 @@
 //! use Rattle.comm_manager.specs.Names.{named}
 //! use Rattle.mine.proofs.named.Given as goal
 //!
-//! abbrev pub ghosts-serve : goal.ghosts-serve
-//! ghosts-serve g a = record { ledgers = named a.opening.first a.opening.second a.opening.third a.opening.fourth; limits = a.opening.limits }
+//! abbrev pub ghosts-serve-J-History : goal.ghosts-serve-J-History
+//! ghosts-serve-J-History g a = record { book = a.opening.book; limits = a.opening.limits }
+//!
+//! abbrev pub ghosts-serve-J-Naming : goal.ghosts-serve-J-Naming
+//! ghosts-serve-J-Naming g a = record { ledgers = named a.opening.first a.opening.second a.opening.third a.opening.fourth; queue = a.opening.queue }
 //! ```
 //!
 //! A shell thread has a client, and answers each message of the frontend by a change:
@@ -90,6 +96,7 @@
 //! ```text
 //! match client.message(rt, manager, id, body) {
 //!     Ok(answered) => ..                                    // what the target hands to the caller stands in answered.reply
+//!                                                           // who hears answered.stamp reads no less than this change
 //!     Err(Unavailable::OutboxFull(_)) => thread::yield_now(),
 //!     Err(why) => return Err(why),
 //! }
@@ -98,7 +105,7 @@
 //! and a publishing thread writes what goes out, in the order of the history:
 //!
 //! ```text
-//! while let Some(entry) = manager.take_next(rt) {
+//! while let Some(entry) = publisher.take(rt) {
 //!     if let Entry::Change { client, number, outgoing, .. } = &*entry {
 //!         for message in outgoing.as_slice() {
 //!             send(message, &Parent::Call { client: *client, number: *number })?;
@@ -107,11 +114,14 @@
 //! }
 //! ```
 //!
-//! Where a function starts threads, the check asks that what it hands to them may cross. Put the call of `join` into a small function, `both`,
-//! and answer it in `proofs/both/Answers.antt`; the bounds are bound by name, so that the search finds them:
+//! Where a function starts threads, the check asks that what it hands to them, and what they give back, may cross. Put the call of `join` into a
+//! small function, `both`, and answer it in `proofs/both/Answers.antt`; the bounds, and what follows of the manager's parts, are bound by name, so
+//! that the search finds them:
 //!
 //! ```text
-//! use Rattle.comm_manager.proofs.Crossing.{shared}
+//! use denote.Param.Send.{sendable}
+//! use Rattle.std.proofs.Crossing.{crosses}
+//! use Rattle.comm_manager.proofs.Crossing.{manager_sync, client_send, publisher_send}
 //! use Rattle.mine.proofs.both.Goals as goal
 //!
 //! pub join-requires-send-F : goal.join-requires-send-F
@@ -120,7 +130,18 @@
 //!     let j = c.type_bounds.send-J in
 //!     let k = c.type_bounds.sync-J in
 //!     let t = c.type_bounds.send-T in
-//!     search shared depth 60
+//!     let m = manager_sync _ g.J.Naming g.J.History j k _ g.T.Target t in
+//!     let l = client_send _ g.J.Naming g.J.History j k in
+//!     let p = publisher_send _ g.J.Naming g.J.History j k in
+//!     search (sendable, crosses) depth 60
+//!
+//! pub join-requires-send-A : goal.join-requires-send-A
+//! join-requires-send-A g c κs within =
+//!     let j = c.type_bounds.send-J in
+//!     let k = c.type_bounds.sync-J in
+//!     let l = client_send _ g.J.Naming g.J.History j k in
+//!     let p = publisher_send _ g.J.Naming g.J.History j k in
+//!     search (sendable, crosses) depth 60
 //! ```
 //!
 //! `comm_thread_tests` has this whole, in `src/tests/threads.rt`.
@@ -134,13 +155,15 @@ mod journal;
 mod ledger;
 mod naming;
 mod opening;
-mod reads;
+mod publisher;
 mod request;
 mod shared;
 
 pub use answered::Answered;
 pub use client::Client;
 pub use naming::Naming;
+pub use inner::Farewell;
 pub use opening::Opening;
-pub use reads::{InfoRead, StateRead};
-pub use shared::{Cause, Farewell, Manager, ShutdownRefused};
+pub use publisher::Publisher;
+pub use comm_versions::{InfoRead, OpeningFault, ReadFault, Stamp, StateRead};
+pub use shared::{Cause, Manager, ShutdownRefused};

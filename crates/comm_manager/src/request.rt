@@ -20,7 +20,10 @@ impl<T: Target> Request<T> {
         ensures { option_map T.means result ≡ boxed_of T.means self }
     {
         match self {
-            Request::Asked(_call) => None,
+            Request::Asked(call) => {
+                drop(call);
+                None
+            }
             Request::Registering(_name, boxed) => Some(boxed),
         }
     }

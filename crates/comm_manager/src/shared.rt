@@ -1,22 +1,25 @@
 //! The manager that threads share.
-ghost use Rattle.std.specs.Prelude.{◌≡◌, ◌≤◌, length, All, IfOk, IfErr, IfSome, MatchResult, true, false};
-ghost use Rattle.std.specs.Arc.{arc_value};
-ghost use Rattle.comm_core.specs.History.{IsLegal, has_end, mine};
-ghost use Rattle.comm_manager.specs.Asked.{IsOfHistory};
-ghost use Rattle.comm_manager.specs.Journal.{EndsIn, entries_of};
+ghost use Rattle.std.specs.Prelude.{◌≡◌, ◌≤◌, ◌++◌, [], ◌∷◌, length, All, IfOk, IfErr, MatchResult, true, false, List};
+ghost use Rattle.comm_core.specs.History.{IsLegal};
+ghost use Rattle.comm_core.specs.declared.entry.Entry.{Entry};
+ghost use Rattle.comm_core.specs.declared.entry.Entry.TheVariants.{End};
+ghost use Rattle.comm_outbox.specs.Sides.{entries_of};
+ghost use Rattle.comm_manager.specs.Mine.{IsSettled};
 ghost use Rattle.comm_manager.specs.Names.{Named};
-ghost use Rattle.comm_manager.specs.Tally.{Tally, all_new};
-ghost use Rattle.comm_manager.specs.Why.{all_here, is_here};
+ghost use Rattle.comm_manager.specs.Who.{all_new};
+ghost use Rattle.comm_manager.specs.Why.{IsMissing, all_here, is_here};
 
 use crate::client::Client;
-use crate::inner::Inner;
+use crate::inner::{Farewell, Inner};
 use crate::ledger::Books;
 use crate::naming::Naming;
 use crate::opening::{Opening, first_clients};
-use comm_core::{Core, Entry, NewFault};
+use crate::publisher::Publisher;
+use comm_core::Core;
 use comm_targets::Target;
+use comm_versions::{OpeningFault, versions};
 use std::alloc::Global;
-use std::sync::{Arc, Mutex, Wait};
+use std::sync::{Mutex, Wait};
 
 /// The manager, which threads share by reference. `shutdown` or `discard` alone ends it.
 pub struct Manager<J: Naming, T: Target> {
@@ -24,16 +27,11 @@ pub struct Manager<J: Naming, T: Target> {
     pub(crate) inner: Mutex<Inner<J, T>>,
 }
 
-/// What a manager leaves: all entries, and those of them that nobody had taken.
-#[derive(Drop)]
-pub struct Farewell {
-    pub history: Vec<Arc<Entry, Global>>,
-    pub untaken: Vec<Arc<Entry, Global>>,
-}
-
 /// Why a manager isn't shut down.
 #[derive(Clone, Copy, PartialEq, Eq, Debug)]
 pub enum Cause {
+    /// There is no memory for the end of the history.
+    Memory,
     /// A client of the manager isn't among those that were handed in.
     MissingClients,
 }
@@ -43,6 +41,7 @@ pub struct ShutdownRefused<J: Naming, T: Target> {
     pub cause: Cause,
     pub manager: Manager<J, T>,
     pub clients: Vec<Client<J>>,
+    pub publisher: Publisher<J>,
 }
 
 // Whether a client is among these.
@@ -65,82 +64,105 @@ fn are_here<J: Naming>(clients: &[Client<J>], count: u8) -> bool
 }
 
 impl<J: Naming, T: Target> Manager<J, T> {
-    /// A manager that goes by the opening's names, with its clients, in the order of their numbers, who have made no change. An error says
-    /// that memory ran out.
-    pub fn open(
+    /// A manager that goes by the opening's names; its clients, in the order of their numbers, who have made no change and seen nothing; and its
+    /// publisher, who has taken nothing. It isn't opened where memory ran out, or where the versions had no place for a reader (NoReader).
+    pub fn open<R: Wait>(
+        rt: &R,
         alloc: Global,
         opening: Opening,
-    ) -> Result<(Manager<J, T>, Vec<Client<J>>), NewFault>
-        requires { Named opening J.ledgers J.limits }
+    ) -> Result<(Manager<J, T>, Vec<Client<J>>, Publisher<J>), OpeningFault>
+        requires { Named opening J.book J.ledgers J.queue J.limits }
         ensures clients { IfOk result (λ r. r.1.items ≡ all_new J.limits.clients) }
-        ensures err { IfErr result (λ e. e ≡ NewFault.Memory) }
+        ensures publisher { IfOk result (λ r. r.2 ≡ []) }
     {
         let Opening {
             limits,
+            history,
+            outbox,
+            publisher,
             first,
             second,
             third,
             fourth,
         } = opening;
+        let (writer, readers) = versions::<J, R>(
+            rt,
+            alloc,
+            history,
+            limits.clients,
+            limits.comms,
+        )?;
         let (books, tickets) = Books::open(first, second, third, fourth);
-        let Ok(clients) = first_clients(alloc, limits.clients, tickets) else {
-            return Err(NewFault::Memory);
+        let Ok(clients) = first_clients(alloc, readers, tickets) else {
+            writer.end(rt);
+            return Err(OpeningFault::Memory);
         };
         match Core::new(alloc, limits) {
             Ok(core) => {
-                let inner = Mutex::new(Inner::new(alloc, limits, core, books));
-                Ok((Manager { alloc, inner }, clients))
+                let inner = Inner::new(alloc, limits, core, writer, outbox, books);
+                let inner = Mutex::new(inner);
+                Ok((Manager { alloc, inner }, clients, Publisher::new(publisher)))
             }
             // The limits of an opening are allowed.
             Err(_fault) => unreachable!(),
         }
     }
 
-    /// Takes the first entry of those that nobody has taken. It takes no memory.
-    ///
-    /// What it gives stands in a legal history. That it is the first of those that nobody has taken is the contract of the call that is
-    /// made under the lock: no clause names what lies there.
-    pub fn take_next<R: Wait>(&self, rt: &R) -> Option<Arc<Entry, Global>>
-        ensures { IfSome result (λ e. IsOfHistory J.limits (arc_value e)) }
-    {
-        self.inner.lock(rt).take_next()
-    }
-
-    /// Ends each target, after its comms, and gives the one history. It is legal, and has of each client as many entries as that made
-    /// changes. Where a client is missing, and only there, all is handed back, and another shutdown may follow.
+    /// Ends the history, and each target after its comms, and gives the one history, in which an end stands last. What each client has seen
+    /// begins it, it has of each client just the changes that were answered to it, and what the publisher took and what it left are all of it. Where a
+    /// client is missing, or else where there is no memory for the end, all is handed back as it was, and another shutdown may follow.
     pub fn shutdown<R: Wait>(
         self,
-        _rt: &R,
+        rt: &R,
         clients: Vec<Client<J>>,
+        publisher: Publisher<J>,
     ) -> Result<Farewell, ShutdownRefused<J, T>>
         ensures legal { IfOk result (λ f. IsLegal J.limits.clients J.limits.comms (entries_of f.history.items)) }
-        ensures open { IfOk result (λ f. has_end (entries_of f.history.items) ≡ false) }
-        ensures few { IfOk result (λ f. length (entries_of f.history.items) ≤ J.limits.history) }
-        ensures counted { IfOk result (λ f. All (λ w. length (mine (entries_of f.history.items) w.client) ≡ w.number) clients.items) }
-        ensures untaken { IfOk result (λ f. EndsIn (entries_of f.history.items) (entries_of f.untaken.items)) }
-        ensures missing { MatchResult result (λ _. all_here J.limits.clients clients.items ≡ true) (λ _. all_here J.limits.clients clients.items ≡ false) }
-        ensures err { IfErr result (λ e. e.clients ≡ clients) }
+        ensures ended { IfOk result (λ f. (before : List Entry) × (entries_of f.history.items ≡ before ++ End ∷ []) × (length before ≤ J.limits.history)) }
+        ensures settled { IfOk result (λ f. All (λ w. IsSettled (entries_of f.history.items) w) clients.items) }
+        ensures untaken { IfOk result (λ f. publisher ++ entries_of f.untaken.items ≡ entries_of f.history.items) }
+        ensures missing { MatchResult result (λ _. all_here J.limits.clients clients.items ≡ true) (λ e. IsMissing J.limits.clients clients.items e.cause) }
+        ensures err { IfErr result (λ e. (e.clients ≡ clients) × (e.publisher ≡ publisher)) }
     {
         let Manager { alloc, inner } = self;
         let inner = inner.into_inner();
         if !are_here(clients.as_slice(), inner.clients()) {
-            let inner = Mutex::new(inner);
-            return Err(ShutdownRefused {
-                cause: Cause::MissingClients,
-                manager: Manager { alloc, inner },
-                clients,
-            });
+            return Err(refused(alloc, Cause::MissingClients, inner, clients, publisher));
         }
-        let (history, untaken) = inner.finish(clients);
-        Ok(Farewell { history, untaken })
+        match inner.finish(rt, alloc, clients, publisher) {
+            Ok(farewell) => Ok(farewell),
+            Err((inner, clients, publisher)) => {
+                Err(refused(alloc, Cause::Memory, inner, clients, publisher))
+            }
+        }
     }
 
-    /// Ends each target, after its comms, and gives nothing back. It takes no memory.
-    pub fn discard<R: Wait>(self, _rt: &R) {
+    /// Ends each target, after its comms, and gives nothing back. It takes no memory. Clients may outlive it, and read what was published last, or
+    /// nothing.
+    pub fn discard<R: Wait>(self, rt: &R) {
         let Manager {
             alloc: _alloc,
             inner,
         } = self;
-        inner.into_inner().discard();
+        inner.into_inner().discard(rt);
+    }
+}
+
+// All is handed back.
+fn refused<J: Naming, T: Target>(
+    alloc: Global,
+    cause: Cause,
+    inner: Inner<J, T>,
+    clients: Vec<Client<J>>,
+    publisher: Publisher<J>,
+) -> ShutdownRefused<J, T>
+    ensures { (result.cause ≡ cause) × (result.clients ≡ clients) × (result.publisher ≡ publisher) }
+{
+    let inner = Mutex::new(inner);
+    ShutdownRefused {
+        cause,
+        manager: Manager { alloc, inner },
+        clients,
+        publisher,
     }
 }

@@ -3,6 +3,9 @@
 //! [`run_with`] plays a script with a stock of targets of one type, [`run`] with boxes; [`add`] puts an idle target into a stock, and a
 //! [`RunFault`] says why a script wasn't played to its end. The law [`scripts_make_legal_histories`] ties what a script does to the laws
 //! that `comm_core` has of whole runs.
+//!
+//! Its parts serve who plays scripts over another manager (`comm_shared`): [`split_line`] and [`is_blank`] find the lines, [`asked_by_line`]
+//! reads one, a [`Stock`] has the targets, `append_*` are the lines that are written, and [`send`] writes them.
 #![tactic(auto)]
 
 mod asked;
@@ -17,7 +20,12 @@ mod stock;
 mod stream;
 mod words;
 
+pub use asked::{Asked, Key, LineFault};
 pub use fault::RunFault;
 pub use laws::scripts_make_legal_histories;
+pub use line::asked_by_line;
+pub use lines::{is_blank, split_line};
 pub use running::{run, run_with};
-pub use stock::add;
+pub use stock::{Stock, StockKind, add};
+pub use stream::{PIECE, send};
+pub use words::{append_bad, append_out, append_outs, append_reply, append_state_line};

@@ -52,7 +52,7 @@ fn asked_in(alloc: Global, line: Fields<'_, '_>, clients: u8) -> Result<(u8, Ask
 }
 
 /// The client, and what it asks for by a line. The room serves the reading, and can be kept from line to line.
-pub fn asked(
+pub fn asked_by_line(
     alloc: Global,
     line: &[u8],
     clients: u8,

@@ -14,7 +14,7 @@ ghost use Rattle.comm_script.specs.Command.{HandsNothing};
 
 use crate::asked::{Asked, LineFault};
 use crate::fault::RunFault;
-use crate::line::asked;
+use crate::line::asked_by_line;
 use crate::lines::is_blank;
 use crate::stock::{Stock, StockKind};
 use crate::words::{append_bad, append_out, append_outs, append_reply, append_state_line};
@@ -241,7 +241,7 @@ impl<T: Target> Session<T> {
         if is_blank(line) {
             return Ok(());
         }
-        match asked(alloc, line, self.limits.clients, &mut self.room) {
+        match asked_by_line(alloc, line, self.limits.clients, &mut self.room) {
             Ok((client, asked)) => {
                 self.obey(alloc, number, client, asked, text)?;
                 Ok(())

@@ -1,11 +1,9 @@
-//! A file or two for each crate that has tests (`heaps` is of `comm_fakes`, `writing` of `comm_messages`), and `script` for all of them
-//! together.
+//! A file or two for each crate that has tests (`heaps` is of `comm_fakes`, `writing` of `comm_messages`).
 mod core_steps;
 mod faults;
 mod heaps;
 mod lines;
 mod messages;
-mod script;
 mod targets;
 mod value;
 mod widget;

@@ -32,9 +32,9 @@ with_stock : (r : Result ⊤ RunFault) (left before now : Option (List ℕ)) (st
 with_stock r left before now stock is h = subst (λ (s : List Registered). OnOk r (IfSome left (λ input. Appends before now (played program_limits s input)))) is h
 
 -- what a box tells of itself is what its target tells
-pub returns : goal.returns
-returns g c =
-    with_stock c.run_with.result (g.R.Read.remaining c.args.reader.now) (g.W.Write.contents c.args.writer.now) _ _
+pub returns-in-OneThread : goal.returns-in-OneThread
+returns-in-OneThread g c =
+    λ one. with_stock c.run_with.result (g.R.Read.remaining c.args.reader.now) (g.W.Write.contents c.args.writer.now) _ _
     (one_more _ _ _ _ _ Widget c.in_ok-add-6.ensures.added
     (read_made own.own-1 _ own.at-1-3 refl Registered (λ j v. registered_of (j.1.means v)) c.into_dyn_box-in_ok-new-6.result.vtable c.into_dyn_box-in_ok-new-6.result.value _ c.into_dyn_box-in_ok-new-6.ensures.1)
     (one_more _ _ _ _ _ Widget c.in_ok-add-5.ensures.added

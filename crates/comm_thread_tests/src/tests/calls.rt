@@ -2,33 +2,16 @@
 ghost use Rattle.comm_targets.specs.Meaning.{IsIdle};
 
 use crate::tests::named::{Play, named};
-use crate::tests::words::{Told, Wrong, answer, empty, holds, limits};
-use comm_core::{Reply, StateAnswer};
+use crate::tests::words::{Told, Wrong, answer, empty, holds, limits, value_of, valued};
+use comm_core::Reply;
 use comm_manager::{Client, Manager, Naming};
 use comm_targets::{Kind, Target};
-use comm_value::{Dict, Text, Val, Whole};
-use std::alloc::{AllocError, Global};
+use comm_value::Text;
+use std::alloc::Global;
 use std::sync::Wait;
 use std::test::*;
 use uuid::Uuid;
 use widget_target::WidgetTarget;
-
-/// `{"value":n}`
-fn valued(alloc: Global, number: i128) -> Result<Dict, AllocError> {
-    let value = match Whole::new(number) {
-        Some(whole) => Val::Whole(whole),
-        None => Val::Null,
-    };
-    Dict::new().insert(alloc, Text::copy_of(alloc, "value")?, value)
-}
-
-// What stands at "value".
-fn value_of(state: &Dict) -> Option<i128> {
-    match state.get("value") {
-        Some(Val::Whole(whole)) => Some(whole.get()),
-        _ => None,
-    }
-}
 
 // A client registers a widget, and a second one of that name comes back.
 fn registers<J: Naming, T: Target, R: Wait>(
@@ -78,12 +61,8 @@ fn launches<J: Naming, T: Target, R: Wait>(
     holds(answer(pushed) == Told::Delivered(4))?;
     let sent = client.send(rt, manager, id.copy()?, empty(alloc));
     holds(answer(sent) == Told::Delivered(5))?;
-    let read = client.state(rt, manager, &id)?;
-    let value = match &read.answer {
-        StateAnswer::State(state) => value_of(state),
-        StateAnswer::NoComm | StateAnswer::NoState => None,
-    };
-    holds(read.front == 5 && value == Some(7))?;
+    let read = client.state(&id)?;
+    holds(read.front == 5 && value_of(&read.answer) == Some(7))?;
     let hung_up = client.hang_up(rt, manager, id);
     holds(answer(hung_up) == Told::Closed(6))
 }
@@ -105,7 +84,7 @@ fn asks<J: Naming, T: Target, R: Wait>(
     let id = Text::copy_of(alloc, "a")?;
     let closed = client.close_comm(rt, manager, id);
     holds(answer(closed) == Told::NoComm(9))?;
-    let read = client.comm_info(rt, manager, None)?;
+    let read = client.comm_info(alloc, None)?;
     holds(read.front == 9 && read.comms.as_slice().is_empty())?;
     let name = Text::copy_of(alloc, "w")?;
     let unregistered = client.unregister(rt, manager, name);

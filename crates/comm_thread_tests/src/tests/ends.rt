@@ -4,7 +4,8 @@ ghost use Rattle.comm_targets.specs.Meaning.{IsIdle};
 
 use crate::tests::named::{Play, named};
 use crate::tests::words::{Told, Wrong, answer, empty, holds, limits, shut};
-use comm_manager::{Client, Manager, Naming, ShutdownRefused};
+use comm_core::Entry;
+use comm_manager::{Cause, Client, Manager, Naming, Publisher, ShutdownRefused};
 use comm_targets::{Answer, Echo, Event, Kind, Target, TargetFault};
 use comm_value::{Dict, Text};
 use std::alloc::Global;
@@ -13,24 +14,28 @@ use std::sync::{Arc, Wait};
 use std::test::*;
 use std::thread::Threads;
 
-// A shutdown without this client is refused, and one with it isn't.
+// A shutdown without this client is refused, and one with it isn't: the history is an end alone.
 fn shut_with<J: Naming, T: Target, R: Wait>(
     rt: &R,
     manager: Manager<J, T>,
     clients: Vec<Client<J>>,
+    publisher: Publisher<J>,
     other: Client<J>,
 ) -> Result<(), Wrong> {
-    match manager.shutdown(rt, clients) {
+    match manager.shutdown(rt, clients, publisher) {
         Ok(_) => Err(Wrong),
         Err(refused) => {
             let ShutdownRefused {
-                cause: _cause,
+                cause,
                 manager,
                 mut clients,
+                publisher,
             } = refused;
             let is_whole = clients.push(other).is_ok() && clients.len() == 2;
-            let farewell = shut(rt, manager, clients)?;
-            holds(is_whole && farewell.history.is_empty() && farewell.untaken.is_empty())
+            let farewell = shut(rt, manager, clients, publisher)?;
+            holds(cause == Cause::MissingClients)?;
+            holds(is_whole && farewell.history.len() == 1 && farewell.untaken.len() == 1)?;
+            holds(farewell.history.first().is_some_and(|it| matches!(&**it, Entry::End)))
         }
     }
 }
@@ -40,10 +45,11 @@ pub fn shut_twice<J: Naming, T: Target, R: Wait>(
     rt: &R,
     manager: Manager<J, T>,
     clients: Vec<Client<J>>,
+    publisher: Publisher<J>,
 ) -> Result<(), Wrong> {
     let mut clients = clients;
     match clients.pop() {
-        Some(last) => shut_with(rt, manager, clients, last),
+        Some(last) => shut_with(rt, manager, clients, publisher, last),
         None => {
             manager.discard(rt);
             Err(Wrong)
@@ -165,11 +171,12 @@ fn ended<J: Naming, T: Target, R: Wait>(
     how: How,
     manager: Manager<J, T>,
     clients: Vec<Client<J>>,
+    publisher: Publisher<J>,
 ) -> Result<(), Wrong> {
     match how {
         How::Shutdown => {
-            let farewell = shut(rt, manager, clients)?;
-            holds(farewell.history.len() == 2 && farewell.untaken.len() == 2)
+            let farewell = shut(rt, manager, clients, publisher)?;
+            holds(farewell.history.len() == 3 && farewell.untaken.len() == 3)
         }
         How::Unregister | How::Discard => {
             manager.discard(rt);
@@ -184,6 +191,7 @@ pub fn ending<J: Naming, T: Target, R: Wait>(
     alloc: Global,
     manager: Manager<J, T>,
     clients: Vec<Client<J>>,
+    publisher: Publisher<J>,
     how: How,
     target: T,
 ) -> Result<(), Wrong>
@@ -200,7 +208,7 @@ pub fn ending<J: Naming, T: Target, R: Wait>(
         How::Shutdown | How::Discard => Ok(()),
     };
     let is_back = clients.push(client).is_ok();
-    let end = ended(rt, how, manager, clients);
+    let end = ended(rt, how, manager, clients, publisher);
     done?;
     gone?;
     end?;

@@ -2,7 +2,7 @@
 use crate::tests::named::{Play, named};
 use crate::tests::words::{Told, Wrong, answer, holds, limits};
 use comm_core::{Limits, NewFault};
-use comm_manager::{Client, Manager, Naming, Opening};
+use comm_manager::{Client, Manager, Naming, Opening, Publisher};
 use comm_targets::{Echo, Target};
 use comm_value::Text;
 use std::alloc::Global;
@@ -26,12 +26,13 @@ fn one_waits<J: Naming, T: Target, R: Wait>(
     alloc: Global,
     manager: &Manager<J, T>,
     client: &mut Client<J>,
+    publisher: &mut Publisher<J>,
 ) -> Result<(), Wrong> {
     holds(closed(rt, alloc, manager, client)? == Told::NoComm(1))?;
     holds(closed(rt, alloc, manager, client)? == Told::OutboxFull(1))?;
-    holds(manager.take_next(rt).is_some())?;
+    holds(publisher.take(rt).is_some())?;
     holds(closed(rt, alloc, manager, client)? == Told::NoComm(2))?;
-    holds(manager.take_next(rt).is_some() && manager.take_next(rt).is_none())
+    holds(publisher.take(rt).is_some() && publisher.take(rt).is_none())
 }
 
 // With an outbox of 3: three changes, one that is refused, and three entries to take.
@@ -40,6 +41,7 @@ fn three_wait<J: Naming, T: Target, R: Wait>(
     alloc: Global,
     manager: &Manager<J, T>,
     client: &mut Client<J>,
+    publisher: &mut Publisher<J>,
     before: u64,
 ) -> Result<(), Wrong> {
     for number in 1..4u64 {
@@ -48,9 +50,9 @@ fn three_wait<J: Naming, T: Target, R: Wait>(
     }
     holds(closed(rt, alloc, manager, client)? == Told::OutboxFull(3))?;
     for _ in 0..3u8 {
-        holds(manager.take_next(rt).is_some())?;
+        holds(publisher.take(rt).is_some())?;
     }
-    holds(manager.take_next(rt).is_none())
+    holds(publisher.take(rt).is_none())
 }
 
 // The same, 100 times over.
@@ -59,9 +61,10 @@ fn always_three<J: Naming, T: Target, R: Wait>(
     alloc: Global,
     manager: &Manager<J, T>,
     client: &mut Client<J>,
+    publisher: &mut Publisher<J>,
 ) -> Result<(), Wrong> {
     for round in 0..100u64 {
-        three_wait(rt, alloc, manager, client, round * 3)?;
+        three_wait(rt, alloc, manager, client, publisher, round * 3)?;
     }
     Ok(())
 }
@@ -72,13 +75,14 @@ fn history_ends<J: Naming, T: Target, R: Wait>(
     alloc: Global,
     manager: &Manager<J, T>,
     client: &mut Client<J>,
+    publisher: &mut Publisher<J>,
 ) -> Result<(), Wrong> {
     holds(closed(rt, alloc, manager, client)? == Told::NoComm(1))?;
     holds(closed(rt, alloc, manager, client)? == Told::NoComm(2))?;
     holds(closed(rt, alloc, manager, client)? == Told::HistoryFull(2))?;
-    holds(manager.take_next(rt).is_some())?;
+    holds(publisher.take(rt).is_some())?;
     holds(closed(rt, alloc, manager, client)? == Told::HistoryFull(2))?;
-    let read = client.comm_info(rt, manager, None)?;
+    let read = client.comm_info(alloc, None)?;
     holds(read.front == 2 && read.comms.as_slice().is_empty())
 }
 
@@ -96,14 +100,15 @@ pub fn limited<J: Naming, T: Target, R: Wait>(
     alloc: Global,
     manager: Manager<J, T>,
     clients: Vec<Client<J>>,
+    mut publisher: Publisher<J>,
     limit: Limit,
 ) -> Result<(), Wrong> {
     let mut clients = clients;
     let done = match clients.pop() {
         Some(mut client) => match limit {
-            Limit::One => one_waits(rt, alloc, &manager, &mut client),
-            Limit::Three => always_three(rt, alloc, &manager, &mut client),
-            Limit::History => history_ends(rt, alloc, &manager, &mut client),
+            Limit::One => one_waits(rt, alloc, &manager, &mut client, &mut publisher),
+            Limit::Three => always_three(rt, alloc, &manager, &mut client, &mut publisher),
+            Limit::History => history_ends(rt, alloc, &manager, &mut client, &mut publisher),
         },
         None => Err(Wrong),
     };
@@ -149,24 +154,25 @@ fn a_history_of_two(rt: HostRuntime) -> Result<(), Fail> {
 }
 
 // Whether there is no manager of these limits, since they are out of their bounds.
-fn is_bad(clients: u8, comms: usize, history: u64, outbox: usize) -> bool {
+fn is_bad(alloc: Global, clients: u8, comms: usize, history: u64, outbox: usize) -> bool {
     let limits = Limits {
         clients,
         comms,
         history,
         outbox,
     };
-    matches!(Opening::new(limits), Err(NewFault::BadLimits))
+    matches!(Opening::new(alloc, limits), Err(NewFault::BadLimits))
 }
 
 #[test]
-fn bad_limits() -> Result<(), Fail> {
-    let below = is_bad(0, 1, 1, 1)
-        && is_bad(1, 0, 1, 1)
-        && is_bad(1, 1, 0, 1)
-        && is_bad(1, 1, 1, 0);
-    let above = is_bad(5, 4_096, 1, 1) && is_bad(4, 4_097, 1, 1);
-    let far_above = is_bad(4, 4_096, 4_294_967_296, 1) && is_bad(4, 4_096, 1, 65_537);
-    let most = !is_bad(4, 4_096, 4_294_967_295, 65_536);
+fn bad_limits(rt: HostRuntime) -> Result<(), Fail> {
+    let alloc = rt.alloc();
+    let below = is_bad(alloc, 0, 1, 1, 1)
+        && is_bad(alloc, 1, 0, 1, 1)
+        && is_bad(alloc, 1, 1, 0, 1)
+        && is_bad(alloc, 1, 1, 1, 0);
+    let above = is_bad(alloc, 5, 4_096, 1, 1) && is_bad(alloc, 4, 4_097, 1, 1);
+    let far_above = is_bad(alloc, 4, 4_096, 4_294_967_296, 1) && is_bad(alloc, 4, 4_096, 1, 65_537);
+    let most = !is_bad(alloc, 4, 4_096, 4_294_967_295, 65_536);
     holds(below && above && far_above && most).map_err(|_| Fail::new("limits"))
 }

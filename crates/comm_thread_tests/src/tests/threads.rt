@@ -4,7 +4,7 @@ ghost use Rattle.comm_targets.specs.Meaning.{IsIdle};
 use crate::tests::named::{Play, named};
 use crate::tests::words::{Told, Wrong, answer, counted, empty, holds, limits, shut, whose};
 use comm_core::Entry;
-use comm_manager::{Client, Farewell, Manager, Naming};
+use comm_manager::{Client, Farewell, Manager, Naming, Publisher};
 use comm_targets::{Counter, Target};
 use comm_value::Text;
 use std::alloc::Global;
@@ -149,15 +149,15 @@ fn played_by_four<J: Naming + Send + Sync, T: Target, R: Threads + Wait + Sync>(
 }
 
 // Takes so many of the entries that nobody has taken.
-fn take<J: Naming, T: Target, R: Wait>(
+fn take<J: Naming, R: Wait>(
     rt: &R,
     alloc: Global,
-    manager: &Manager<J, T>,
+    publisher: &mut Publisher<J>,
     count: usize,
 ) -> Result<Vec<Arc<Entry, Global>>, Wrong> {
     let mut taken = Vec::with_capacity(alloc, count)?;
     for _ in 0..count {
-        let entry = manager.take_next(rt).ok_or(Wrong)?;
+        let entry = publisher.take(rt).ok_or(Wrong)?;
         taken.push(entry)?;
     }
     Ok(taken)
@@ -217,6 +217,7 @@ fn all_there(
     }
     let (first, rest) = history.split_at(61);
     holds(are_same(&taken, first) && are_same(&untaken, rest))?;
+    holds(matches!(&*history[length - 1], Entry::End))?;
     let by_two = count_of(&history, 0) == Some(101)
         && count_of(&history, 1) == Some(100)
         && messages(&history) == Some(0);
@@ -234,6 +235,7 @@ pub fn threaded<J: Naming + Send + Sync, T: Target, R: Threads + Wait + Sync>(
     alloc: Global,
     manager: Manager<J, T>,
     clients: Vec<Client<J>>,
+    mut publisher: Publisher<J>,
     target: T,
 ) -> Result<(), Wrong>
     requires { IsIdle (T.means target) }
@@ -242,16 +244,16 @@ pub fn threaded<J: Naming + Send + Sync, T: Target, R: Threads + Wait + Sync>(
     let (done, length) = if clients.len() == 2 {
         (
             played_by_two(rt, alloc, &manager, &mut clients, target),
-            201,
+            202,
         )
     } else {
         (
             played_by_four(rt, alloc, &manager, &mut clients, target),
-            601,
+            602,
         )
     };
-    let taken = take(rt, alloc, &manager, 61);
-    let farewell = shut(rt, manager, clients);
+    let taken = take(rt, alloc, &mut publisher, 61);
+    let farewell = shut(rt, manager, clients, publisher);
     done?;
     all_there(taken?, farewell?, length)
 }

@@ -1,11 +1,11 @@
 //! What these tests say.
 ghost use Rattle.std.specs.Prelude.{◌≡◌, ⊤};
 
-use comm_core::{Entry, Limits, Reply, Unavailable};
-use comm_manager::{Answered, Client, Farewell, Manager, Naming, ShutdownRefused};
+use comm_core::{Entry, Limits, Reply, StateAnswer, Unavailable};
+use comm_manager::{Answered, Client, Farewell, Manager, Naming, Publisher, ReadFault, ShutdownRefused, Stamp};
 use comm_messages::{Body, Outgoing};
 use comm_targets::Target;
-use comm_value::{Buffers, Dict, Val};
+use comm_value::{Buffers, Dict, Text, Val, Whole};
 use std::alloc::{AllocError, AllocFailed, Global};
 use std::sync::Wait;
 
@@ -29,6 +29,14 @@ impl<T: Drop> From<AllocFailed<T>> for Wrong {
     }
 }
 
+impl From<ReadFault> for Wrong {
+    ghost from_gives = { λ _ _. ⊤ };
+
+    fn from(_fault: ReadFault) -> Wrong {
+        Wrong
+    }
+}
+
 pub fn holds(is: bool) -> Result<(), Wrong> {
     if is { Ok(()) } else { Err(Wrong) }
 }
@@ -42,6 +50,34 @@ pub fn limits(clients: u8, history: u64, outbox: usize) -> Limits
         history,
         outbox,
     }
+}
+
+/// `{"value":n}`
+pub fn valued(alloc: Global, number: i128) -> Result<Dict, AllocError> {
+    let value = match Whole::new(number) {
+        Some(whole) => Val::Whole(whole),
+        None => Val::Null,
+    };
+    Dict::new().insert(alloc, Text::copy_of(alloc, "value")?, value)
+}
+
+/// What stands at "value" in the state that was read.
+pub fn value_of(answer: &StateAnswer) -> Option<i128> {
+    match answer {
+        StateAnswer::State(state) => match state.get("value") {
+            Some(Val::Whole(whole)) => Some(whole.get()),
+            _ => None,
+        },
+        StateAnswer::NoComm | StateAnswer::NoState => None,
+    }
+}
+
+/// A body with this data and no buffers.
+pub fn body(alloc: Global, data: Dict) -> Result<Body, Wrong> {
+    if data.has_bytes() {
+        return Err(Wrong);
+    }
+    Ok(Body::new(data, Buffers::none(alloc)))
 }
 
 /// A body with no data and no buffers.
@@ -64,7 +100,7 @@ pub enum Told {
     Memory,
 }
 
-pub fn answer(given: Result<Answered, Unavailable<u64>>) -> Told {
+pub fn answer<J: Naming>(given: Result<Answered<J>, Unavailable<Stamp<J>>>) -> Told {
     match given {
         Ok(answered) => match answered.reply {
             Reply::Opened => Told::Opened(answered.number),
@@ -75,7 +111,7 @@ pub fn answer(given: Result<Answered, Unavailable<u64>>) -> Told {
             Reply::NoComm => Told::NoComm(answered.number),
             _ => Told::Other(answered.number),
         },
-        Err(Unavailable::HistoryFull(number)) => Told::HistoryFull(number),
+        Err(Unavailable::HistoryFull(stamp)) => Told::HistoryFull(stamp.number()),
         Err(Unavailable::OutboxFull(waiting)) => Told::OutboxFull(waiting),
         Err(Unavailable::Memory) => Told::Memory,
     }
@@ -108,14 +144,16 @@ pub fn shut<J: Naming, T: Target, R: Wait>(
     rt: &R,
     manager: Manager<J, T>,
     clients: Vec<Client<J>>,
+    publisher: Publisher<J>,
 ) -> Result<Farewell, Wrong> {
-    match manager.shutdown(rt, clients) {
+    match manager.shutdown(rt, clients, publisher) {
         Ok(farewell) => Ok(farewell),
         Err(refused) => {
             let ShutdownRefused {
                 cause: _cause,
                 manager,
                 clients: _clients,
+                publisher: _publisher,
             } = refused;
             manager.discard(rt);
             Err(Wrong)

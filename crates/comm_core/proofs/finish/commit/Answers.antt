@@ -2,10 +2,10 @@ use Rattle.comm_core.proofs.Committing.{commit_opened, commit_launched, commit_t
 use Rattle.comm_core.proofs.finish.commit.Goals as goal
 
 pub returns-in-Open : goal.returns-in-Open
-returns-in-Open g c = commit_opened _ _ c.requires.agrees c.args.question c.args.answer c.requires.staged c.requires.suits _ _ c.commit.ensures.all _ _ _ c.in-Open.is c.insert.ensures
+returns-in-Open g c = commit_opened _ _ c.requires.agrees c.args.question c.args.answer c.requires.staged c.requires.suits _ _ c.commit.ensures.all _ _ _ c.in-Open.is c.note_open.ensures
 
 pub returns-in-Launch : goal.returns-in-Launch
-returns-in-Launch g c = commit_launched _ _ c.requires.agrees c.args.question c.args.answer c.requires.staged c.requires.suits _ _ c.commit.ensures.all _ _ c.in-Launch.is c.insert-in-Launch.ensures
+returns-in-Launch g c = commit_launched _ _ c.requires.agrees c.args.question c.args.answer c.requires.staged c.requires.suits _ _ c.commit.ensures.all _ _ c.in-Launch.is c.note_open-in-Launch.ensures
 
 pub returns-in-Msg : goal.returns-in-Msg
 returns-in-Msg g c = commit_told _ _ c.requires.agrees c.args.question c.args.answer c.requires.staged c.requires.suits _ _ c.commit.ensures.all _ _ c.in-Msg.is c.note_state.ensures

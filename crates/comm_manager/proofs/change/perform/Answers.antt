@@ -1,41 +1,83 @@
-use Rattle.std.proofs.Common.{◌≡◌, ℕ, ◌+◌, ◌++◌, ◌∷◌, [], ◌<◌, List, length, slice_set, ap, ◌∙◌, arith}
+use Rattle.std.proofs.Common.{◌≡◌, ℕ, ◌+◌, ◌++◌, ◌∷◌, [], ◌<◌, ◌≤◌, List, length, slice_set, refl, ap, sym, subst, ◌∙◌, arith}
 use Rattle.std.specs.Arc.{arc_value}
+use Rattle.comm_core.specs.History.{IsLegal, mine}
 use Rattle.comm_core.specs.declared.entry.Entry.{Entry}
-use Rattle.comm_core.specs.declared.entry.Entry.TheVariants.{Change}
+use Rattle.comm_manager.specs.Asked.{entry_of}
 use Rattle.comm_manager.specs.Tally.{Tally}
-use Rattle.comm_manager.proofs.Growing.{small, kept_more}
+use Rattle.comm_manager.proofs.Growing.{count_is, small, rests_more, kept_more}
+use Rattle.comm_manager.proofs.Made.{heard}
 use Rattle.comm_manager.proofs.change.perform.Goals as goal
 
 pub overflow_add-who : goal.overflow_add-who
 overflow_add-who g c =
     let t = c.args.ticket.now in
-    let few = small c.args.limits.now c.args.journal.now.all.history c.args.core.now c.args.books.now t.client t.number c.requires.kept c.audit.ensures.known.0 c.audit.ensures.known.1 in
+    let few = small g.J.History.limits c.args.journal.now.all c.args.core.now c.args.writer.now c.args.books.now t.client t.number c.requires.kept c.audit.ensures.known.0 c.audit.ensures.known.1 in
     let same : c.audit.new.ticket.number ≡ t.number = ap (λ (x : Tally). x.number) c.audit.ensures.same.1 in
     omega arith
 
 pub count-requires : goal.count-requires
 count-requires g c =
     let t = c.args.ticket.now in
-    let few = small c.args.limits.now c.args.journal.now.all.history c.args.core.now c.args.books.now t.client t.number c.requires.kept c.audit.ensures.known.0 c.audit.ensures.known.1 in
+    let few = small g.J.History.limits c.args.journal.now.all c.args.core.now c.args.writer.now c.args.books.now t.client t.number c.requires.kept c.audit.ensures.known.0 c.audit.ensures.known.1 in
     let same : c.audit.new.ticket.number ≡ t.number = ap (λ (x : Tally). x.number) c.audit.ensures.same.1 in
     omega arith
 
-pub returns-in-Ok-clause-kept : goal.returns-in-Ok-clause-kept
-returns-in-Ok-clause-kept g c =
+pub stage-requires-clause-who : goal.stage-requires-clause-who
+stage-requires-clause-who g c κs live =
+    let limits = g.J.History.limits in
     let t = c.args.ticket.now in
-    let h = c.args.journal.now.all.history in
-    let s = c.in-Ok.staged in
-    let out = c.carry_out-made in
-    let e : Entry = Change t.client (t.number + 1) s.ready.call s.ready.outcome s.ready.reply s.ready.outgoing in
+    let h = c.args.journal.now.all in
     let client : c.client.result ≡ t.client = c.client.ensures ∙ ap (λ (x : Tally). x.client) c.audit.ensures.same.1 in
     let number : c.number.result ≡ t.number = c.number.ensures ∙ ap (λ (x : Tally). x.number) c.audit.ensures.same.1 in
-    let kept_is : arc_value s.kept ≡ e =
-    c.in-Ok.ensures.kept ∙ ap (λ (x : ℕ × ℕ). Change x.0 (x.1 + 1) s.ready.call s.ready.outcome s.ready.reply s.ready.outgoing) (λ i. (client i, number i)) in
-    let his : out.new.journal.all.history ≡ h ++ e ∷ [] =
-    out.ensures.history ∙ ap (λ (x : List Entry × Entry). x.0 ++ x.1 ∷ []) (λ i. ((c.reserve.ensures.all i).history, kept_is i)) in
+    let counted = count_is limits h c.args.core.now c.args.writer.now c.args.books.now t.client t.number c.requires.kept c.audit.ensures.known.0 c.audit.ensures.known.1 in
+    let here : c.args.writer.now.front ≡ h = c.requires.kept.front_is in (
+      subst (λ (k : ℕ). k < limits.clients) (sym client) c.requires.below,
+      ap (λ (k : ℕ). k + 1) (number ∙ (sym counted ∙ ap (λ (x : List Entry × ℕ). length (mine x.0 x.1)) (λ i. (sym here i, sym client i)))),
+    )
+
+pub returns-in-Ok-clause-kept : goal.returns-in-Ok-clause-kept
+returns-in-Ok-clause-kept g c =
+    let limits = g.J.History.limits in
+    let t = c.args.ticket.now in
+    let h = c.args.journal.now.all in
+    let s = c.in-Ok.staged in
+    let ok = c.in-Ok.ensures in
+    let out = c.carry_out-sent in
+    let kept = c.requires.kept in
+    let e = entry_of t.client (t.number + 1) s.ready in
+    let client : c.client.result ≡ t.client = c.client.ensures ∙ ap (λ (x : Tally). x.client) c.audit.ensures.same.1 in
+    let number : c.number.result ≡ t.number = c.number.ensures ∙ ap (λ (x : Tally). x.number) c.audit.ensures.same.1 in
+    let kept_is : arc_value s.kept ≡ e = ok.kept ∙ ap (λ (x : ℕ × ℕ). entry_of x.0 (x.1 + 1) s.ready) (λ i. (client i, number i)) in
+    let his : out.new.journal.all ≡ h ++ e ∷ [] = out.ensures.history ∙ ap (λ (x : List Entry × Entry). x.0 ++ x.1 ∷ []) (λ i. (c.reserve.ensures.all i, kept_is i)) in
+    let front : c.tell-stamp.new.writer.front ≡ out.new.journal.all =
+    c.tell-stamp.ensures.front ∙ (ap (λ (x : List Entry × List Entry). x.0 ++ x.1) (λ i. ((ok.front ∙ kept.front_is) i, (ok.pending ∙ ap (λ (k : Entry). k ∷ []) kept_is) i)) ∙ sym his) in
+    let legal : IsLegal limits.clients limits.comms (h ++ e ∷ []) =
+    subst (λ (x : List Entry × Entry). IsLegal limits.clients limits.comms (x.0 ++ x.1 ∷ [])) (λ i. (kept.front_is i, kept_is i)) ok.legal in
+    let rests = rests_more limits h c.args.core.now c.stage.new.core t.client (t.number + 1) s.ready kept.rests ok.ready ok.machine ok.limit out.new.core out.new.journal.all
+    c.replays_grow.ensures out.ensures.step out.ensures.settled out.ensures.limit his in
     let books : c.count.new.self ≡ slice_set c.args.books.now t.client (t.number + 1) =
     c.count.ensures.books ∙ ap (λ (x : List ℕ × Tally). slice_set x.0 x.1.client (x.1.number + 1)) (λ i. (c.audit.ensures.same.0 i, c.audit.ensures.same.1 i)) in
-    let room : length h < c.args.limits.now.history = omega (arith, c.len.ensures, c.in_default.ensures) in
-    kept_more c.args.limits.now h c.args.core.now c.stage.new.core out.new.core c.args.books.now t.client t.number s.ready
-    c.requires.kept c.requires.below c.audit.ensures.known.0 c.audit.ensures.known.1 c.in-Ok.ensures.ready c.in-Ok.ensures.machine c.in-Ok.ensures.limit out.ensures.step
-    out.new.journal.all.history c.count.new.self c.legal_histories_grow.ensures c.replays_grow.ensures room out.ensures.settled out.ensures.limit his books
+    let room : length h < limits.history = subst (λ (l : List Entry). length l < limits.history) kept.front_is c.in_default.ensures.why.0 in
+    kept_more limits h out.new.journal.all c.args.core.now out.new.core c.args.writer.now c.tell-stamp.new.writer c.args.books.now c.count.new.self t.client t.number s.ready
+    kept c.audit.ensures.known.0 c.audit.ensures.known.1 legal rests room his front c.tell-stamp.ensures.pending books
+
+pub returns-in-Ok-clause-seen : goal.returns-in-Ok-clause-seen
+returns-in-Ok-clause-seen g c =
+    let t = c.args.ticket.now in
+    let h = c.args.journal.now.all in
+    let s = c.in-Ok.staged in
+    let ok = c.in-Ok.ensures in
+    let out = c.carry_out-sent in
+    let e = arc_value s.kept in
+    let his : out.new.journal.all ≡ h ++ e ∷ [] = out.ensures.history ∙ ap (λ (l : List Entry). l ++ e ∷ []) c.reserve.ensures.all in
+    let stamp : c.tell-stamp.result ≡ h ++ e ∷ [] =
+    c.tell-stamp.ensures.stamp ∙ ap (λ (x : List Entry × List Entry). x.0 ++ x.1) (λ i. ((ok.front ∙ c.requires.kept.front_is) i, ok.pending i)) in
+    let le : length c.args.reader.now ≤ length h = omega (arith, c.compare.ensures, c.len.ensures, ap length c.reserve.ensures.all) in
+    let r = heard c.args.reader.now c.tell-stamp.new.reader c.tell-stamp.result h e stamp le c.tell-stamp.ensures.one c.tell-stamp.ensures.own c.tell-stamp.ensures.heard in
+    (r.0 ∙ (stamp ∙ sym his), r.1)
+
+pub returns-in-Ok-clause-ticket : goal.returns-in-Ok-clause-ticket
+returns-in-Ok-clause-ticket g c =
+    let t = c.args.ticket.now in
+    let counted = count_is g.J.History.limits c.args.journal.now.all c.args.core.now c.args.writer.now c.args.books.now t.client t.number c.requires.kept c.audit.ensures.known.0 c.audit.ensures.known.1 in
+    (c.count.ensures.ticket ∙ ap (λ (x : Tally). record { client = x.client; number = x.number + 1 }) c.audit.ensures.same.1, counted)

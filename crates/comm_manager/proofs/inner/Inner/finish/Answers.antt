@@ -1,15 +1,21 @@
-use Rattle.std.proofs.Common.{◌≡◌, ◌<◌, length, subst, slice_index}
-use Rattle.std.proofs.lemmas.List.Elements.{All-weaker}
-use Rattle.comm_core.specs.History.{mine}
-use Rattle.comm_manager.specs.Journal.{Entries}
-use Rattle.comm_manager.specs.Tally.{Tally}
-use Rattle.comm_manager.proofs.Growing.{count_is}
+use Rattle.std.proofs.Common.{◌≡◌, ◌++◌, ◌∷◌, [], List, ap, sym, subst, ◌∙◌}
+use Rattle.std.specs.Prelude.{All}
+use Rattle.comm_core.specs.History.{has_end}
+use Rattle.comm_core.specs.declared.entry.Entry.{Entry}
+use Rattle.comm_core.specs.declared.entry.Entry.TheVariants.{End}
+use Rattle.comm_manager.specs.Kept.{counts}
+use Rattle.comm_manager.specs.Mine.{IsSettled}
+use Rattle.comm_manager.specs.Who.{Who}
+use Rattle.comm_manager.proofs.Growing.{has_end-end, counts-end}
 use Rattle.comm_manager.proofs.inner.Inner.finish.Goals as goal
 
-pub returns-clause-counted : goal.returns-clause-counted
-returns-clause-counted g c =
-    let s = c.self.inside in
-    All-weaker (λ (w : Tally). (w.client < 4) × (slice_index s.books w.client ≡ w.number)) (λ (w : Tally). length (mine c.args.self.history w.client) ≡ w.number)
-    (λ w p. subst (λ (j : Entries). length (mine j.history w.client) ≡ w.number) c.self.view_is
-    (count_is s.limits s.journal.all.history s.core s.books w.client w.number c.self.invariant.0 p.0 p.1))
-    c.args.clients.items c.gather.ensures
+pub gather-requires-clause-ended : goal.gather-requires-clause-ended
+gather-requires-clause-ended g c = ap has_end c.in-Ok.ensures.stamp.0 ∙ has_end-end c.self.inside.journal.all
+
+pub gather-requires-clause-books : goal.gather-requires-clause-books
+gather-requires-clause-books g c =
+    c.self.invariant.0.totals_are ∙ sym (counts-end c.self.inside.journal.all) ∙ ap counts (sym c.in-Ok.ensures.stamp.0)
+
+pub returns-in-Ok-clause-settled : goal.returns-in-Ok-clause-settled
+returns-in-Ok-clause-settled g c =
+    subst (λ (l : List Entry). All (λ (w : Who). IsSettled l w) c.args.clients.items) (sym (c.into_list.ensures ∙ c.in-Ok.ensures.history)) c.gather.ensures

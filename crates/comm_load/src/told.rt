@@ -1,0 +1,31 @@
+//! What a load comes to.
+use std::fmt;
+
+/// The counts of a whole load.
+#[derive(Clone, Copy, Debug)]
+pub struct Told {
+    pub changes: u64,
+    pub reads: u64,
+    /// All entries, an end as the last.
+    pub history: usize,
+    pub taken: u64,
+    pub untaken: usize,
+    pub sum: u64,
+    pub nanos: u128,
+}
+
+impl fmt::Display for Told {
+    fn fmt<W: fmt::Write>(&self, f: &mut fmt::Formatter<W>) -> fmt::Result {
+        let Told {
+            changes,
+            reads,
+            history,
+            taken,
+            untaken,
+            sum,
+            nanos,
+        } = *self;
+        write!(f, "{{\"changes\":{changes},\"reads\":{reads},\"history\":{history},\"taken\":{taken},")?;
+        write!(f, "\"untaken\":{untaken},\"sum\":{sum},\"ns\":{nanos}}}")
+    }
+}

@@ -1,0 +1,40 @@
+//! How a queue is made, with its two sides.
+ghost use Rattle.std.specs.Prelude.{◌≡◌, ◌≤◌, IfOk};
+ghost use Rattle.comm_outbox.specs.Sides.{unfilled, untouched};
+
+use crate::line::{Line, split};
+use crate::outgoing::Outbox;
+use crate::publisher::Publisher;
+use std::alloc::{AllocError, Global};
+use std::marker::Brand;
+use std::sync::Arc;
+
+/// A queue with so many places, and its two sides. An error says that memory ran out; nothing after this call takes any.
+pub fn outbox(
+    alloc: Global,
+    places: usize,
+    clients: u8,
+    comms: usize,
+) -> Result<(Outbox, Publisher), AllocError>
+    requires places { (1 ≤ places) × (places ≤ 65537) }
+    ensures puts { IfOk result (λ r. r.0 ≡ unfilled r.0.line clients comms places) }
+    ensures takes { IfOk result (λ r. r.1 ≡ untouched r.0.line clients comms) }
+{
+    let (line, mut pass) = Line::ruled(alloc, places)?;
+    let other = split::<Brand>(&line, &mut pass, clients, comms);
+    let line = Arc::new(alloc, line)?;
+    let theirs = Arc::try_clone(&line)?;
+    Ok((
+        Outbox {
+            line,
+            pass,
+            count: 0,
+            room: places as u64,
+        },
+        Publisher {
+            line: theirs,
+            pass: other,
+            count: 0,
+        },
+    ))
+}

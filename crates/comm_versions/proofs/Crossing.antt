@@ -1,0 +1,57 @@
+-- The writer of versions and their readers may cross threads. (A struct that stands in a struct goes by its fact for fields.)
+use denote.RattleType.{RattleType}
+use denote.Param.Send.{IsSend, IsSync, sendable}
+use Rattle.std.proofs.Crossing.{crosses}
+use Rattle.comm_value.proofs.text.Text.TheSendSync as Text
+use Rattle.comm_core.specs.contracts.row.Opened as opened
+use Rattle.comm_core.specs.contracts.row.OpenComm as open_comm
+use Rattle.comm_versions.specs.declared.history.History as history
+use Rattle.comm_versions.specs.contracts.adding.Step as step
+use Rattle.comm_versions.specs.contracts.reader.VersionReader as reader
+use Rattle.comm_versions.specs.contracts.version.Version as version
+use Rattle.comm_versions.specs.contracts.writer.VersionWriter as writer
+use Rattle.comm_versions.proofs.mark.Mark.TheSendSync as Mark
+use Rattle.comm_versions.proofs.front.Front.TheSendSync as Front
+use Rattle.comm_versions.proofs.history.Head.TheSendSync as Head
+use Rattle.comm_versions.proofs.stamp.Stamp.TheSendSync as Stamp
+use Rattle.comm_versions.specs.contracts.rows.Rows as rows
+use Rattle.left_right.proofs.reader.Reader.TheSendSync as Lens
+use Rattle.left_right.proofs.writer.Writer.TheSendSync as Shelf
+use Rattle.comm_core.proofs.Crossing.{entry_send, entry_sync, dict_send, dict_sync}
+
+pub opened_send : IsSend opened.the_row
+opened_send = search (sendable, crosses, dict_send, Text.the_send) depth 40
+
+pub opened_sync : IsSync opened.the_row
+opened_sync = search (sendable, crosses, dict_sync, Text.the_sync) depth 40
+
+pub open_comm_send : IsSend open_comm.the_row
+open_comm_send = search (sendable, crosses, opened_send, opened_sync) depth 40
+
+pub open_comm_sync : IsSync open_comm.the_row
+open_comm_sync = search (sendable, crosses, opened_send, opened_sync) depth 40
+
+pub rows_send : IsSend rows.the_row
+rows_send = search (sendable, crosses, open_comm_send, open_comm_sync) depth 40
+
+pub rows_sync : IsSync rows.the_row
+rows_sync = search (sendable, crosses, open_comm_send, open_comm_sync) depth 40
+
+pub version_send : IsSend version.the_row
+version_send = search (sendable, crosses, rows_send, rows_sync, Mark.the_send) depth 40
+
+pub version_sync : IsSync version.the_row
+version_sync = search (sendable, crosses, rows_send, rows_sync, Mark.the_sync) depth 40
+
+pub step_send : IsSend step.the_row
+step_send = search (sendable, crosses, rows_send, rows_sync, entry_send, entry_sync) depth 40
+
+module _ (J : RattleType) (j : history.Ghosts J.Denot) (sj : IsSend J) (yj : IsSync J) where
+  pub reader_send : IsSend (reader.the_row J j)
+  reader_send = search (sendable, crosses, Front.the_send, version_sync, Lens.the_field_send) depth 60 fits 20000
+
+  pub writer_send : IsSend (writer.the_row J j)
+  writer_send = search (sendable, crosses, Front.the_send, Head.the_field_send, version_send, version_sync, step_send, rows_send, rows_sync, Shelf.the_field_send) depth 60 fits 20000
+
+-- what a thread that is started with a reader or the writer asks for
+pub ruleset versions = (reader_send, writer_send, Stamp.the_send, sendable, crosses)

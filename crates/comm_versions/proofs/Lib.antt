@@ -1,0 +1,10 @@
+pub mod Fronts
+pub mod Legal
+pub mod Pending
+pub mod Seats
+pub mod Exchanging
+pub mod Flat
+pub mod Ids
+pub mod Around
+pub mod Listed
+pub mod Crossing

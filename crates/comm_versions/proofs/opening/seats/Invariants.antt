@@ -1,0 +1,10 @@
+use Rattle.std.proofs.Common.{◌≡◌, drop, true, length}
+use Rattle.std.specs.Prelude.{All}
+use Rattle.left_right.specs.Sides.{view}
+use Rattle.comm_versions.specs.Known.{known, origin_of}
+use Rattle.comm_versions.proofs.opening.seats.Given as goal
+
+abbrev pub invariant-loop-i : goal.invariant-loop-i
+invariant-loop-i g l =
+    (length l.readers.items ≡ l.i) × All (λ r. r ≡ l.front) l.readers.items × (view l.shelf.desk.place ≡ (true, known (origin_of g.J.History.book g.J.History.limits) l.front))
+    × (l.shelf.desk.shown.value ≡ l.fn.shelf.desk.shown.value) × (drop l.shelf.behind l.shelf.log.items ≡ drop l.fn.shelf.behind l.fn.shelf.log.items)

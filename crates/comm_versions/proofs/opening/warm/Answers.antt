@@ -1,0 +1,17 @@
+use Rattle.std.proofs.Common.{◌++◌, ◌∷◌, [], List, ap, sym, ◌∙◌, subst}
+use mathlib.Core.List.{IsPrefix}
+use Rattle.comm_versions.specs.declared.version.Version.{Version}
+use Rattle.comm_versions.specs.Known.{Known}
+use Rattle.comm_versions.proofs.Fronts.{prefix_self}
+use Rattle.comm_versions.proofs.opening.warm.Goals as goal
+
+pub show-requires : goal.show-requires
+show-requires g c =
+    let shown = ap (λ d. d.shown.value.mark) c.in-Ok.ensures.desk ∙ c.requires.shown in
+    let mark = c.of-version.ensures.mark ∙ c.again.ensures ∙ sym shown in
+    record {
+      op = c.of-version.result;
+      alone = c.in-Ok.ensures.pending ∙ ap (λ (l : List Version). l ++ c.of-version.result ∷ []) c.requires.waits;
+      origin = ap (λ (k : Known). k.origin) mark;
+      later = subst (λ (k : Known). IsPrefix k.front c.of-version.result.mark.front) mark (prefix_self c.of-version.result.mark.front);
+    }

@@ -1,0 +1,33 @@
+use Rattle.std.proofs.Common.{◌≡◌, ◌++◌, ◌∷◌, [], ◌∙◌, sym, subst, ap}
+use Rattle.std.specs.Arc.{arc_value}
+use Rattle.comm_core.specs.History.{IsLegal, replay}
+use Rattle.comm_core.specs.Row.{rows, with_row}
+use Rattle.comm_core.specs.Tables.{Opens}
+use Rattle.comm_core.specs.declared.entry.Entry.{Entry}
+use Rattle.comm_versions.specs.Known.{Written}
+use Rattle.comm_versions.specs.Steps.{entries}
+use Rattle.comm_versions.proofs.Pending.{legal_more, ready_more, next_more}
+use Rattle.comm_versions.proofs.writer.VersionWriter.append.Goals as goal
+
+pub invariant_of-self-2 : goal.invariant_of-self-2
+invariant_of-self-2 g c =
+    let clients = g.J.History.limits.clients in
+    let comms = g.J.History.limits.comms in
+    let e = arc_value c.args.change.entry in
+    let r = c.args.change.row in
+    let w = c.self.inside in
+    let all = w.front ++ entries w.pending.items in
+    let may : IsLegal clients comms (all ++ e ∷ []) = subst (λ (w : Written). IsLegal clients comms ((w.front ++ w.pending) ++ e ∷ [])) (sym c.self.view_is) c.requires.legal in
+    let row : with_row r (rows (replay comms all)) ≡ rows (replay comms (all ++ e ∷ [])) =
+    subst (λ (w : Written). with_row r (rows (replay comms (w.front ++ w.pending))) ≡ rows (replay comms ((w.front ++ w.pending) ++ e ∷ []))) (sym c.self.view_is) c.requires.row in
+    let m = c.in_ok-made.made in
+    let same : arc_value m.step.entry ≡ e = c.in_ok-made.ensures.entry in
+    let goes : with_row r (arc_value w.next) ≡ rows (replay comms (all ++ e ∷ [])) = ap (λ (t : Opens). with_row r t) c.self.invariant.4 ∙ row in
+    let P = λ (t : Opens) (x : Entry). t ≡ rows (replay comms (all ++ x ∷ [])) in
+    rw (c.push_back_reserved.ensures.items, c.in_ok-reserve.ensures.items) (
+      c.self.invariant.0,
+      c.self.invariant.1,
+      legal_more clients comms w.front w.pending.items m.step (subst (λ (x : Entry). IsLegal clients comms (all ++ x ∷ [])) (sym same) may),
+      ready_more comms w.front w.pending.items m.step c.self.invariant.3 (subst (P (arc_value m.step.root)) (sym same) (c.in_ok-made.ensures.rows ∙ goes)),
+      next_more comms w.front w.pending.items m.step (arc_value m.next) (subst (P (arc_value m.next)) (sym same) (c.in_ok-made.ensures.next ∙ goes)),
+    )

@@ -1,0 +1,91 @@
+//! Beginnings of the one history that were seen.
+ghost use Rattle.std.specs.Prelude.{◌≡◌, ◌<◌, ◌^◌, ◌++◌, ◌∷◌, [], length, true, MatchBool};
+ghost use mathlib.Core.List.{IsPrefix};
+ghost use Rattle.std.specs.Arc.{arc_value};
+ghost use Rattle.comm_core.specs.History.{has_end, IsLegal};
+ghost use Rattle.comm_versions.specs.Known.{known, origin_of};
+
+use crate::history::{Head, History};
+use crate::mark::Mark;
+use comm_core::Entry;
+use std::alloc::Global;
+use std::marker::{Model, PhantomData};
+use std::sync::Arc;
+
+/// A mark of the one history. Contracts see it as its entries.
+#[derive(Drop)]
+pub struct Front<J: History> {
+    mark: Mark,
+    of: PhantomData<J>,
+}
+
+impl<J: History> Model for Front<J> {
+    ghost use Rattle.std.specs.Prelude.{◌≡◌, List};
+    ghost use Rattle.comm_core.specs.declared.entry.Entry.{Entry};
+    ghost use Rattle.comm_versions.specs.Code.{entries_code};
+    ghost use Rattle.comm_versions.specs.Known.{origin_of};
+
+    ghost Value = { List Entry };
+
+    ghost coded = { entries_code };
+
+    ghost view = { λ f. f.mark.front };
+
+    ghost invariant = { λ f. f.mark.origin ≡ origin_of J.book J.limits };
+}
+
+impl<J: History> Front<J> {
+    pub fn of(mark: Mark) -> Front<J>
+        requires { mark.origin ≡ origin_of J.book J.limits }
+        ensures { result ≡ mark.front }
+    {
+        Front {
+            mark,
+            of: PhantomData,
+        }
+    }
+
+    pub fn mark(&self) -> &Mark
+        ensures { result.now ≡ known (origin_of J.book J.limits) self.now }
+    {
+        &self.mark
+    }
+
+    /// How many entries it has.
+    pub fn len(&self) -> u64
+        ensures length { result ≡ length self.now }
+        ensures legal { IsLegal J.limits.clients J.limits.comms self.now }
+    {
+        self.mark.len()
+    }
+
+    /// The same once more. It takes no memory.
+    pub fn again(&self) -> Front<J>
+        ensures { result ≡ self.now }
+    {
+        Front::of(self.mark.again())
+    }
+
+    /// Whether the other begins with this one. Of two fronts the shorter begins the longer.
+    pub fn begins(&self, other: &Front<J>) -> bool
+        ensures begins { MatchBool result (IsPrefix self.now other.now) (IsPrefix other.now self.now × (length other.now < length self.now)) }
+    {
+        self.mark.begins(&other.mark)
+    }
+
+    /// Nothing follows an end: where the other has one, it begins with this.
+    pub fn within(&self, other: &Front<J>)
+        ensures { has_end other.now ≡ true → IsPrefix self.now other.now }
+    {
+        self.mark.within(&other.mark)
+    }
+
+    /// Adds an entry to all that was seen, and says whether it did. It did not where the history is longer.
+    pub fn extend(&mut self, head: &Head<J>, entry: &Arc<Entry, Global>) -> bool
+        requires room { length self.old < 2 ^ 62 }
+        requires legal { IsLegal J.limits.clients J.limits.comms (self.old ++ arc_value entry.now ∷ []) }
+        ensures { MatchBool result (self.new ≡ self.old ++ arc_value entry.now ∷ []) (self.new ≡ self.old) }
+    {
+        self.mark.extend(head, entry)
+    }
+}

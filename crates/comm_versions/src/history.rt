@@ -1,0 +1,128 @@
+//! The one history, which exists in proofs alone.
+ghost use Rattle.std.specs.Prelude.{◌≡◌, []};
+ghost use Rattle.comm_versions.specs.Rules.{head_of};
+
+use crate::front::Front;
+use crate::mark::Mark;
+use comm_core::Entry;
+use logbook::{Gain, Plain, Play, Rule, Seen, Start, Word};
+use std::alloc::Global;
+use std::marker::{Brand, Model, PhantomData};
+use std::sync::Arc;
+
+/// Which history it is, and the limits by which it is legal. Each call of a function that has versions picks them; no code looks at them.
+pub trait History {
+    ghost use Rattle.logbook.specs.Pages.{Book};
+    ghost use Rattle.comm_core.specs.declared.limits.Limits.{Limits};
+
+    ghost book: { Book };
+
+    ghost limits: { Limits };
+}
+
+impl History for Brand {
+    ghost book = { record { number = 0; log_name = 0; cells_name = 0 } };
+
+    ghost limits = { record { clients = 1; comms = 1; history = 1; outbox = 1 } };
+}
+
+/// The rule of the book: what stands in it is a legal history.
+pub struct Law;
+
+impl Rule<Entry, u64> for Law {
+    ghost use Rattle.std.specs.Prelude.{[]};
+    ghost use base.Fml.{ftrue};
+    ghost use Rattle.comm_versions.specs.Rules.{IsKept};
+
+    ghost holds = { λ cells log. IsKept cells log };
+
+    ghost first = { [] };
+
+    ghost hinted = { λ n log. Unit {0} };
+
+    ghost shows = { λ log. [] };
+
+    ghost keeps = { λ names log. ftrue };
+
+    ghost moves = { λ ask before after answer. Unit {0} };
+}
+
+/// A step of the book trades nothing.
+pub struct Nothing;
+
+impl Gain<Entry, u64> for Nothing {
+    ghost use base.Fml.{ftrue};
+
+    ghost after = { λ names about answer. ftrue };
+}
+
+/// The step that adds an entry.
+pub struct Add;
+
+impl Play<Entry, u64> for Add {
+    ghost use Rattle.comm_versions.specs.Rules.{Adds};
+
+    ghost then = { Adds };
+}
+
+impl Plain<Arc<Entry, Global>, Entry, u64> for Add {
+    ghost use Rattle.std.specs.Prelude.{None};
+    ghost use Rattle.std.specs.Arc.{arc_value};
+
+    ghost ask = { λ entry. arc_value entry };
+
+    ghost state = { λ entry. None };
+}
+
+/// An empty history that has no name yet. Contracts see what it is to be named by.
+#[derive(Drop)]
+pub struct BlankHistory {
+    head: Word<Entry, u64, Law>,
+    seen: Seen<Entry, u64, Law>,
+}
+
+impl Model for BlankHistory {
+    ghost use Rattle.std.specs.Prelude.{◌≡◌, []};
+    ghost use Rattle.logbook.specs.Pages.{Book, book_coded};
+    ghost use Rattle.comm_versions.specs.Rules.{head_of};
+
+    ghost Value = { Book };
+
+    ghost coded = { book_coded };
+
+    ghost view = { λ b. b.seen.book };
+
+    ghost invariant = { λ b. (b.seen.log ≡ []) × (b.head ≡ head_of b.seen.book) };
+}
+
+impl BlankHistory {
+    pub fn new() -> BlankHistory {
+        let (seen, mut first, _second) = Seen::open(Start::alone(), 0, 0);
+        BlankHistory {
+            head: Word::tracked(0, &mut first),
+            seen,
+        }
+    }
+
+    /// The history's word under a name, and the front that has seen nothing.
+    pub(crate) fn named<J: History>(self, clients: u8, comms: usize) -> (Head<J>, Front<J>)
+        requires book { self ≡ J.book }
+        requires limits { (clients ≡ J.limits.clients) × (comms ≡ J.limits.comms) }
+        ensures { result.1 ≡ [] }
+    {
+        let BlankHistory { head, seen } = self;
+        let head = Head {
+            head,
+            of: PhantomData,
+        };
+        (head, Front::of(Mark::first(clients, comms, seen)))
+    }
+}
+
+/// The one word of the history that a program has: its length.
+#[derive(Drop)]
+pub struct Head<J: History> {
+    pub(crate) head: Word<Entry, u64, Law>,
+    of: PhantomData<J>,
+    ghost head_is: { head ≡ head_of J.book },
+}

@@ -1,0 +1,206 @@
+//! Comms in pieces of a bounded length. A change copies the pointers to the pieces, and those to the comms of the one piece that it changes.
+ghost use Rattle.std.specs.Prelude.{◌≡◌, ◌+◌, ◌<◌, ◌≤◌, ◌++◌, ◌∷◌, [], IfOk, OnOk, length, take, drop};
+ghost use Rattle.comm_core.specs.Machine.{without};
+ghost use Rattle.comm_core.specs.Row.{with_row, without_all};
+ghost use Rattle.comm_versions.specs.Rows.{AllFilled, IsInOrder, flat, put};
+
+use crate::search::{Piece, comms_around, place_of};
+use comm_core::{OpenComm, Row};
+use comm_value::Text;
+use std::alloc::{AllocError, Global};
+use std::sync::Arc;
+
+// So many comms stand in a piece at most; a longer one is cut in two. It is the root of the greatest number of comms.
+const LONGEST: usize = 64;
+
+// Neighbours that have no more than so many together become one piece, so that there aren't more pieces than the comms need, whatever was closed.
+const SHORT: usize = 32;
+
+// The same pieces, shared.
+fn shared(alloc: Global, pieces: &[Piece]) -> Result<Vec<Piece>, AllocError>
+    requires { AllFilled pieces.now }
+    ensures flat { IfOk result (λ all. flat all.items ≡ flat pieces.now) }
+    ensures filled { IfOk result (λ all. AllFilled all.items) }
+{
+    let mut all = Vec::with_capacity(alloc, pieces.len() + 1)?;
+    for piece in pieces {
+        all.push(Arc::try_clone(piece)?)?;
+    }
+    Ok(all)
+}
+
+// The comms are shared.
+fn copy_all(comms: &[OpenComm], all: &mut Vec<OpenComm>) -> Result<(), AllocError>
+    ensures { OnOk result (all.new.items ≡ all.old.items ++ comms.now) }
+{
+    for comm in comms {
+        all.push(comm.copy()?)?;
+    }
+    Ok(())
+}
+
+// Copies of the comms, and the new one in place of those from one index to the other.
+fn spliced(
+    alloc: Global,
+    comms: &[OpenComm],
+    from: usize,
+    to: usize,
+    comm: &OpenComm,
+) -> Result<Vec<OpenComm>, AllocError>
+    requires ordered { from ≤ to }
+    requires within { to ≤ length comms.now }
+    ensures spliced { IfOk result (λ all. all.items ≡ take from comms.now ++ comm.now ∷ drop to comms.now) }
+    ensures some { IfOk result (λ all. 0 < length all.items) }
+{
+    let mut all = Vec::with_capacity(alloc, comms.len() + 1)?;
+    copy_all(&comms[..from], &mut all)?;
+    all.push(comm.copy()?)?;
+    copy_all(&comms[to..], &mut all)?;
+    Ok(all)
+}
+
+// The comm in its place, or in place of the one of its id.
+fn with_comm(
+    alloc: Global,
+    comms: &[OpenComm],
+    comm: &OpenComm,
+) -> Result<Vec<OpenComm>, AllocError>
+    requires { IsInOrder comms.now }
+    ensures put { IfOk result (λ all. all.items ≡ put comms.now comm.now) }
+    ensures some { IfOk result (λ all. 0 < length all.items) }
+{
+    match place_of(comms, comm.id()) {
+        Ok(i) => spliced(alloc, comms, i, i + 1, comm),
+        Err(i) => spliced(alloc, comms, i, i, comm),
+    }
+}
+
+// The comms without the one at i.
+fn without_at(alloc: Global, comms: &[OpenComm], i: usize) -> Result<Vec<OpenComm>, AllocError>
+    requires { i < length comms.now }
+    ensures { IfOk result (λ all. all.items ≡ take i comms.now ++ drop (i + 1) comms.now) }
+{
+    let mut all = Vec::with_capacity(alloc, comms.len())?;
+    copy_all(&comms[..i], &mut all)?;
+    copy_all(&comms[i + 1..], &mut all)?;
+    Ok(all)
+}
+
+// The pieces with these comms, if any, in place of the piece there.
+fn set_piece(
+    alloc: Global,
+    pieces: Vec<Piece>,
+    place: usize,
+    comms: Vec<OpenComm>,
+) -> Result<Vec<Piece>, AllocError>
+    requires within { place < length pieces.items }
+    requires filled { AllFilled pieces.items }
+    ensures flat { IfOk result (λ all. flat all.items ≡ flat (take place pieces.items) ++ (comms.items ++ flat (drop (place + 1) pieces.items))) }
+    ensures filled { IfOk result (λ all. AllFilled all.items) }
+{
+    let mut all = pieces;
+    let mut head = comms;
+    all.remove(place);
+    if head.is_empty() {
+        return Ok(all);
+    }
+    if head.len() > LONGEST {
+        let tail = head.split_off(head.len() / 2)?;
+        all.insert(place, Arc::new(alloc, tail)?)?;
+    }
+    all.insert(place, Arc::new(alloc, head)?)?;
+    Ok(all)
+}
+
+// The pieces, with the one at this place and the next as one where they are short.
+fn joined(alloc: Global, pieces: Vec<Piece>, place: usize) -> Result<Vec<Piece>, AllocError>
+    requires { AllFilled pieces.items }
+    ensures flat { IfOk result (λ all. flat all.items ≡ flat pieces.items) }
+    ensures filled { IfOk result (λ all. AllFilled all.items) }
+{
+    let all = pieces.as_slice();
+    if all.len() < 2 || all.len() - 2 < place {
+        return Ok(pieces);
+    }
+    let first = all[place].as_slice();
+    let second = all[place + 1].as_slice();
+    if SHORT < first.len() + second.len() {
+        return Ok(pieces);
+    }
+    let mut both = Vec::with_capacity(alloc, SHORT)?;
+    copy_all(first, &mut both)?;
+    copy_all(second, &mut both)?;
+    let mut rest = pieces;
+    rest.remove(place);
+    set_piece(alloc, rest, place, both)
+}
+
+// The comm in its place, or in place of the one of its id.
+fn put_in(alloc: Global, pieces: Vec<Piece>, comm: &OpenComm) -> Result<Vec<Piece>, AllocError>
+    requires filled { AllFilled pieces.items }
+    requires ordered { IsInOrder (flat pieces.items) }
+    ensures put { IfOk result (λ all. flat all.items ≡ put (flat pieces.items) comm.now) }
+    ensures filled { IfOk result (λ all. AllFilled all.items) }
+{
+    let mut all = pieces;
+    if all.is_empty() {
+        let mut first = Vec::with_capacity(alloc, 1)?;
+        first.push(comm.copy()?)?;
+        all.push(Arc::new(alloc, first)?)?;
+        return Ok(all);
+    }
+    let (place, comms) = comms_around(all.as_slice(), comm.id());
+    let changed = with_comm(alloc, comms, comm)?;
+    set_piece(alloc, all, place, changed)
+}
+
+// The pieces without the comm of this id.
+fn take_out(alloc: Global, pieces: Vec<Piece>, id: &Text) -> Result<Vec<Piece>, AllocError>
+    requires filled { AllFilled pieces.items }
+    requires ordered { IsInOrder (flat pieces.items) }
+    ensures out { IfOk result (λ all. flat all.items ≡ without (flat pieces.items) id.now) }
+    ensures filled { IfOk result (λ all. AllFilled all.items) }
+{
+    if pieces.is_empty() {
+        return Ok(pieces);
+    }
+    let (place, comms) = comms_around(pieces.as_slice(), id);
+    match place_of(comms, id) {
+        Ok(i) => {
+            let left = without_at(alloc, comms, i)?;
+            let all = set_piece(alloc, pieces, place, left)?;
+            let all = joined(alloc, all, place)?;
+            joined(alloc, all, place.saturating_sub(1))
+        }
+        Err(_) => Ok(pieces),
+    }
+}
+
+// The pieces without the comms of these ids.
+fn take_all(alloc: Global, pieces: Vec<Piece>, ids: &[Text]) -> Result<Vec<Piece>, AllocError>
+    requires filled { AllFilled pieces.items }
+    requires ordered { IsInOrder (flat pieces.items) }
+    ensures out { IfOk result (λ all. flat all.items ≡ without_all ids.now (flat pieces.items)) }
+    ensures filled { IfOk result (λ all. AllFilled all.items) }
+{
+    let mut all = pieces;
+    for id in ids {
+        all = take_out(alloc, all, id)?;
+    }
+    Ok(all)
+}
+
+/// The pieces after this row.
+pub fn after_row(alloc: Global, pieces: &[Piece], row: &Row) -> Result<Vec<Piece>, AllocError>
+    requires filled { AllFilled pieces.now }
+    requires ordered { IsInOrder (flat pieces.now) }
+    ensures flat { IfOk result (λ all. flat all.items ≡ with_row row.now (flat pieces.now)) }
+    ensures filled { IfOk result (λ all. AllFilled all.items) }
+{
+    match row {
+        Row::Same => shared(alloc, pieces),
+        Row::Put(comm) => put_in(alloc, shared(alloc, pieces)?, comm),
+        Row::Out(ids) => take_all(alloc, shared(alloc, pieces)?, ids.as_slice()),
+        Row::Clear => Ok(Vec::new(alloc)),
+    }
+}

@@ -1,0 +1,170 @@
+//! Readers, which take no lock.
+ghost use Rattle.std.specs.Prelude.{◌≡◌, ◌⊎◌, length, true, IfOk, IfSome, OnOk, IsErrOf, option_map};
+ghost use mathlib.Core.List.{IsPrefix};
+ghost use Rattle.std.specs.Arc.{arc_value};
+ghost use Rattle.left_right.specs.Sides.{view};
+ghost use Rattle.comm_core.specs.History.{has_end, IsLegal, replay};
+ghost use Rattle.comm_core.specs.Reads.{infos, state_of};
+ghost use Rattle.comm_core.specs.Row.{rows};
+ghost use Rattle.comm_versions.specs.Known.{origin_of};
+ghost use Rattle.comm_versions.specs.declared.reads.ReadFault.TheVariants as fault;
+
+use crate::front::Front;
+use crate::history::History;
+use crate::mark::Mark;
+use crate::reads::{InfoRead, ReadFault, StateRead};
+use crate::rows::Rows;
+use crate::stamp::Stamp;
+use crate::version::{Lens, Sees, Version};
+use comm_core::{comms_in_order_are_the_comms, replays_are_consistent};
+use comm_value::Text;
+use core::mem::replace_with;
+use std::alloc::{AllocError, Global};
+use std::marker::Model;
+use std::sync::Arc;
+
+// The comms that are shown, and the number of their front.
+#[derive(Drop)]
+struct Shown {
+    front: u64,
+    root: Arc<Rows, Global>,
+}
+
+/// Reads the comms that are shown. Contracts see the front that it has seen.
+#[derive(Drop)]
+pub struct VersionReader<J: History> {
+    lens: Lens,
+    front: Front<J>,
+}
+
+impl<J: History> Model for VersionReader<J> {
+    ghost use Rattle.std.specs.Prelude.{List, ◌≡◌, true};
+    ghost use Rattle.left_right.specs.Sides.{view as known_at};
+    ghost use Rattle.comm_core.specs.declared.entry.Entry.{Entry};
+    ghost use Rattle.comm_versions.specs.Code.{entries_code};
+    ghost use Rattle.comm_versions.specs.Known.{origin_of};
+
+    ghost Value = { List Entry };
+
+    ghost coded = { entries_code };
+
+    ghost view = { λ r. r.front };
+
+    ghost invariant = { λ r. ((known_at r.lens.place).0 ≡ true) × ((known_at r.lens.place).1.origin ≡ origin_of J.book J.limits) };
+}
+
+type Found = (Mark, Result<Version, AllocError>);
+
+// What is shown, which begins with what was shown before.
+//
+// A publish waits for readers that are inside, from `enter_as` to `leave`. So nothing is done there but to share the root and to copy the mark:
+// no memory is taken, no text compared, nothing else counted. No contract says that.
+fn look(lens: Lens) -> (Lens, Option<Found>)
+    requires { (view lens.place).0 ≡ true }
+    ensures knows { ((view result.0.place).0 ≡ true) × ((view result.0.place).1.origin ≡ (view lens.place).1.origin) }
+    ensures found { IfSome result.1 (λ r. (r.0.origin ≡ (view lens.place).1.origin) × IsPrefix (view lens.place).1.front r.0.front × IfOk r.1 (λ v. v.mark ≡ r.0)) }
+{
+    match lens.enter_as::<Sees>() {
+        Ok(reading) => {
+            let shown = reading.get();
+            let mark = shown.mark.again();
+            let version = shown.again();
+            (reading.leave(), Some((mark, version)))
+        }
+        Err(lens) => (lens, None),
+    }
+}
+
+impl<J: History> VersionReader<J> {
+    pub(crate) fn new(lens: Lens, front: Front<J>) -> VersionReader<J>
+        requires { ((view lens.place).0 ≡ true) × ((view lens.place).1.origin ≡ origin_of J.book J.limits) }
+        ensures { result ≡ front }
+    {
+        VersionReader { lens, front }
+    }
+
+    // What is shown now. Its front begins with all that was seen before.
+    fn enter(&mut self) -> Result<Shown, ReadFault>
+        ensures later { IsPrefix self.old self.new }
+        ensures shown { IfOk result (λ r. (r.front ≡ length self.new) × IsLegal J.limits.clients J.limits.comms self.new × (arc_value r.root ≡ rows (replay J.limits.comms self.new))) }
+        ensures none { IsErrOf result fault.NoVersion → self.new ≡ self.old }
+    {
+        let found = replace_with(&mut self.lens, (), |lens, _| look(lens));
+        let Some((mark, version)) = found else {
+            return Err(ReadFault::NoVersion);
+        };
+        let shown: Front<J> = Front::of(mark);
+        if !self.front.begins(&shown) {
+            return Err(ReadFault::NoVersion);
+        }
+        let front = shown.len();
+        self.front = shown;
+        match version {
+            Ok(version) => Ok(Shown {
+                front,
+                root: version.into_root(),
+            }),
+            Err(_) => Err(ReadFault::Memory),
+        }
+    }
+
+    /// The open comms, those of one target where a name is given, after the entries that are then seen. They begin with all
+    /// that was seen before. NoVersion leaves what was seen.
+    pub fn read_infos(&mut self, alloc: Global, asked: Option<&Text>) -> Result<InfoRead, ReadFault>
+        ensures later { IsPrefix self.old self.new }
+        ensures legal { OnOk result (IsLegal J.limits.clients J.limits.comms self.new) }
+        ensures front { IfOk result (λ r. r.front ≡ length self.new) }
+        ensures answer { IfOk result (λ r. r.comms ≡ infos (replay J.limits.comms self.new) (option_map (λ t. t.now) asked.entry)) }
+        ensures none { IsErrOf result fault.NoVersion → self.new ≡ self.old }
+    {
+        let Shown { front, root } = self.enter()?;
+        match root.infos(alloc, asked) {
+            Ok(comms) => Ok(InfoRead { front, comms }),
+            Err(_) => Err(ReadFault::Memory),
+        }
+    }
+
+    /// The state of the comm of this id after the entries that are then seen. They begin with all that was seen before.
+    /// NoVersion leaves what was seen.
+    pub fn read_state(&mut self, id: &Text) -> Result<StateRead, ReadFault>
+        ensures later { IsPrefix self.old self.new }
+        ensures legal { OnOk result (IsLegal J.limits.clients J.limits.comms self.new) }
+        ensures front { IfOk result (λ r. r.front ≡ length self.new) }
+        ensures answer { IfOk result (λ r. r.answer ≡ state_of (replay J.limits.comms self.new) id.now) }
+        ensures none { IsErrOf result fault.NoVersion → self.new ≡ self.old }
+    {
+        replays_are_consistent();
+        comms_in_order_are_the_comms();
+        let Shown { front, root } = self.enter()?;
+        match root.state(id) {
+            Ok(answer) => Ok(StateRead { front, answer }),
+            Err(_) => Err(ReadFault::Memory),
+        }
+    }
+
+    /// From now on it sees no less than the stamp's front. It takes no memory.
+    pub fn hear(&mut self, stamp: &Stamp<J>)
+        ensures one { (self.new ≡ self.old) ⊎ (self.new ≡ stamp.now) }
+        ensures own { IsPrefix self.old self.new }
+        ensures stamp { IsPrefix stamp.now self.new }
+    {
+        if self.front.begins(&stamp.front) {
+            self.front = stamp.front.again();
+        }
+    }
+
+    /// All that it has seen stands in a history that has ended.
+    pub fn within(&self, stamp: &Stamp<J>)
+        ensures { has_end stamp.now ≡ true → IsPrefix self.now stamp.now }
+    {
+        self.front.within(&stamp.front)
+    }
+
+    /// How many entries it has seen.
+    pub fn seen(&self) -> u64
+        ensures length { result ≡ length self.now }
+        ensures legal { IsLegal J.limits.clients J.limits.comms self.now }
+    {
+        self.front.len()
+    }
+}

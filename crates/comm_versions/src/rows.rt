@@ -1,0 +1,134 @@
+//! The comms that are open after a front, as they are shared with readers.
+ghost use Rattle.std.specs.Prelude.{◌≡◌, ◌++◌, [], IfOk, OnOk, map, filter, option_map};
+ghost use Rattle.comm_core.specs.Machine.{at};
+ghost use Rattle.comm_core.specs.Reads.{info_of, passes, state_at, state_in};
+ghost use Rattle.comm_core.specs.Row.{with_row};
+ghost use Rattle.comm_versions.specs.Rows.{flat};
+
+use crate::pieces::after_row;
+use crate::search::{Piece, comms_around, place_of};
+use comm_core::{OpenComm, Row, StateAnswer};
+use comm_messages::{Info, Infos};
+use comm_value::{Dict, Text};
+use std::alloc::{AllocError, Global};
+use std::marker::Model;
+
+/// The open comms in the byte order of their ids, each with its target and its state. Rows don't change: those after a change share with those
+/// before it what stayed.
+#[derive(Drop)]
+pub struct Rows {
+    pieces: Vec<Piece>,
+}
+
+impl Model for Rows {
+    ghost use Rattle.comm_core.specs.Tables.{Opens};
+    ghost use Rattle.comm_versions.specs.Code.{opens_code};
+    ghost use Rattle.comm_versions.specs.Rows.{AllFilled, IsInOrder, flat};
+
+    ghost Value = { Opens };
+
+    ghost coded = { opens_code };
+
+    ghost view = { λ r. flat r.pieces.items };
+
+    ghost invariant = { λ r. AllFilled r.pieces.items × IsInOrder (flat r.pieces.items) };
+}
+
+// What a read of this state gives.
+fn answer(state: &Option<Dict>) -> Result<StateAnswer, AllocError>
+    ensures { IfOk result (λ s. s ≡ state_in state.now) }
+{
+    match state {
+        Some(state) => Ok(StateAnswer::State(state.copy()?)),
+        None => Ok(StateAnswer::NoState),
+    }
+}
+
+// Whether comms of this target are asked for.
+fn is_asked(asked: Option<&Text>, target: &Text) -> bool
+    ensures { result ≡ passes (option_map (λ t. t.now) asked.entry) target.now }
+{
+    match asked {
+        Some(name) => name == target,
+        None => true,
+    }
+}
+
+// Adds those of these comms that are asked for. Their texts are shared.
+fn list_all(comms: &[OpenComm], asked: Option<&Text>, all: &mut Vec<Info>) -> Result<(), AllocError>
+    ensures { OnOk result (all.new.items ≡ all.old.items ++ map info_of (filter (λ e. passes (option_map (λ t. t.now) asked.entry) e.1.target) comms.now)) }
+{
+    for open in comms {
+        let target = open.target();
+        if is_asked(asked, target) {
+            let id = open.id().copy()?;
+            let target = target.copy()?;
+            all.push(Info { id, target })?;
+        }
+    }
+    Ok(())
+}
+
+fn list_pieces(
+    pieces: &[Piece],
+    asked: Option<&Text>,
+    all: &mut Vec<Info>,
+) -> Result<(), AllocError>
+    ensures { OnOk result (all.new.items ≡ all.old.items ++ map info_of (filter (λ e. passes (option_map (λ t. t.now) asked.entry) e.1.target) (flat pieces.now))) }
+{
+    for piece in pieces {
+        list_all(piece.as_slice(), asked, all)?;
+    }
+    Ok(())
+}
+
+impl Rows {
+    pub fn new(alloc: Global) -> Rows
+        ensures { result ≡ [] }
+    {
+        Rows {
+            pieces: Vec::new(alloc),
+        }
+    }
+
+    /// The comms after this row.
+    pub fn with(&self, alloc: Global, row: &Row) -> Result<Rows, AllocError>
+        ensures { IfOk result (λ r. r ≡ with_row row.now self.now) }
+    {
+        let pieces = after_row(alloc, self.pieces.as_slice(), row)?;
+        Ok(Rows { pieces })
+    }
+
+    /// The comm of this id.
+    fn get(&self, id: &Text) -> Option<&OpenComm>
+        ensures { option_map (λ c. c.now.1) result ≡ at self.now id.now }
+    {
+        if self.pieces.is_empty() {
+            return None;
+        }
+        let (_place, comms) = comms_around(self.pieces.as_slice(), id);
+        match place_of(comms, id) {
+            Ok(i) => Some(&comms[i]),
+            Err(_) => None,
+        }
+    }
+
+    /// The state of a comm, shared.
+    pub fn state(&self, id: &Text) -> Result<StateAnswer, AllocError>
+        ensures { IfOk result (λ s. s ≡ state_at (at self.now id.now)) }
+    {
+        match self.get(id) {
+            Some(open) => answer(open.state()),
+            None => Ok(StateAnswer::NoComm),
+        }
+    }
+
+    /// The open comms with the names of their targets, those of one target where a name is given. The texts are shared.
+    pub fn infos(&self, alloc: Global, asked: Option<&Text>) -> Result<Infos, AllocError>
+        ensures { IfOk result (λ v. v ≡ map info_of (filter (λ e. passes (option_map (λ t. t.now) asked.entry) e.1.target) self.now)) }
+    {
+        let mut all = Vec::new(alloc);
+        list_pieces(self.pieces.as_slice(), asked, &mut all)?;
+        Infos::new(alloc, all)
+    }
+}

@@ -1,0 +1,72 @@
+//! Where an id stands among comms in order.
+ghost use Rattle.std.specs.Prelude.{◌≡◌, ◌<◌, ◌≤◌, ◌+◌, ◌++◌, IfOk, IfErr, length, take, drop};
+ghost use Rattle.comm_versions.specs.Rows.{AllBelow, AllFilled, IsAbsent, IsFound, IsInOrder, flat};
+
+use comm_core::OpenComm;
+use comm_value::Text;
+use std::alloc::Global;
+use std::cmp::Ordering;
+use std::sync::Arc;
+
+/// Some comms that follow one another, at least one. The tables before and after a change share it.
+pub type Piece = Arc<Vec<OpenComm, Global>, Global>;
+
+/// Where the comm of this id stands, or where it would.
+pub fn place_of(comms: &[OpenComm], id: &Text) -> Result<usize, usize>
+    requires { IsInOrder comms.now }
+    ensures found { IfOk result (λ i. (i < length comms.now) × AllBelow id.now (take i comms.now) × IsFound id.now (drop i comms.now)) }
+    ensures absent { IfErr result (λ i. (i ≤ length comms.now) × AllBelow id.now (take i comms.now) × IsAbsent id.now (drop i comms.now)) }
+{
+    let key = id.as_str();
+    let mut low = 0;
+    let mut high = comms.len();
+    while low < high {
+        let middle = low + (high - low) / 2;
+        let order = key.cmp(comms[middle].id().as_str());
+        match order {
+            Ordering::Less => high = middle,
+            Ordering::Equal => return Ok(middle),
+            Ordering::Greater => low = middle + 1,
+        }
+    }
+    Err(low)
+}
+
+// The piece in which the comm of this id stands, or would, by a search over the first ids.
+fn piece_of(pieces: &[Piece], id: &Text) -> usize
+    requires some { 0 < length pieces.now }
+    requires filled { AllFilled pieces.now }
+    requires ordered { IsInOrder (flat pieces.now) }
+    ensures within { result < length pieces.now }
+    ensures below { AllBelow id.now (flat (take result pieces.now)) }
+    ensures above { IsAbsent id.now (flat (drop (result + 1) pieces.now)) }
+{
+    let key = id.as_str();
+    let mut low = 0;
+    let mut high = pieces.len();
+    while low + 1 < high {
+        let middle = low + (high - low) / 2;
+        let comms = pieces[middle].as_slice();
+        let order = key.cmp(comms[0].id().as_str());
+        match order {
+            Ordering::Less => high = middle,
+            _ => low = middle,
+        }
+    }
+    low
+}
+
+/// The comms of the piece in which the comm of this id stands, or would, and that piece's place.
+pub fn comms_around<'a>(pieces: &'a [Piece], id: &Text) -> (usize, &'a [OpenComm])
+    requires some { 0 < length pieces.now }
+    requires filled { AllFilled pieces.now }
+    requires ordered { IsInOrder (flat pieces.now) }
+    ensures within { result.0 < length pieces.now }
+    ensures around { flat pieces.now ≡ flat (take result.0 pieces.now) ++ (result.1.now ++ flat (drop (result.0 + 1) pieces.now)) }
+    ensures ordered { IsInOrder result.1.now }
+    ensures below { AllBelow id.now (flat (take result.0 pieces.now)) }
+    ensures above { IsAbsent id.now (flat (drop (result.0 + 1) pieces.now)) }
+{
+    let place = piece_of(pieces, id);
+    (place, pieces[place].as_slice())
+}

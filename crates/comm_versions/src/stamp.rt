@@ -1,0 +1,50 @@
+//! Fronts that go from one caller to another.
+ghost use Rattle.std.specs.Prelude.{◌≡◌, length};
+ghost use Rattle.comm_core.specs.History.{IsLegal};
+
+use crate::front::Front;
+use crate::history::History;
+use std::marker::Model;
+
+/// A front that was published. Contracts see it as its entries.
+#[derive(Drop)]
+pub struct Stamp<J: History> {
+    pub(crate) front: Front<J>,
+}
+
+impl<J: History> Model for Stamp<J> {
+    ghost use Rattle.std.specs.Prelude.{List};
+    ghost use Rattle.comm_core.specs.declared.entry.Entry.{Entry};
+    ghost use Rattle.comm_versions.specs.Code.{entries_code};
+
+    ghost Value = { List Entry };
+
+    ghost coded = { entries_code };
+
+    ghost view = { λ s. s.front };
+}
+
+impl<J: History> Stamp<J> {
+    pub(crate) fn of(front: &Front<J>) -> Stamp<J>
+        ensures { result ≡ front.now }
+    {
+        Stamp {
+            front: front.again(),
+        }
+    }
+
+    /// How many entries it tells of.
+    pub fn number(&self) -> u64
+        ensures length { result ≡ length self.now }
+        ensures legal { IsLegal J.limits.clients J.limits.comms self.now }
+    {
+        self.front.len()
+    }
+
+    /// The same once more. It takes no memory.
+    pub fn copy(&self) -> Stamp<J>
+        ensures { result ≡ self.now }
+    {
+        Stamp::of(&self.front)
+    }
+}

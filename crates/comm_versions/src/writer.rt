@@ -1,0 +1,125 @@
+//! The one writer of the versions.
+ghost use Rattle.std.specs.Prelude.{◌≡◌, ◌^◌, ◌<◌, ◌+◌, ◌++◌, ◌∷◌, [], length, drop, OnErr, OnOk};
+ghost use Rattle.std.specs.Arc.{arc_value};
+ghost use Rattle.comm_core.specs.History.{IsLegal, replay};
+ghost use Rattle.comm_core.specs.Row.{rows, with_row};
+ghost use Rattle.comm_versions.specs.Known.{known, origin_of};
+
+use crate::adding::{Step, add_all, prepare};
+use crate::change::Change;
+use crate::front::Front;
+use crate::history::{Head, History};
+use crate::rows::Rows;
+use crate::stamp::Stamp;
+use crate::version::Shelf;
+use std::alloc::{AllocError, Global};
+use std::collections::VecDeque;
+use std::marker::Model;
+use std::sync::{Arc, Wait};
+
+/// Adds entries to the history, and shows readers the comms after them. Contracts see what it has published, and what is to follow. It can't be
+/// dropped: `end` ends it.
+pub struct VersionWriter<J: History> {
+    head: Head<J>,
+    front: Front<J>,
+    pending: VecDeque<Step>,
+    // The rows after all that is to follow.
+    next: Arc<Rows, Global>,
+    alloc: Global,
+    shelf: Shelf,
+}
+
+impl<J: History> Model for VersionWriter<J> {
+    ghost use Rattle.std.specs.Prelude.{◌≡◌, ◌++◌, [], drop};
+    ghost use Rattle.std.specs.Arc.{arc_value};
+    ghost use Rattle.comm_core.specs.History.{IsLegal, replay};
+    ghost use Rattle.comm_core.specs.Row.{rows};
+    ghost use Rattle.comm_versions.specs.Code.{written_code};
+    ghost use Rattle.comm_versions.specs.Known.{Written, known, origin_of};
+    ghost use Rattle.comm_versions.specs.Steps.{IsReady, entries};
+
+    ghost Value = { Written };
+
+    ghost coded = { written_code };
+
+    ghost view = { λ w. record { front = w.front; pending = entries w.pending.items } };
+
+    ghost invariant = { λ w. (w.shelf.desk.shown.value.mark ≡ known (origin_of J.book J.limits) w.front) × (drop w.shelf.behind w.shelf.log.items ≡ []) × IsLegal J.limits.clients J.limits.comms (w.front ++ entries w.pending.items) × IsReady J.limits.comms w.front w.pending.items × (arc_value w.next ≡ rows (replay J.limits.comms (w.front ++ entries w.pending.items))) };
+}
+
+impl<J: History> VersionWriter<J> {
+    pub(crate) fn new(
+        alloc: Global,
+        head: Head<J>,
+        front: Front<J>,
+        next: Arc<Rows, Global>,
+        shelf: Shelf,
+    ) -> VersionWriter<J>
+        requires rows { arc_value next ≡ rows (replay J.limits.comms front) }
+        requires shown { shelf.desk.shown.value.mark ≡ known (origin_of J.book J.limits) front }
+        requires pending { drop shelf.behind shelf.log.items ≡ [] }
+        ensures front { result.front ≡ front }
+        ensures pending { result.pending ≡ [] }
+    {
+        let _legal = front.len();
+        VersionWriter {
+            head,
+            front,
+            pending: VecDeque::new(alloc),
+            next,
+            alloc,
+            shelf,
+        }
+    }
+
+    /// Makes a change pending, of which the caller knows that it may come next, and that its row is what it changes. An error says that memory
+    /// ran out; of what has to be done for a change to be published this is the last that can fail.
+    pub fn append(&mut self, change: Change) -> Result<(), AllocError>
+        requires legal { IsLegal J.limits.clients J.limits.comms ((self.old.front ++ self.old.pending) ++ arc_value change.entry ∷ []) }
+        requires row { with_row change.row (rows (replay J.limits.comms (self.old.front ++ self.old.pending))) ≡ rows (replay J.limits.comms ((self.old.front ++ self.old.pending) ++ arc_value change.entry ∷ [])) }
+        ensures front { self.new.front ≡ self.old.front }
+        ensures pending { OnOk result (self.new.pending ≡ self.old.pending ++ arc_value change.entry ∷ []) }
+        ensures err { OnErr result (self.new ≡ self.old) }
+    {
+        self.pending.reserve(1)?;
+        let made = prepare(self.alloc, &self.next, change)?;
+        self.next = made.next;
+        self.pending.push_back_reserved(made.step);
+        Ok(())
+    }
+
+    /// Publishes what is pending. It takes no memory. It waits for readers that look at the version before the last.
+    pub fn publish<R: Wait>(&mut self, rt: &R)
+        requires { length self.old.front + length self.old.pending < 2 ^ 62 }
+        ensures front { self.new.front ≡ self.old.front ++ self.old.pending }
+        ensures pending { self.new.pending ≡ [] }
+    {
+        add_all(
+            rt,
+            &self.head,
+            &mut self.front,
+            &mut self.shelf,
+            &mut self.pending,
+        );
+    }
+
+    /// Tells of the front that is published. It takes no memory.
+    pub fn stamp(&self) -> Stamp<J>
+        ensures { result ≡ self.now.front }
+    {
+        Stamp::of(&self.front)
+    }
+
+    /// Readers take nothing from now on. What is pending is not published. It takes no memory, and waits for those who read.
+    pub fn end<R: Wait>(self, rt: &R) {
+        let Self {
+            head: _head,
+            front: _front,
+            pending: _pending,
+            next: _next,
+            alloc: _,
+            shelf,
+        } = self;
+        drop(shelf.take(rt));
+    }
+}
