@@ -81,7 +81,11 @@ fn asked(rt: &HostRuntime) -> Option<Over> {
     let Some(word) = words.next() else {
         return Some(Over::OneThread);
     };
-    if word.as_str() == "shared" && words.next().is_none() { Some(Over::Shared) } else { None }
+    if word.as_str() == "shared" && words.next().is_none() {
+        Some(Over::Shared)
+    } else {
+        None
+    }
 }
 
 /// Plays standard input to standard output; the exit status is 3 for any argument but the one word `shared`.
@@ -89,6 +93,12 @@ fn main(rt: HostRuntime) -> ExitCode {
     let Some(over) = asked(&rt) else {
         return ExitCode::from(3);
     };
-    let end = play(&rt, rt.alloc(), over, &mut rt.reader(), &mut io::writer(&rt));
+    let end = play(
+        &rt,
+        rt.alloc(),
+        over,
+        &mut rt.reader(),
+        &mut io::writer(&rt),
+    );
     ExitCode::from(status(end))
 }

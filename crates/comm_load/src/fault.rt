@@ -1,8 +1,8 @@
 //! Why a load isn't done.
 ghost use Rattle.std.specs.Prelude.{⊤};
 
-use comm_manager::{OpeningFault, ReadFault};
 use comm_core::NewFault;
+use comm_manager::{OpeningFault, ReadFault};
 use std::alloc::{AllocError, AllocFailed};
 use std::io;
 

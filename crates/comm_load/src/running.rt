@@ -78,17 +78,18 @@ impl<J: Naming> Gathered<J> {
             changes: self.count.changes.saturating_add(told.changes),
             reads: self.count.reads.saturating_add(told.reads),
             sum: self.count.sum.wrapping_add(told.sum),
-            nanos: if told.nanos > self.count.nanos { told.nanos } else { self.count.nanos },
+            nanos: if told.nanos > self.count.nanos {
+                told.nanos
+            } else {
+                self.count.nanos
+            },
         };
         Ok(())
     }
 }
 
 // The clients of all threads, and what they counted.
-fn all_of<J: Naming>(
-    alloc: Global,
-    done: Done<J>,
-) -> Result<(Publisher<J>, Gathered<J>), Fault> {
+fn all_of<J: Naming>(alloc: Global, done: Done<J>) -> Result<(Publisher<J>, Gathered<J>), Fault> {
     let (publisher, ((first, second), (third, fourth))) = done;
     let mut all = Gathered {
         clients: Vec::new(alloc),

@@ -25,7 +25,10 @@ impl fmt::Display for Told {
             sum,
             nanos,
         } = *self;
-        write!(f, "{{\"changes\":{changes},\"reads\":{reads},\"history\":{history},\"taken\":{taken},")?;
+        write!(
+            f,
+            "{{\"changes\":{changes},\"reads\":{reads},\"history\":{history},\"taken\":{taken},"
+        )?;
         write!(f, "\"untaken\":{untaken},\"sum\":{sum},\"ns\":{nanos}}}")
     }
 }

@@ -107,8 +107,19 @@ fn write<J: Naming, T: Target, R: Wait>(
     let mut i = worker.first;
     for n in 0..worker.each {
         let id = worker.ids.get(i).ok_or(Fault::Surprising)?;
-        let key = worker.keys.get(i % worker.keys.len().max(1)).ok_or(Fault::Surprising)?;
-        push(rt, alloc, manager, &mut worker.client, id, key, n.saturating_add(1_000))?;
+        let key = worker
+            .keys
+            .get(i % worker.keys.len().max(1))
+            .ok_or(Fault::Surprising)?;
+        push(
+            rt,
+            alloc,
+            manager,
+            &mut worker.client,
+            id,
+            key,
+            n.saturating_add(1_000),
+        )?;
         i = i.saturating_add(1);
         if i >= worker.ids.len() {
             i = 0;
@@ -160,7 +171,10 @@ fn reading<J: Naming>(
             break;
         }
         let id = worker.ids.get(i).ok_or(Fault::Surprising)?;
-        let key = worker.keys.get(i % worker.keys.len().max(1)).ok_or(Fault::Surprising)?;
+        let key = worker
+            .keys
+            .get(i % worker.keys.len().max(1))
+            .ok_or(Fault::Surprising)?;
         let sum = read_once(alloc, &mut worker.client, read, id, key)?;
         count.reads = count.reads.saturating_add(1);
         count.sum = count.sum.wrapping_add(sum);

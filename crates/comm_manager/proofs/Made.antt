@@ -95,12 +95,11 @@ after_change (Ok a) reply_of stamp_of number_of limits asked old before after se
     ap (λ (x : Tally). who_of x seen) number.0 ∙ ap (λ (l : List Entry). who old.client (old.number + 1) l) (saw.0 ∙ sym stamp.0) in
     let more = made_more limits old (who_of t seen) before after (stamp_of a) asked (reply_of a) (number_of a) some saw.1 number.1 next legal few stamp.0 stamp.1 whole in
     (ap (λ (x : Tally). x.client) number.0, more.1, more.0)
-after_change (Err e) reply_of stamp_of number_of limits asked old before after seen t some legal few next stamp saw number err =
-    (
-      ap (λ (x : Tally). x.client) err.0,
-      subst (λ (x : Tally). x.number ≤ length (mine seen x.client)) (sym err.0) (subst (λ (l : List Entry). old.number ≤ length (mine l old.client)) (sym err.1) some),
-      tt,
-    )
+after_change (Err e) reply_of stamp_of number_of limits asked old before after seen t some legal few next stamp saw number err = (
+  ap (λ (x : Tally). x.client) err.0,
+  subst (λ (x : Tally). x.number ≤ length (mine seen x.client)) (sym err.0) (subst (λ (l : List Entry). old.number ≤ length (mine l old.client)) (sym err.1) some),
+  tt,
+)
 
 -- what a client made stays as it sees more
 pub made_stays : (c n : ℕ) (seen more : List Entry) → n ≤ length (mine seen c) → IsPrefix seen more → (n ≤ length (mine more c)) × (made (who c n more) ≡ made (who c n seen))

@@ -21,7 +21,9 @@ use crate::ledger::Books;
 use crate::naming::Naming;
 use crate::publisher::Publisher;
 use crate::request::Request;
-use comm_core::{Core, Entry, Limits, Row, Unavailable, legal_histories_grow, rows_are_what_entries_change};
+use comm_core::{
+    Core, Entry, Limits, Row, Unavailable, legal_histories_grow, rows_are_what_entries_change,
+};
 use comm_outbox::Outbox;
 use comm_targets::Target;
 use comm_versions::{Change, Stamp, VersionWriter};
@@ -152,7 +154,14 @@ impl<J: Naming, T: Target> Inner<J, T> {
             mut books,
         } = self;
         let mut writer = ManuallyDrop::into_inner(writer);
-        match close(rt, alloc, &mut journal, &mut writer, &mut outbox, &publisher) {
+        match close(
+            rt,
+            alloc,
+            &mut journal,
+            &mut writer,
+            &mut outbox,
+            &publisher,
+        ) {
             Ok((last, room)) => {
                 gather(&mut books, clients, &last);
                 writer.end(rt);
@@ -210,7 +219,15 @@ pub struct Farewell {
 fn grown(
     alloc: Global,
     count: usize,
-) -> Result<(Change, Arc<Entry, Global>, Arc<Entry, Global>, Vec<Arc<Entry, Global>>), AllocError>
+) -> Result<
+    (
+        Change,
+        Arc<Entry, Global>,
+        Arc<Entry, Global>,
+        Vec<Arc<Entry, Global>>,
+    ),
+    AllocError,
+>
     ensures change { IfOk result (λ r. (arc_value r.0.entry ≡ End) × (r.0.row ≡ row.Clear)) }
     ensures entries { IfOk result (λ r. (arc_value r.1 ≡ End) × (arc_value r.2 ≡ End)) }
     ensures room { IfOk result (λ r. (r.3.items ≡ []) × (count ≤ vec_capacity r.3)) }

@@ -161,9 +161,9 @@ mod shared;
 
 pub use answered::Answered;
 pub use client::Client;
-pub use naming::Naming;
+pub use comm_versions::{InfoRead, OpeningFault, ReadFault, Stamp, StateRead};
 pub use inner::Farewell;
+pub use naming::Naming;
 pub use opening::Opening;
 pub use publisher::Publisher;
-pub use comm_versions::{InfoRead, OpeningFault, ReadFault, Stamp, StateRead};
 pub use shared::{Cause, Manager, ShutdownRefused};

@@ -85,13 +85,7 @@ impl<J: Naming, T: Target> Manager<J, T> {
             third,
             fourth,
         } = opening;
-        let (writer, readers) = versions::<J, R>(
-            rt,
-            alloc,
-            history,
-            limits.clients,
-            limits.comms,
-        )?;
+        let (writer, readers) = versions::<J, R>(rt, alloc, history, limits.clients, limits.comms)?;
         let (books, tickets) = Books::open(first, second, third, fourth);
         let Ok(clients) = first_clients(alloc, readers, tickets) else {
             writer.end(rt);

@@ -35,7 +35,12 @@ fn shut_with<J: Naming, T: Target, R: Wait>(
             let farewell = shut(rt, manager, clients, publisher)?;
             holds(cause == Cause::MissingClients)?;
             holds(is_whole && farewell.history.len() == 1 && farewell.untaken.len() == 1)?;
-            holds(farewell.history.first().is_some_and(|it| matches!(&**it, Entry::End)))
+            holds(
+                farewell
+                    .history
+                    .first()
+                    .is_some_and(|it| matches!(&**it, Entry::End)),
+            )
         }
     }
 }

@@ -42,14 +42,7 @@ fn opened<J: Naming, T: Target, R: Wait>(
     let id = Text::copy_of(alloc, "a")?;
     let name = Text::copy_of(alloc, "w")?;
     let version = Text::copy_of(alloc, "2.0.0")?;
-    let given = client.open_comm(
-        rt,
-        manager,
-        id,
-        name,
-        Some(version),
-        body(alloc, data)?,
-    );
+    let given = client.open_comm(rt, manager, id, name, Some(version), body(alloc, data)?);
     match given {
         Ok(answered) => {
             let stamp = answered.stamp.copy();

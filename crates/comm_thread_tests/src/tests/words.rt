@@ -2,7 +2,9 @@
 ghost use Rattle.std.specs.Prelude.{◌≡◌, ⊤};
 
 use comm_core::{Entry, Limits, Reply, StateAnswer, Unavailable};
-use comm_manager::{Answered, Client, Farewell, Manager, Naming, Publisher, ReadFault, ShutdownRefused, Stamp};
+use comm_manager::{
+    Answered, Client, Farewell, Manager, Naming, Publisher, ReadFault, ShutdownRefused, Stamp,
+};
 use comm_messages::{Body, Outgoing};
 use comm_targets::Target;
 use comm_value::{Buffers, Dict, Text, Val, Whole};
