@@ -1,7 +1,10 @@
 //! Whole scripts: `frontends`, `kernels` and `widgets` have rows that both managers answer alike, `shared` what the shared one alone says.
+//! `cuts` has the rows cut after each byte, `deep` what nests as deep as a line may, with a small stack.
 ghost use Rattle.std.specs.Prelude.{IfOk, map};
 ghost use Rattle.comm_script.specs.Stock.{AreIdle};
 
+mod cuts;
+mod deep;
 mod ends;
 mod frontends;
 mod kernels;
@@ -54,6 +57,8 @@ enum Over {
     Shared,
 }
 
+const BOTH: [Over; 2] = [Over::OneThread, Over::Shared];
+
 /// Two targets of each kind.
 fn stock(alloc: Global) -> Result<Vec<Box<dyn Target>>, RunFault>
     ensures { IfOk result (λ v. AreIdle (map (λ b. means b) v.items)) }
@@ -75,16 +80,6 @@ fn stock(alloc: Global) -> Result<Vec<Box<dyn Target>>, RunFault>
 }
 
 /// Plays a script with two targets of each kind in stock.
-fn play(
-    alloc: Global,
-    reader: &mut Pieces<'_>,
-    writer: &mut Sink,
-    limits: Limits,
-) -> Result<(), RunFault> {
-    run(alloc, reader, writer, limits, stock(alloc)?)
-}
-
-/// The same over either manager.
 fn play_over(
     rt: &impl Wait,
     alloc: Global,
@@ -94,7 +89,7 @@ fn play_over(
     limits: Limits,
 ) -> Result<(), RunFault> {
     match over {
-        Over::OneThread => play(alloc, reader, writer, limits),
+        Over::OneThread => run(alloc, reader, writer, limits, stock(alloc)?),
         Over::Shared => run_shared(rt, alloc, reader, writer, limits, stock(alloc)?),
     }
 }
@@ -126,7 +121,7 @@ fn gives<R: Abort + Wait>(
 
 fn all_give<R: Abort + Wait>(rt: &R, alloc: Global, rows: &[Row]) -> Result<(), Fail> {
     for row in rows {
-        for over in [Over::OneThread, Over::Shared] {
+        for over in BOTH {
             for (read, write) in [(4096, 4096), (1, 4096), (4096, 1), (7, 3)] {
                 gives(rt, alloc, row, over, read, write)?;
             }

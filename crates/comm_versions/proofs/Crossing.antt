@@ -11,7 +11,8 @@ use Rattle.comm_versions.specs.contracts.reader.VersionReader as reader
 use Rattle.comm_versions.specs.contracts.version.Version as version
 use Rattle.comm_versions.specs.contracts.writer.VersionWriter as writer
 use Rattle.comm_versions.proofs.mark.Mark.TheSendSync as Mark
-use Rattle.comm_versions.proofs.front.Front.TheSendSync as Front
+use Rattle.comm_versions.proofs.published.Published.TheSendSync as Published
+use Rattle.comm_versions.proofs.sight.Sight.TheSendSync as Sight
 use Rattle.comm_versions.proofs.history.Head.TheSendSync as Head
 use Rattle.comm_versions.proofs.stamp.Stamp.TheSendSync as Stamp
 use Rattle.comm_versions.specs.contracts.rows.Rows as rows
@@ -48,10 +49,10 @@ step_send = search (sendable, crosses, rows_send, rows_sync, entry_send, entry_s
 
 module _ (J : RattleType) (j : history.Ghosts J.Denot) (sj : IsSend J) (yj : IsSync J) where
   pub reader_send : IsSend (reader.the_row J j)
-  reader_send = search (sendable, crosses, Front.the_send, version_sync, Lens.the_field_send) depth 60 fits 20000
+  reader_send = search (sendable, crosses, Sight.the_send, version_sync, Lens.the_field_send) depth 60 fits 20000
 
   pub writer_send : IsSend (writer.the_row J j)
-  writer_send = search (sendable, crosses, Front.the_send, Head.the_field_send, version_send, version_sync, step_send, rows_send, rows_sync, Shelf.the_field_send) depth 60 fits 20000
+  writer_send = search (sendable, crosses, Published.the_send, Head.the_field_send, version_send, version_sync, step_send, rows_send, rows_sync, Shelf.the_field_send) depth 60 fits 20000
 
 -- what a thread that is started with a reader or the writer asks for
 pub ruleset versions = (reader_send, writer_send, Stamp.the_send, sendable, crosses)

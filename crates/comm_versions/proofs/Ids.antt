@@ -21,7 +21,7 @@ use Rattle.comm_versions.specs.Rows.{AllBelow, IsAbsent, IsFound, IsInOrder, id_
 flip : (x y : Name) (o : Ordering) → id_cmp x y ≡ o → id_cmp y x ≡ ordering_reverse o
 flip x y o h = nat_list_cmp_total.antisymm y x ∙ ap ordering_reverse h
 
-differs : (x y : Name) (o : Ordering) → id_cmp x y ≡ o → is_eq o ≡ false → bytes_eq x y ≡ false
+pub differs : (x y : Name) (o : Ordering) → id_cmp x y ≡ o → is_eq o ≡ false → bytes_eq x y ≡ false
 differs x y o h not = sym (is_eq-slice_cmp x y) ∙ ap is_eq h ∙ not
 
 same_id : (x y : Name) → id_cmp x y ≡ Equal → bytes_eq x y ≡ true

@@ -7,4 +7,5 @@ pub mod Flat
 pub mod Ids
 pub mod Around
 pub mod Listed
+pub mod Relisting
 pub mod Crossing

@@ -1,27 +1,29 @@
 //! How entries are added to the history and shown.
-ghost use Rattle.std.specs.Prelude.{◌≡◌, ◌^◌, ◌<◌, ◌+◌, ◌++◌, ◌∷◌, [], length, drop, IfOk};
+ghost use Rattle.std.specs.Prelude.{◌≡◌, ◌^◌, ◌<◌, ◌+◌, ◌++◌, ◌∷◌, [], false, length, drop, IfOk};
 ghost use Rattle.std.specs.Arc.{arc_value};
 ghost use Rattle.comm_core.specs.History.{IsLegal, replay};
 ghost use Rattle.comm_core.specs.Row.{rows, with_row};
 ghost use Rattle.comm_versions.specs.Known.{known, origin_of};
-ghost use Rattle.comm_versions.specs.Steps.{IsReady, entries};
+ghost use Rattle.comm_versions.specs.Listing.{ListAlike};
+ghost use Rattle.comm_versions.specs.Steps.{IsNext, IsReady, entries};
 
 use crate::change::Change;
-use crate::front::Front;
 use crate::history::{Head, History};
+use crate::published::Published;
 use crate::rows::Rows;
 use crate::showing::{enqueue, show, stop};
-use crate::version::{Shelf, Version};
+use crate::version::Shelf;
 use comm_core::{Entry, Row, prefixes_of_legal_histories_are_legal};
 use std::alloc::{AllocError, Global};
 use std::collections::VecDeque;
 use std::sync::{Arc, Wait};
 
-/// An entry, with the rows after it.
+/// An entry, with the rows after it, and whether they may list other comms than those before.
 #[derive(Drop)]
 pub struct Step {
     pub entry: Arc<Entry, Global>,
     pub root: Arc<Rows, Global>,
+    pub relists: bool,
 }
 
 /// A step, with its rows once more.
@@ -50,12 +52,18 @@ pub fn prepare(alloc: Global, last: &Arc<Rows, Global>, change: Change) -> Resul
     ensures entry { IfOk result (λ r. arc_value r.step.entry ≡ arc_value change.entry) }
     ensures rows { IfOk result (λ r. arc_value r.step.root ≡ with_row change.row (arc_value last.now)) }
     ensures next { IfOk result (λ r. arc_value r.next ≡ with_row change.row (arc_value last.now)) }
+    ensures lists { IfOk result (λ r. r.step.relists ≡ false → ListAlike (arc_value last.now) (with_row change.row (arc_value last.now))) }
 {
     let Change { entry, row } = change;
     let root = next_rows(alloc, last, &row)?;
     let next = Arc::try_clone(&root)?;
+    let relists = last.relisted_by(&row);
     Ok(Ready {
-        step: Step { entry, root },
+        step: Step {
+            entry,
+            root,
+            relists,
+        },
         next,
     })
 }
@@ -64,14 +72,16 @@ pub fn prepare(alloc: Global, last: &Arc<Rows, Global>, change: Change) -> Resul
 fn extend<J: History, R: Wait>(
     rt: &R,
     head: &Head<J>,
-    front: &mut Front<J>,
+    front: &mut Published<J>,
     entry: &Arc<Entry, Global>,
+    relists: bool,
 )
     requires room { length front.old < 2 ^ 62 }
     requires legal { IsLegal J.limits.clients J.limits.comms (front.old ++ arc_value entry.now ∷ []) }
+    requires lists { relists ≡ false → ListAlike (rows (replay J.limits.comms front.old)) (rows (replay J.limits.comms (front.old ++ arc_value entry.now ∷ []))) }
     ensures { front.new ≡ front.old ++ arc_value entry.now ∷ [] }
 {
-    if !front.extend(head, entry) {
+    if !front.extend(head, entry, relists) {
         stop(rt);
     }
 }
@@ -80,11 +90,11 @@ fn extend<J: History, R: Wait>(
 fn add<J: History, R: Wait>(
     rt: &R,
     head: &Head<J>,
-    front: &mut Front<J>,
+    front: &mut Published<J>,
     shelf: &mut Shelf,
     step: Step,
 )
-    requires root { arc_value step.root ≡ rows (replay J.limits.comms (front.old ++ arc_value step.entry ∷ [])) }
+    requires next { IsNext J.limits.comms front.old step }
     requires room { length front.old < 2 ^ 62 }
     requires legal { IsLegal J.limits.clients J.limits.comms (front.old ++ arc_value step.entry ∷ []) }
     requires shown { shelf.old.desk.shown.value.mark ≡ known (origin_of J.book J.limits) front.old }
@@ -93,9 +103,13 @@ fn add<J: History, R: Wait>(
     ensures shown { shelf.new.desk.shown.value.mark ≡ known (origin_of J.book J.limits) front.new }
     ensures pending { drop shelf.new.behind shelf.new.log.items ≡ [] }
 {
-    let Step { entry, root } = step;
-    extend(rt, head, front, &entry);
-    enqueue(rt, shelf, Version::of(root, front.mark().again()));
+    let Step {
+        entry,
+        root,
+        relists,
+    } = step;
+    extend(rt, head, front, &entry, relists);
+    enqueue(rt, shelf, front.version(root));
     show(rt, shelf);
 }
 
@@ -103,7 +117,7 @@ fn add<J: History, R: Wait>(
 pub fn add_all<J: History, R: Wait>(
     rt: &R,
     head: &Head<J>,
-    front: &mut Front<J>,
+    front: &mut Published<J>,
     shelf: &mut Shelf,
     pending: &mut VecDeque<Step>,
 )

@@ -5,7 +5,7 @@
 //! seen. A [`Stamp`] tells a reader of a front, from which on it sees no less.
 //!
 //! A version is one shared root, under which the comms stand in the byte order of their ids. The versions before and after a change
-//! share what stayed.
+//! share what stayed. A reader keeps the list of comms that it read last, and gives it again until a comm comes or goes.
 #![tactic(auto)]
 
 mod adding;
@@ -15,11 +15,13 @@ mod history;
 mod mark;
 mod opening;
 mod pieces;
+mod published;
 mod reader;
 mod reads;
 mod rows;
 mod search;
 mod showing;
+mod sight;
 mod stamp;
 mod version;
 mod writer;

@@ -7,6 +7,7 @@ ghost use Rattle.comm_core.specs.History.{has_end, IsLegal, replay};
 ghost use Rattle.comm_core.specs.Reads.{infos, state_of};
 ghost use Rattle.comm_core.specs.Row.{rows};
 ghost use Rattle.comm_versions.specs.Known.{origin_of};
+ghost use Rattle.comm_versions.specs.Listing.{IsSettled};
 ghost use Rattle.comm_versions.specs.declared.reads.ReadFault.TheVariants as fault;
 
 use crate::front::Front;
@@ -14,9 +15,11 @@ use crate::history::History;
 use crate::mark::Mark;
 use crate::reads::{InfoRead, ReadFault, StateRead};
 use crate::rows::Rows;
+use crate::sight::Sight;
 use crate::stamp::Stamp;
 use crate::version::{Lens, Sees, Version};
 use comm_core::{comms_in_order_are_the_comms, replays_are_consistent};
+use comm_messages::Infos;
 use comm_value::Text;
 use core::mem::replace_with;
 use std::alloc::{AllocError, Global};
@@ -27,6 +30,7 @@ use std::sync::Arc;
 #[derive(Drop)]
 struct Shown {
     front: u64,
+    since: u64,
     root: Arc<Rows, Global>,
 }
 
@@ -34,7 +38,7 @@ struct Shown {
 #[derive(Drop)]
 pub struct VersionReader<J: History> {
     lens: Lens,
-    front: Front<J>,
+    sight: Sight<J>,
 }
 
 impl<J: History> Model for VersionReader<J> {
@@ -48,7 +52,7 @@ impl<J: History> Model for VersionReader<J> {
 
     ghost coded = { entries_code };
 
-    ghost view = { λ r. r.front };
+    ghost view = { λ r. r.sight };
 
     ghost invariant = { λ r. ((known_at r.lens.place).0 ≡ true) × ((known_at r.lens.place).1.origin ≡ origin_of J.book J.limits) };
 }
@@ -80,13 +84,16 @@ impl<J: History> VersionReader<J> {
         requires { ((view lens.place).0 ≡ true) × ((view lens.place).1.origin ≡ origin_of J.book J.limits) }
         ensures { result ≡ front }
     {
-        VersionReader { lens, front }
+        VersionReader {
+            lens,
+            sight: Sight::new(front),
+        }
     }
 
     // What is shown now. Its front begins with all that was seen before.
     fn enter(&mut self) -> Result<Shown, ReadFault>
         ensures later { IsPrefix self.old self.new }
-        ensures shown { IfOk result (λ r. (r.front ≡ length self.new) × IsLegal J.limits.clients J.limits.comms self.new × (arc_value r.root ≡ rows (replay J.limits.comms self.new))) }
+        ensures shown { IfOk result (λ r. (r.front ≡ length self.new) × IsLegal J.limits.clients J.limits.comms self.new × (arc_value r.root ≡ rows (replay J.limits.comms self.new)) × IsSettled J.limits.comms r.since self.new) }
         ensures none { IsErrOf result fault.NoVersion → self.new ≡ self.old }
     {
         let found = replace_with(&mut self.lens, (), |lens, _| look(lens));
@@ -94,22 +101,44 @@ impl<J: History> VersionReader<J> {
             return Err(ReadFault::NoVersion);
         };
         let shown: Front<J> = Front::of(mark);
-        if !self.front.begins(&shown) {
+        if !self.sight.front().begins(&shown) {
             return Err(ReadFault::NoVersion);
         }
         let front = shown.len();
-        self.front = shown;
+        self.sight.advance(shown);
         match version {
             Ok(version) => Ok(Shown {
                 front,
+                since: version.since,
                 root: version.into_root(),
             }),
             Err(_) => Err(ReadFault::Memory),
         }
     }
 
+    // The comms that are shown and asked for: the list that was read last, where no comm came or went since.
+    fn list(
+        &mut self,
+        alloc: Global,
+        shown: &Shown,
+        asked: Option<&Text>,
+    ) -> Result<Infos, AllocError>
+        requires root { arc_value shown.now.root ≡ rows (replay J.limits.comms self.old) }
+        requires settled { IsSettled J.limits.comms shown.now.since self.old }
+        ensures seen { self.new ≡ self.old }
+        ensures comms { IfOk result (λ i. i ≡ infos (replay J.limits.comms self.old) (option_map (λ t. t.now) asked.entry)) }
+    {
+        if let Some(comms) = self.sight.listed(shown.since, asked) {
+            return comms.copy();
+        }
+        let comms = shown.root.infos(alloc, asked)?;
+        self.sight.keep(asked, &comms)?;
+        Ok(comms)
+    }
+
     /// The open comms, those of one target where a name is given, after the entries that are then seen. They begin with all
-    /// that was seen before. NoVersion leaves what was seen.
+    /// that was seen before. NoVersion leaves what was seen. Where no comm came or went since this reader last read the same,
+    /// it is the same list, shared.
     pub fn read_infos(&mut self, alloc: Global, asked: Option<&Text>) -> Result<InfoRead, ReadFault>
         ensures later { IsPrefix self.old self.new }
         ensures legal { OnOk result (IsLegal J.limits.clients J.limits.comms self.new) }
@@ -117,9 +146,12 @@ impl<J: History> VersionReader<J> {
         ensures answer { IfOk result (λ r. r.comms ≡ infos (replay J.limits.comms self.new) (option_map (λ t. t.now) asked.entry)) }
         ensures none { IsErrOf result fault.NoVersion → self.new ≡ self.old }
     {
-        let Shown { front, root } = self.enter()?;
-        match root.infos(alloc, asked) {
-            Ok(comms) => Ok(InfoRead { front, comms }),
+        let shown = self.enter()?;
+        match self.list(alloc, &shown, asked) {
+            Ok(comms) => Ok(InfoRead {
+                front: shown.front,
+                comms,
+            }),
             Err(_) => Err(ReadFault::Memory),
         }
     }
@@ -135,7 +167,7 @@ impl<J: History> VersionReader<J> {
     {
         replays_are_consistent();
         comms_in_order_are_the_comms();
-        let Shown { front, root } = self.enter()?;
+        let Shown { front, root, .. } = self.enter()?;
         match root.state(id) {
             Ok(answer) => Ok(StateRead { front, answer }),
             Err(_) => Err(ReadFault::Memory),
@@ -148,8 +180,8 @@ impl<J: History> VersionReader<J> {
         ensures own { IsPrefix self.old self.new }
         ensures stamp { IsPrefix stamp.now self.new }
     {
-        if self.front.begins(&stamp.front) {
-            self.front = stamp.front.again();
+        if self.sight.front().begins(&stamp.front) {
+            self.sight.advance(stamp.front.again());
         }
     }
 
@@ -157,7 +189,7 @@ impl<J: History> VersionReader<J> {
     pub fn within(&self, stamp: &Stamp<J>)
         ensures { has_end stamp.now ≡ true → IsPrefix self.now stamp.now }
     {
-        self.front.within(&stamp.front)
+        self.sight.front().within(&stamp.front)
     }
 
     /// How many entries it has seen.
@@ -165,6 +197,6 @@ impl<J: History> VersionReader<J> {
         ensures length { result ≡ length self.now }
         ensures legal { IsLegal J.limits.clients J.limits.comms self.now }
     {
-        self.front.len()
+        self.sight.front().len()
     }
 }

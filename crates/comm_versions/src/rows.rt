@@ -1,8 +1,9 @@
 //! The comms that are open after a front, as they are shared with readers.
-ghost use Rattle.std.specs.Prelude.{◌≡◌, ◌++◌, [], IfOk, OnOk, map, filter, option_map};
+ghost use Rattle.std.specs.Prelude.{◌≡◌, ◌++◌, [], false, true, Some, IfOk, OnOk, map, filter, option_map};
 ghost use Rattle.comm_core.specs.Machine.{at};
 ghost use Rattle.comm_core.specs.Reads.{info_of, passes, state_at, state_in};
 ghost use Rattle.comm_core.specs.Row.{with_row};
+ghost use Rattle.comm_versions.specs.Listing.{ListAlike};
 ghost use Rattle.comm_versions.specs.Rows.{flat};
 
 use crate::pieces::after_row;
@@ -110,6 +111,29 @@ impl Rows {
         match place_of(comms, id) {
             Ok(i) => Some(&comms[i]),
             Err(_) => None,
+        }
+    }
+
+    // Whether a comm of this id and target is among them.
+    fn has(&self, id: &Text, target: &Text) -> bool
+        ensures { result ≡ true → option_map (λ c. c.target) (at self.now id.now) ≡ Some target.now }
+    {
+        match self.get(id) {
+            Some(open) => open.target() == target,
+            None => false,
+        }
+    }
+
+    /// Whether other comms may be listed after this row.
+    pub fn relisted_by(&self, row: &Row) -> bool
+        ensures { result ≡ false → ListAlike self.now (with_row row.now self.now) }
+    {
+        // (for the order of the comms, in which one that is put replaces the one of its id)
+        let _ = &self.pieces;
+        match row {
+            Row::Same => false,
+            Row::Put(comm) => !self.has(comm.id(), comm.target()),
+            _ => true,
         }
     }
 

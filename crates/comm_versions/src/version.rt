@@ -3,6 +3,7 @@ ghost use Rattle.std.specs.Prelude.{◌≡◌, IfOk};
 ghost use Rattle.std.specs.Arc.{arc_value};
 ghost use Rattle.comm_core.specs.History.{replay};
 ghost use Rattle.comm_core.specs.Row.{rows};
+ghost use Rattle.comm_versions.specs.Listing.{IsSettled};
 
 use crate::mark::Mark;
 use crate::rows::Rows;
@@ -14,27 +15,45 @@ use left_right::writer::Writer;
 use std::alloc::{AllocError, Global};
 use std::sync::Arc;
 
-/// The comms after a beginning of the history, beside that beginning. It is what is shown, and what is applied.
+/// The comms after a beginning of the history, beside that beginning. It is what is shown, and what is applied. The beginnings of more
+/// than `since` entries list the same comms.
 #[derive(Drop)]
 pub struct Version {
     pub root: Arc<Rows, Global>,
+    pub since: u64,
     pub mark: Mark,
-    pub ghost kept: { arc_value root ≡ rows (replay mark.origin.limit mark.front) },
+    pub ghost kept: { (arc_value root ≡ rows (replay mark.origin.limit mark.front)) × IsSettled mark.origin.limit since mark.front },
 }
 
 impl Version {
+    /// Of comms of which nothing more is known.
     pub fn of(root: Arc<Rows, Global>, mark: Mark) -> Version
         requires { arc_value root ≡ rows (replay mark.origin.limit mark.front) }
         ensures mark { result.mark ≡ mark }
         ensures root { result.root ≡ root }
     {
-        Version { root, mark }
+        let since = mark.len();
+        Version::settled(root, since, mark)
+    }
+
+    pub fn settled(root: Arc<Rows, Global>, since: u64, mark: Mark) -> Version
+        requires root { arc_value root ≡ rows (replay mark.origin.limit mark.front) }
+        requires settled { IsSettled mark.origin.limit since mark.front }
+        ensures mark { result.mark ≡ mark }
+        ensures root { result.root ≡ root }
+        ensures since { result.since ≡ since }
+    {
+        Version { root, since, mark }
     }
 
     pub fn into_root(self) -> Arc<Rows, Global>
         ensures { result ≡ self.root }
     {
-        let Self { root, mark: _mark } = self;
+        let Self {
+            root,
+            since: _,
+            mark: _mark,
+        } = self;
         root
     }
 
@@ -46,6 +65,7 @@ impl Version {
         let root = Arc::try_clone(&self.root)?;
         Ok(Version {
             root,
+            since: self.since,
             mark: self.mark.again(),
         })
     }

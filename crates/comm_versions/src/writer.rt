@@ -9,6 +9,7 @@ use crate::adding::{Step, add_all, prepare};
 use crate::change::Change;
 use crate::front::Front;
 use crate::history::{Head, History};
+use crate::published::Published;
 use crate::rows::Rows;
 use crate::stamp::Stamp;
 use crate::version::Shelf;
@@ -21,7 +22,7 @@ use std::sync::{Arc, Wait};
 /// dropped: `end` ends it.
 pub struct VersionWriter<J: History> {
     head: Head<J>,
-    front: Front<J>,
+    front: Published<J>,
     pending: VecDeque<Step>,
     // The rows after all that is to follow.
     next: Arc<Rows, Global>,
@@ -64,7 +65,7 @@ impl<J: History> VersionWriter<J> {
         let _legal = front.len();
         VersionWriter {
             head,
-            front,
+            front: Published::new(front),
             pending: VecDeque::new(alloc),
             next,
             alloc,
@@ -107,7 +108,7 @@ impl<J: History> VersionWriter<J> {
     pub fn stamp(&self) -> Stamp<J>
         ensures { result ≡ self.now.front }
     {
-        Stamp::of(&self.front)
+        Stamp::of(self.front.front())
     }
 
     /// Readers take nothing from now on. What is pending is not published. It takes no memory, and waits for those who read.

@@ -1,16 +1,17 @@
 // Each target that was registered is ended once, when no comm of it is open, however the run ends.
 ghost use Rattle.std.specs.Prelude.{◌≡◌, [], None};
 
-use super::{MOST, ROOM, limits};
+use super::{BOTH, MOST, Over, ROOM, limits};
 use comm_fakes::{Pieces, Sink, Then, refuse, was_refused};
 use comm_script::{RunFault, add, run};
+use comm_shared::run_shared;
 use comm_targets::{Answer, Echo, Event, Kind, Target, TargetFault};
 use comm_value::Dict;
 use std::alloc::Global;
 use std::io::ErrorKind;
 use std::process::Abort;
-use std::sync::Arc;
 use std::sync::atomic::{AtomicU64, Ordering};
+use std::sync::{Arc, Wait};
 use std::test::Fail;
 
 /// An echo that counts its ends: 1 for each where no comm is open, else 100.
@@ -70,15 +71,18 @@ impl Target for Counted {
 
 const REGISTERED: &[u8] = b"{\"call\":\"register\",\"kind\":\"echo\",\"name\":\"t\"}\n";
 
-/// A registration, an open and a message.
-pub const SCRIPT: &[u8] = br#"{"call":"register","kind":"echo","name":"t"}
+/// A registration, an open, another of the same id, and a message.
+const SCRIPT: &[u8] = br#"{"call":"register","kind":"echo","name":"t"}
 {"header":{"msg_type":"comm_open"},"content":{"comm_id":"a","target_name":"t","data":{}}}
+{"header":{"msg_type":"comm_open"},"content":{"comm_id":"a","target_name":"nowhere","data":{}}}
 {"header":{"msg_type":"comm_msg"},"content":{"comm_id":"a","data":{"n":1}}}
 "#;
 
 /// Plays the script with one such target in stock.
 fn play(
+    rt: &impl Wait,
     alloc: Global,
+    over: Over,
     reader: &mut Pieces<'_>,
     writer: &mut Sink,
     ends: &Arc<AtomicU64>,
@@ -86,99 +90,174 @@ fn play(
     let mut stock = Vec::new(alloc);
     let target: Box<dyn Target> = Box::new(alloc, Counted::new(alloc, Arc::try_clone(ends)?))?;
     add(&mut stock, target)?;
-    run(alloc, reader, writer, limits(MOST), stock)
+    match over {
+        Over::OneThread => run(alloc, reader, writer, limits(MOST), stock),
+        Over::Shared => run_shared(rt, alloc, reader, writer, limits(MOST), stock),
+    }
 }
 
 #[test]
 fn a_target_ends_where_the_input_ends(rt: HostRuntime) -> Result<(), Fail> {
     let alloc = rt.alloc();
-    let ends = Arc::new(alloc, AtomicU64::new(0))?;
-    let mut reader = Pieces::new(SCRIPT, 64, 0, ErrorKind::Other);
-    let mut writer = Sink::new(alloc, ROOM, ROOM, 0, Then::TakeNothing)?;
-    assert!(rt; play(alloc, &mut reader, &mut writer, &ends) == Ok(()));
-    assert!(rt; ends.load(Ordering::SeqCst) == 1);
+    for over in BOTH {
+        let ends = Arc::new(alloc, AtomicU64::new(0))?;
+        let mut reader = Pieces::new(SCRIPT, 64, 0, ErrorKind::Other);
+        let mut writer = Sink::new(alloc, ROOM, ROOM, 0, Then::TakeNothing)?;
+        let result = play(&rt, alloc, over, &mut reader, &mut writer, &ends);
+        assert!(rt; result == Ok(()), "{over:?}");
+        assert!(rt; ends.load(Ordering::SeqCst) == 1, "{over:?}");
+    }
     Ok(())
 }
 
 /// A reader fails at this call. Tells whether it wasn't called so often.
-fn ends_after_a_read_fault(rt: &impl Abort, alloc: Global, call: u64) -> Result<bool, Fail> {
+fn ends_after_a_read_fault<R: Abort + Wait>(
+    rt: &R,
+    alloc: Global,
+    over: Over,
+    call: u64,
+) -> Result<bool, Fail> {
     let ends = Arc::new(alloc, AtomicU64::new(0))?;
     let mut reader = Pieces::new(SCRIPT, 1, call, ErrorKind::Other);
     let mut writer = Sink::new(alloc, ROOM, ROOM, 0, Then::TakeNothing)?;
-    let result = play(alloc, &mut reader, &mut writer, &ends);
+    let result = play(rt, alloc, over, &mut reader, &mut writer, &ends);
     if reader.calls() < call {
         return Ok(true);
     }
     let is_registered = call > REGISTERED.len() as u64;
-    assert!(rt; result == Err(RunFault::Read), "at {call}");
+    assert!(rt; result == Err(RunFault::Read), "{over:?}, at {call}");
     assert!(rt;
         ends.load(Ordering::SeqCst) == u64::from(is_registered),
-        "at {call}"
+        "{over:?}, at {call}"
     );
     Ok(false)
 }
 
-#[test]
-fn a_target_ends_after_a_read_fault(rt: HostRuntime) -> Result<(), Fail> {
+fn ends_after_each_read_fault<R: Abort + Wait>(
+    rt: &R,
+    alloc: Global,
+    over: Over,
+) -> Result<(), Fail> {
     for call in 1..10_000u64 {
-        if ends_after_a_read_fault(&rt, rt.alloc(), call)? {
+        if ends_after_a_read_fault(rt, alloc, over, call)? {
             return Ok(());
         }
     }
     panic!(rt; "it never answered");
 }
 
-/// A writer fails at this call. Tells whether it wasn't called so often.
-fn ends_after_a_write_fault(rt: &impl Abort, alloc: Global, call: u64) -> Result<bool, Fail> {
+#[test]
+fn a_target_ends_after_a_read_fault(rt: HostRuntime) -> Result<(), Fail> {
+    for over in BOTH {
+        ends_after_each_read_fault(&rt, rt.alloc(), over)?;
+    }
+    Ok(())
+}
+
+/// A writer turns at this call: the fault, how many bytes it had taken, and whether it was called so often.
+fn writer_turns<R: Abort + Wait>(
+    rt: &R,
+    alloc: Global,
+    over: Over,
+    call: u64,
+    then: Then,
+) -> Result<(Result<(), RunFault>, usize, bool), Fail> {
     let ends = Arc::new(alloc, AtomicU64::new(0))?;
     let mut reader = Pieces::new(SCRIPT, 64, 0, ErrorKind::Other);
-    let mut writer = Sink::new(alloc, ROOM, 7, call, Then::Fail(ErrorKind::Other))?;
-    let result = play(alloc, &mut reader, &mut writer, &ends);
-    if writer.calls() < call {
+    let mut writer = Sink::new(alloc, ROOM, 7, call, then)?;
+    let result = play(rt, alloc, over, &mut reader, &mut writer, &ends);
+    assert!(rt; ends.load(Ordering::SeqCst) == 1, "{over:?}, at {call}");
+    Ok((result, writer.taken().len(), writer.calls() >= call))
+}
+
+/// A writer fails at this call, and another takes no byte there: that is a fault where it was a write, after which more is taken, and
+/// not a flush. Tells whether it wasn't called so often.
+fn ends_after_a_write_fault<R: Abort + Wait>(
+    rt: &R,
+    alloc: Global,
+    over: Over,
+    call: u64,
+) -> Result<bool, Fail> {
+    let fails = Then::Fail(ErrorKind::Other);
+    let (failed, before, is_called) = writer_turns(rt, alloc, over, call, fails)?;
+    if !is_called {
         return Ok(true);
     }
-    assert!(rt; result == Err(RunFault::Write), "at {call}");
-    assert!(rt; ends.load(Ordering::SeqCst) == 1, "at {call}");
+    assert!(rt; failed == Err(RunFault::Write), "{over:?}, at {call}");
+    let (_, behind, _) = writer_turns(rt, alloc, over, call.saturating_add(1), fails)?;
+    let (full, taken, _) = writer_turns(rt, alloc, over, call, Then::TakeNothing)?;
+    if behind > before {
+        assert!(rt; full == Err(RunFault::Write), "{over:?}, at {call}");
+        assert!(rt; taken == before, "{over:?}, at {call}");
+    } else {
+        assert!(rt; full == Ok(()), "{over:?}, at {call}");
+    }
     Ok(false)
+}
+
+fn ends_after_each_write_fault<R: Abort + Wait>(
+    rt: &R,
+    alloc: Global,
+    over: Over,
+) -> Result<(), Fail> {
+    for call in 1..10_000u64 {
+        if ends_after_a_write_fault(rt, alloc, over, call)? {
+            return Ok(());
+        }
+    }
+    panic!(rt; "it never answered");
 }
 
 #[test]
 fn a_target_ends_after_a_write_fault(rt: HostRuntime) -> Result<(), Fail> {
-    for call in 1..10_000u64 {
-        if ends_after_a_write_fault(&rt, rt.alloc(), call)? {
-            return Ok(());
-        }
+    for over in BOTH {
+        ends_after_each_write_fault(&rt, rt.alloc(), over)?;
     }
-    panic!(rt; "it never answered");
+    Ok(())
 }
 
 /// An allocation is refused. Tells whether there were fewer. What was said tells whether the target had been registered. The arena for
 /// lines asks again for less where it is refused a chunk, so a refusal needn't end the script.
-fn ends_without_memory(rt: &impl Abort, alloc: Global, number: u32) -> Result<bool, Fail> {
+fn ends_without_memory<R: Abort + Wait>(
+    rt: &R,
+    alloc: Global,
+    over: Over,
+    number: u32,
+) -> Result<bool, Fail> {
     let ends = Arc::new(alloc, AtomicU64::new(0))?;
     let mut reader = Pieces::new(SCRIPT, 64, 0, ErrorKind::Other);
     let mut writer = Sink::new(alloc, ROOM, ROOM, 0, Then::TakeNothing)?;
     let _is_heard = refuse(alloc, number);
-    let result = play(alloc, &mut reader, &mut writer, &ends);
+    let result = play(rt, alloc, over, &mut reader, &mut writer, &ends);
     let is_whole = !was_refused(alloc);
     let ended = ends.load(Ordering::SeqCst);
-    assert!(rt; ended <= 1, "at {number}");
-    assert!(rt; writer.taken().is_empty() || ended == 1, "at {number}");
+    assert!(rt; ended <= 1, "{over:?}, at {number}");
+    assert!(rt;
+        writer.taken().is_empty() || ended == 1,
+        "{over:?}, at {number}"
+    );
     if is_whole || result == Ok(()) {
-        assert!(rt; result == Ok(()) && ended == 1, "at {number}");
+        assert!(rt; result == Ok(()) && ended == 1, "{over:?}, at {number}");
     } else {
-        assert!(rt; result == Err(RunFault::Memory), "at {number}");
+        assert!(rt; result == Err(RunFault::Memory), "{over:?}, at {number}");
     }
     Ok(is_whole)
+}
+
+fn ends_without_any_memory<R: Abort + Wait>(rt: &R, alloc: Global, over: Over) -> Result<(), Fail> {
+    for number in 1..100_000u32 {
+        if ends_without_memory(rt, alloc, over, number)? {
+            return Ok(());
+        }
+    }
+    panic!(rt; "it never answered");
 }
 
 /// After a refused allocation, too.
 #[test]
 fn refused_run_ends_its_target(rt: HostRuntime) -> Result<(), Fail> {
-    for number in 1..100_000u32 {
-        if ends_without_memory(&rt, rt.alloc(), number)? {
-            return Ok(());
-        }
+    for over in BOTH {
+        ends_without_any_memory(&rt, rt.alloc(), over)?;
     }
-    panic!(rt; "it never answered");
+    Ok(())
 }

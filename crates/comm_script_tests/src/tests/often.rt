@@ -1,5 +1,5 @@
-// Readers and writers that are called so often that a count of 16 bits couldn't tell it.
-use super::{MOST, limits, play};
+// Readers and writers that are called so often that a count of 16 bits couldn't tell it, and a path of 100,000 steps.
+use super::{BOTH, MOST, ROOM, limits, play_over};
 use comm_fakes::{Pieces, Sink, Then};
 use std::alloc::{AllocError, Global};
 use std::io::ErrorKind;
@@ -25,12 +25,18 @@ const ANSWERS_BEHIND: &[u8] = br#""}},"header":{"msg_type":"comm_msg"},"metadata
 /// What is said to a line behind them that isn't JSON.
 const NOT_JSON: &[u8] = b"bad 70001 not_json\n";
 
-// The bytes between these, so often.
-fn filled(alloc: Global, before: &[u8], byte: u8, behind: &[u8]) -> Result<Vec<u8>, AllocError> {
+// The part between these, so often.
+fn filled(
+    alloc: Global,
+    before: &[u8],
+    part: &[u8],
+    often: usize,
+    behind: &[u8],
+) -> Result<Vec<u8>, AllocError> {
     let mut all = Vec::new(alloc);
     all.extend_from_slice(before)?;
-    for _ in 0..OFTEN {
-        all.push(byte)?;
+    for _ in 0..often {
+        all.extend_from_slice(part)?;
     }
     all.extend_from_slice(behind)?;
     Ok(all)
@@ -40,12 +46,15 @@ fn filled(alloc: Global, before: &[u8], byte: u8, behind: &[u8]) -> Result<Vec<u
 #[test]
 fn a_reader_may_be_called_often(rt: HostRuntime) -> Result<(), Fail> {
     let alloc = rt.alloc();
-    let script = filled(alloc, b"", b'\n', b"{")?;
-    let mut reader = Pieces::new(script.as_slice(), 1, 0, ErrorKind::Other);
-    let mut writer = Sink::new(alloc, 64, 64, 0, Then::TakeNothing)?;
-    assert!(rt; play(alloc, &mut reader, &mut writer, limits(MOST)) == Ok(()));
-    assert!(rt; reader.calls() > OFTEN as u64);
-    assert!(rt; writer.taken() == NOT_JSON);
+    let script = filled(alloc, b"", b"\n", OFTEN, b"{")?;
+    for over in BOTH {
+        let mut reader = Pieces::new(script.as_slice(), 1, 0, ErrorKind::Other);
+        let mut writer = Sink::new(alloc, 64, 64, 0, Then::TakeNothing)?;
+        let result = play_over(&rt, alloc, over, &mut reader, &mut writer, limits(MOST));
+        assert!(rt; result == Ok(()), "{over:?}");
+        assert!(rt; reader.calls() > OFTEN as u64, "{over:?}");
+        assert!(rt; writer.taken() == NOT_JSON, "{over:?}");
+    }
     Ok(())
 }
 
@@ -53,13 +62,45 @@ fn a_reader_may_be_called_often(rt: HostRuntime) -> Result<(), Fail> {
 #[test]
 fn a_writer_may_be_called_often(rt: HostRuntime) -> Result<(), Fail> {
     let alloc = rt.alloc();
-    let script = filled(alloc, BEFORE, b'x', BEHIND)?;
-    let answers = filled(alloc, ANSWERS_BEFORE, b'x', ANSWERS_BEHIND)?;
-    let mut reader = Pieces::new(script.as_slice(), 4096, 0, ErrorKind::Other);
-    let mut writer = Sink::new(alloc, answers.len(), 1, 0, Then::TakeNothing)?;
-    assert!(rt; play(alloc, &mut reader, &mut writer, limits(MOST)) == Ok(()));
-    assert!(rt; writer.calls() > OFTEN as u64);
-    assert!(rt; writer.taken() == answers.as_slice());
-    assert!(rt; writer.flushed() == answers.len());
+    let script = filled(alloc, BEFORE, b"x", OFTEN, BEHIND)?;
+    let answers = filled(alloc, ANSWERS_BEFORE, b"x", OFTEN, ANSWERS_BEHIND)?;
+    for over in BOTH {
+        let mut reader = Pieces::new(script.as_slice(), 4096, 0, ErrorKind::Other);
+        let mut writer = Sink::new(alloc, answers.len(), 1, 0, Then::TakeNothing)?;
+        let result = play_over(&rt, alloc, over, &mut reader, &mut writer, limits(MOST));
+        assert!(rt; result == Ok(()), "{over:?}");
+        assert!(rt; writer.calls() > OFTEN as u64, "{over:?}");
+        assert!(rt; writer.taken() == answers.as_slice(), "{over:?}");
+        assert!(rt; writer.flushed() == answers.len(), "{over:?}");
+    }
+    Ok(())
+}
+
+const PATH_BEFORE: &[u8] = br#"{"call":"register","kind":"widget","name":"jupyter.widget"}
+{"header":{"msg_type":"comm_open"},"content":{"comm_id":"a","target_name":"jupyter.widget","data":{"state":{"k":1}}},"metadata":{"version":"2.0.0"}}
+{"header":{"msg_type":"comm_msg"},"content":{"comm_id":"a","data":{"method":"update","state":{"l":[null]},"buffer_paths":[["d""#;
+
+const PATH_BEHIND: &[u8] = br#"]]}},"buffers":["AQI="]}
+{"call":"state","id":"a"}
+"#;
+
+const PATH_ANSWERS: &[u8] = br#"reply 1 registered
+reply 2 opened
+reply 3 fault bad_path 0
+state 3 {"buffer_paths":[],"buffers":[],"state":{"k":1}}
+"#;
+
+/// A path of 100,000 steps leads nowhere.
+#[test]
+fn a_long_path_changes_nothing(rt: HostRuntime) -> Result<(), Fail> {
+    let alloc = rt.alloc();
+    let script = filled(alloc, PATH_BEFORE, b",\"d\"", 99_999, PATH_BEHIND)?;
+    for over in BOTH {
+        let mut reader = Pieces::new(script.as_slice(), 4096, 0, ErrorKind::Other);
+        let mut writer = Sink::new(alloc, ROOM, ROOM, 0, Then::TakeNothing)?;
+        let result = play_over(&rt, alloc, over, &mut reader, &mut writer, limits(MOST));
+        assert!(rt; result == Ok(()), "{over:?}");
+        assert!(rt; writer.taken() == PATH_ANSWERS, "{over:?}");
+    }
     Ok(())
 }

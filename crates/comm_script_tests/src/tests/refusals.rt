@@ -1,11 +1,12 @@
 // Limits that don't fit, and allocations that are refused.
-use super::{MOST, ROOM, limits, play};
+use super::{BOTH, MOST, Over, ROOM, limits, play_over};
 use comm_core::Limits;
 use comm_fakes::{Pieces, Sink, Then, has_leaked, mark, refuse, was_refused};
 use comm_script::RunFault;
 use std::alloc::Global;
 use std::io::ErrorKind;
 use std::process::Abort;
+use std::sync::Wait;
 use std::test::Fail;
 
 /// Limits, and whether they fit.
@@ -22,16 +23,22 @@ const LIMITS: [(u8, usize, u64, usize, bool); 10] = [
     (1, 1, 1, 65_537, false),
 ];
 
-fn plays_within(rt: &impl Abort, alloc: Global, limits: Limits, fit: bool) -> Result<(), Fail> {
+fn plays_within<R: Abort + Wait>(
+    rt: &R,
+    alloc: Global,
+    over: Over,
+    limits: Limits,
+    fit: bool,
+) -> Result<(), Fail> {
     let mut reader = Pieces::new(b"{}", 4096, 0, ErrorKind::Other);
     let mut writer = Sink::new(alloc, ROOM, ROOM, 0, Then::TakeNothing)?;
-    let result = play(alloc, &mut reader, &mut writer, limits);
+    let result = play_over(rt, alloc, over, &mut reader, &mut writer, limits);
     if fit {
-        assert!(rt; result == Ok(()));
-        assert!(rt; writer.taken() == b"bad 1 no_type\n".as_slice());
+        assert!(rt; result == Ok(()), "{over:?}");
+        assert!(rt; writer.taken() == b"bad 1 no_type\n".as_slice(), "{over:?}");
     } else {
-        assert!(rt; result == Err(RunFault::BadLimits));
-        assert!(rt; reader.calls() == 0 && writer.calls() == 0);
+        assert!(rt; result == Err(RunFault::BadLimits), "{over:?}");
+        assert!(rt; reader.calls() == 0 && writer.calls() == 0, "{over:?}");
     }
     Ok(())
 }
@@ -45,7 +52,9 @@ fn limits_that_fit_are_needed(rt: HostRuntime) -> Result<(), Fail> {
             history: *history,
             outbox: *outbox,
         };
-        plays_within(&rt, rt.alloc(), limits, *fit)?;
+        for over in BOTH {
+            plays_within(&rt, rt.alloc(), over, limits, *fit)?;
+        }
     }
     Ok(())
 }
@@ -71,34 +80,50 @@ bad 7 not_json
 
 /// An allocation is refused. Tells whether there were fewer. The arena for lines asks again for less where it is refused a chunk, so a
 /// refusal needn't end the script; then nothing is missing from what it gives.
-fn is_played_whole(rt: &impl Abort, alloc: Global, number: u32) -> Result<bool, Fail> {
+fn is_played_whole<R: Abort + Wait>(
+    rt: &R,
+    alloc: Global,
+    over: Over,
+    number: u32,
+) -> Result<bool, Fail> {
     let mut reader = Pieces::new(SCRIPT, 64, 0, ErrorKind::Other);
     let mut writer = Sink::new(alloc, ROOM, ROOM, 0, Then::TakeNothing)?;
     let _is_heard = refuse(alloc, number);
-    let result = play(alloc, &mut reader, &mut writer, limits(MOST));
+    let result = play_over(rt, alloc, over, &mut reader, &mut writer, limits(MOST));
     let is_whole = !was_refused(alloc);
     if is_whole || result == Ok(()) {
-        assert!(rt; result == Ok(()));
-        assert!(rt; writer.taken() == ANSWERS, "at {number}");
+        assert!(rt; result == Ok(()), "{over:?}, at {number}");
+        assert!(rt; writer.taken() == ANSWERS, "{over:?}, at {number}");
     } else {
-        assert!(rt; result == Err(RunFault::Memory), "at {number}");
-        assert!(rt; ANSWERS.starts_with(writer.taken()), "at {number}");
+        assert!(rt; result == Err(RunFault::Memory), "{over:?}, at {number}");
+        assert!(rt;
+            ANSWERS.starts_with(writer.taken()),
+            "{over:?}, at {number}"
+        );
     }
     Ok(is_whole)
 }
 
 /// The first allocation is refused, then the second, and so on until none is left to refuse, and nothing leaks. A heap that refuses
 /// nothing plays once.
-#[test]
-fn refused_run(rt: HostRuntime) -> Result<(), Fail> {
-    let alloc = rt.alloc();
+fn is_refused_each<R: Abort + Wait>(rt: &R, alloc: Global, over: Over) -> Result<(), Fail> {
     for number in 1..100_000u32 {
         mark(alloc);
-        let is_whole = is_played_whole(&rt, alloc, number)?;
-        assert!(rt; !has_leaked(alloc), "at {number}");
+        let is_whole = is_played_whole(rt, alloc, over, number)?;
+        assert!(rt; !has_leaked(alloc), "{over:?}, at {number}");
         if is_whole {
             return Ok(());
         }
     }
     panic!(rt; "it never answered");
+}
+
+#[test]
+fn refused_run(rt: HostRuntime) -> Result<(), Fail> {
+    is_refused_each(&rt, rt.alloc(), Over::OneThread)
+}
+
+#[test]
+fn refused_shared_run(rt: HostRuntime) -> Result<(), Fail> {
+    is_refused_each(&rt, rt.alloc(), Over::Shared)
 }

@@ -1,7 +1,7 @@
 use Rattle.std.proofs.Crossing.{crosses}
 use denote.Param.Send.{sendable}
 use Rattle.comm_manager.proofs.Crossing.{manager_sync, client_send}
-use Rattle.comm_load.proofs.Crossing.{signals_sync, workers_send}
+use Rattle.comm_load.proofs.Crossing.{signals_sync, worker_send}
 use Rattle.comm_load.proofs.threads.all_four.Goals as goal
 
 pub join-requires-send-F : goal.join-requires-send-F
@@ -12,7 +12,7 @@ join-requires-send-F g c κs within =
     let t = c.type_bounds.send-T in
     let m = manager_sync _ g.J.Naming g.J.History j k _ g.T.Target t in
     let l = client_send _ g.J.Naming g.J.History j k in
-    let w = workers_send _ g.J.Naming g.J.History j k in
+    let w = worker_send _ g.J.Naming g.J.History j k in
     search (sendable, crosses, signals_sync) depth 60
 
 pub join-requires-send-A : goal.join-requires-send-A

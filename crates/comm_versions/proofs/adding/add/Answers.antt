@@ -7,11 +7,11 @@ use Rattle.comm_versions.proofs.adding.add.Goals as goal
 pub show-requires : goal.show-requires
 show-requires g c =
     let shown = ap (λ (v : Version). v.mark) c.enqueue.ensures.shown ∙ c.requires.shown in
-    let mark = c.of.ensures.mark ∙ c.again.ensures in
-    let front = ap (λ (k : Known). k.front) mark ∙ (ap (λ (k : Known). k.front) c.mark.ensures ∙ (c.extend.ensures ∙ sym (ap (λ (k : Known). k.front ++ arc_value c.args.step.entry ∷ []) shown))) in
+    let mark = c.version.ensures in
+    let front = ap (λ (k : Known). k.front) mark ∙ (c.extend.ensures ∙ sym (ap (λ (k : Known). k.front ++ arc_value c.args.step.entry ∷ []) shown)) in
     record {
-      op = c.of.result;
-      alone = c.enqueue.ensures.pending ∙ ap (λ (l : List Version). l ++ c.of.result ∷ []) c.requires.pending;
-      origin = ap (λ (k : Known). k.origin) mark ∙ (ap (λ (k : Known). k.origin) c.mark.ensures ∙ sym (ap (λ (k : Known). k.origin) shown));
+      op = c.version.result;
+      alone = c.enqueue.ensures.pending ∙ ap (λ (l : List Version). l ++ c.version.result ∷ []) c.requires.pending;
+      origin = ap (λ (k : Known). k.origin) mark ∙ sym (ap (λ (k : Known). k.origin) shown);
       later = (arc_value c.args.step.entry ∷ [], sym front);
     }

@@ -5,7 +5,8 @@ use Rattle.comm_core.specs.Row.{rows, with_row}
 use Rattle.comm_core.specs.Tables.{Opens}
 use Rattle.comm_core.specs.declared.entry.Entry.{Entry}
 use Rattle.comm_versions.specs.Known.{Written}
-use Rattle.comm_versions.specs.Steps.{entries}
+use Rattle.comm_versions.specs.Listing.{ListAlike}
+use Rattle.comm_versions.specs.Steps.{entries, IsNext}
 use Rattle.comm_versions.proofs.Pending.{legal_more, ready_more, next_more}
 use Rattle.comm_versions.proofs.writer.VersionWriter.append.Goals as goal
 
@@ -24,10 +25,16 @@ invariant_of-self-2 g c =
     let same : arc_value m.step.entry ≡ e = c.in_ok-made.ensures.entry in
     let goes : with_row r (arc_value w.next) ≡ rows (replay comms (all ++ e ∷ [])) = ap (λ (t : Opens). with_row r t) c.self.invariant.4 ∙ row in
     let P = λ (t : Opens) (x : Entry). t ≡ rows (replay comms (all ++ x ∷ [])) in
+    let root : arc_value m.step.root ≡ with_row r (arc_value w.next) = c.in_ok-made.ensures.rows in
+    let next : IsNext comms all m.step =
+    record {
+      root = subst (P (arc_value m.step.root)) (sym same) (root ∙ goes);
+      lists = λ no. subst (λ (t : Opens). ListAlike t (arc_value m.step.root)) c.self.invariant.4 (subst (λ (t : Opens). ListAlike (arc_value w.next) t) (sym root) (c.in_ok-made.ensures.lists no));
+    } in
     rw (c.push_back_reserved.ensures.items, c.in_ok-reserve.ensures.items) (
       c.self.invariant.0,
       c.self.invariant.1,
       legal_more clients comms w.front w.pending.items m.step (subst (λ (x : Entry). IsLegal clients comms (all ++ x ∷ [])) (sym same) may),
-      ready_more comms w.front w.pending.items m.step c.self.invariant.3 (subst (P (arc_value m.step.root)) (sym same) (c.in_ok-made.ensures.rows ∙ goes)),
+      ready_more comms w.front w.pending.items m.step c.self.invariant.3 next,
       next_more comms w.front w.pending.items m.step (arc_value m.next) (subst (P (arc_value m.next)) (sym same) (c.in_ok-made.ensures.next ∙ goes)),
     )

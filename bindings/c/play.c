@@ -1,0 +1,65 @@
+/* Plays a script of JSON lines through the library, as the program does: play FILE writes what is said to it. */
+#include "comm.h"
+
+#include <stdio.h>
+#include <stdlib.h>
+#include <string.h>
+
+/* A buffer that grows to the longest answer. It begins short, so that the first answers take the way by comm_text. */
+static uint8_t *out;
+static size_t room = 16;
+
+static int grown(size_t size) {
+  uint8_t *more = realloc(out, 2 * size);
+  if (!more) return 0;
+  out = more;
+  room = 2 * size;
+  return 1;
+}
+
+static uint32_t played(comm_handle *handle, const uint8_t *line, size_t length, size_t *size) {
+  uint32_t status = comm_line(handle, line, length, out, room, size);
+  if (status == COMM_SHORT) {
+    if (!grown(*size)) return COMM_MEMORY;
+    status = comm_text(handle, out, room, size);
+  }
+  return status;
+}
+
+static int play(comm_handle *handle, const uint8_t *text, size_t length) {
+  for (size_t from = 0; from < length;) {
+    const uint8_t *end = memchr(text + from, '\n', length - from);
+    size_t to = end ? (size_t)(end - text) : length, size;
+    if (played(handle, text + from, to - from, &size) != COMM_OK) return 2;
+    if (fwrite(out, 1, size, stdout) != size) return 1;
+    from = to + 1;
+  }
+  return 0;
+}
+
+static uint8_t *whole(const char *name, size_t *length) {
+  FILE *file = fopen(name, "rb");
+  if (!file) return NULL;
+  fseek(file, 0, SEEK_END);
+  long end = ftell(file);
+  rewind(file);
+  uint8_t *text = end < 0 ? NULL : malloc((size_t)end + 1);
+  *length = text ? fread(text, 1, (size_t)end, file) : 0;
+  fclose(file);
+  return text;
+}
+
+int main(int count, char **words) {
+  if (count != 2) return 3;
+  size_t length;
+  uint8_t *text = whole(words[1], &length);
+  out = malloc(room);
+  if (!text || !out) return 1;
+  comm_handle handle = {0};
+  if (comm_open(&handle, 2, 2, 2, 0, 4096) != COMM_OK) return 2;
+  int status = play(&handle, text, length);
+  comm_end(&handle);
+  free(out);
+  free(text);
+  return status;
+}

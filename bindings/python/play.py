@@ -1,0 +1,15 @@
+"""Plays a script of JSON lines through the library, as the program does: play.py LIBRARY FILE writes what is said to it."""
+
+import sys
+
+from comm import Manager, load
+
+
+def main(library: str, script: str) -> None:
+    with open(script, "rb") as file, Manager(echo=2, counter=2, widget=2, library=load(library)) as manager:
+        for line in file.read().split(b"\n"):
+            sys.stdout.buffer.write(manager.line(line))
+
+
+if __name__ == "__main__":
+    main(*sys.argv[1:])

@@ -1,0 +1,89 @@
+-- A manager may go to another thread, and so may what C holds of it.
+use mir.Raw.{raw}
+use base.Shift.{Keyless}
+use denote.Builtin.{RawPtr}
+use denote.Hole.{as_row}
+use denote.Memory.{lone}
+use denote.RattleType.{RattleType}
+use denote.RawPtr.{Ptr}
+use denote.Struct.Struct.{exits_of}
+use denote.Struct.Owning.{shape, fields, to}
+use denote.Param.Send.{IsSend, owning_send, struct_send, sendable}
+use denote.Param.SendFields.{declared_send, variants_send}
+use Rattle.std.proofs.Crossing.{crosses, frees}
+use Rattle.std.specs.declared.option.Option.{Option}
+use Rattle.std.specs.declared.option.Option.TheVariants.{None, Some}
+use Rattle.std_alloc.proofs.SendSync.{quiet, lies}
+use Rattle.comm_core.proofs.boxes.Boxes.TheSendSync as Boxes
+use Rattle.comm_core.proofs.Crossing.{dict_send}
+use Rattle.comm_core.specs.contracts.manager.Core as core
+use Rattle.comm_core.specs.contracts.comms.Comms as comms
+use Rattle.comm_core.specs.contracts.comm.Comm as comm
+use Rattle.comm_messages.proofs.infos.Infos.TheSendSync as Infos
+use Rattle.comm_tables.proofs.table.Table.TheSendSync as Table
+use Rattle.comm_targets.proofs.Sends.{echo_sends, counter_sends}
+use Rattle.comm_targets.specs.contracts.counter.Counter as counter
+use Rattle.comm_targets.specs.contracts.echo.Echo as echo
+use Rattle.comm_targets.specs.declared.target.Target as target
+use Rattle.comm_value.proofs.text.Text.TheSendSync as Text
+use Rattle.plain_target.proofs.Sends.{plain_sends}
+use Rattle.plain_target.specs.contracts.plain.PlainTarget as plain
+use Rattle.widget_target.proofs.Sends.{widget_sends}
+use Rattle.widget_target.specs.contracts.widget.WidgetTarget as widget
+use Rattle.comm_c.specs.Handle.{heap, handle_owns}
+use Rattle.comm_c.specs.Kept.{Kept}
+use Rattle.comm_c.specs.contracts.desk.Desk as desk
+use Rattle.comm_c.specs.contracts.handle.Handle as handle
+use Rattle.comm_c.specs.contracts.manager.Manager as manager
+use Rattle.comm_c.specs.contracts.manager.Manager.TheInside as inside
+use Rattle.comm_c.specs.contracts.stocked.Stocked as stocked
+
+comm_send : IsSend comm.the_row
+comm_send = search (sendable, crosses, dict_send, Text.the_send) depth 40
+
+comms_send : IsSend comms.the_row
+comms_send = search (sendable, crosses, comm_send, Text.the_send, Table.the_send, Infos.the_send) depth 40 fits 5000
+
+core_send : (T : RattleType) (t : target.Ghosts T.Denot) → IsSend T → IsSend (core.the_row T t)
+core_send T t s = search (sendable, crosses, comms_send, Boxes.the_send) depth 40
+
+-- a field of an enum or a struct, by a name of its own
+echo_field_send : IsSend (as_row echo.the_field)
+echo_field_send = echo_sends
+
+counter_field_send : IsSend (as_row counter.the_field)
+counter_field_send = counter_sends
+
+widget_field_send : IsSend (as_row widget.the_field)
+widget_field_send = widget_sends
+
+plain_field_send : IsSend (as_row plain.the_field)
+plain_field_send = plain_sends
+
+stocked_send : IsSend stocked.the_row
+stocked_send = variants_send stocked.enum (search (sendable, crosses, echo_field_send, counter_field_send, widget_field_send, plain_field_send) depth 40)
+
+desk_send : IsSend desk.the_row
+desk_send = search (sendable, crosses, stocked_send, core_send) depth 60 fits 20000
+
+desk_field_send : IsSend (as_row desk.the_field)
+desk_field_send = desk_send
+
+inside_send : IsSend inside.the_row
+inside_send = declared_send inside.the_type (
+  search (sendable, crosses, desk_field_send) depth 40,
+  (search (sendable, crosses) depth 40, (search (sendable, crosses) depth 40, (search (sendable, crosses) depth 40, tt))),
+)
+
+manager_send : IsSend manager.the_row
+manager_send = search (sendable, inside_send) depth 60 fits 20000
+
+-- what a handle owns says the same to every thread
+owned : (p : Ptr) (x : Option Kept) → Keyless (handle_owns manager.the_row p x)
+owned p None = tt
+owned p (Some k) = (lies manager.the_row manager_send p k, frees.frees heap (raw (lone manager.the_row.mir)) p)
+
+pub handle_send : IsSend handle.the_row
+handle_send =
+    let H = handle.the_type in let ps : IsSend RawPtr = search sendable in
+    owning_send H (ps, tt) (λ h. owned h.at h.value) (λ k. quiet (to H) (exits_of k (fields H)) ((struct_send (shape H) (ps, tt)).leaving k))

@@ -1,0 +1,5 @@
+use Rattle.comm_c.proofs.Turning.{scripts}
+use Rattle.comm_c.proofs.laws.lines_play_scripts.Goals as goal
+
+pub returns : goal.returns
+returns c = scripts c.exact_machines_leave_no_choice.ensures c.steps_keep_machines_exact.ensures c.replays_grow.ensures

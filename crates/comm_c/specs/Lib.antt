@@ -1,0 +1,11 @@
+pub mod Codes
+pub mod Desk
+pub mod Handle
+pub mod Kept
+pub mod KeptCode
+pub mod Left
+pub mod Legal
+pub mod Said
+pub mod Since
+pub mod Stocked
+pub mod Turns

@@ -1,0 +1,140 @@
+//! One line: a message of a frontend or a command of the kernel.
+ghost use Rattle.std.specs.Prelude.{◌≡◌, ◌==◌, ◌^◌, ◌<◌, [], true, OnOk, OnErr, option_map};
+ghost use Rattle.comm_messages.specs.declared.outgoing.Outgoing.TheVariants as out;
+ghost use Rattle.comm_messages.specs.declared.outgoing.Parent.TheVariants as parent;
+ghost use Rattle.comm_core.specs.Ready.{machine};
+ghost use Rattle.comm_core.specs.Reads.{infos, state_of};
+ghost use Rattle.comm_script.specs.Command.{HandsNothing};
+ghost use Rattle.comm_script.specs.Words.{out_line, state_line};
+ghost use Rattle.comm_c.specs.Desk.{IsWithin};
+ghost use Rattle.comm_c.specs.Left.{kind_of, left_of};
+ghost use Rattle.comm_c.specs.Turns.{Obeys, RegistersFrom, Turns};
+
+use crate::desk::Desk;
+use crate::left::kind_of;
+use comm_json::LineRoom;
+use comm_messages::{MessageFault, Outgoing, Parent};
+use comm_script::{
+    Asked, LineFault, StockKind, append_bad, append_out, append_state_line, asked_by_line, is_blank,
+};
+use comm_value::{Text, ValueFault};
+use std::alloc::{AllocError, Global};
+
+/// How many clients a line may name.
+const CLIENTS: u8 = 4;
+
+impl Desk {
+    // Says which comms are open.
+    fn infos(
+        &mut self,
+        alloc: Global,
+        client: u8,
+        target: Option<&Text>,
+        text: &mut Vec<u8>,
+    ) -> Result<(), AllocError>
+        requires empty { text.old.items ≡ [] }
+        ensures text { OnOk result (text.new.items ≡ out_line (out.InfoReply (infos (machine self.old.core) (option_map (λ t. t.now) target.entry))) (parent.Read client self.old.changes)) }
+        ensures same { self.new ≡ self.old }
+    {
+        let comms = self.core.listing(target)?;
+        let front = self.changes;
+        let message = Outgoing::InfoReply { comms };
+        let written = append_out(alloc, &message, &Parent::Read { client, front }, text);
+        drop(message);
+        written
+    }
+
+    // Says which state a comm has.
+    fn state(&self, alloc: Global, id: &Text, text: &mut Vec<u8>) -> Result<(), AllocError>
+        requires empty { text.old.items ≡ [] }
+        ensures { OnOk result (text.new.items ≡ state_line self.now.changes (state_of (machine self.now.core) id.now)) }
+    {
+        let answer = self.core.state(id)?;
+        let written = append_state_line(alloc, self.changes, &answer, text);
+        drop(answer);
+        written
+    }
+
+    // Registers a target of the kind, where one is left.
+    fn register_left(
+        &mut self,
+        alloc: Global,
+        number: u64,
+        client: u8,
+        kind: StockKind,
+        name: Text,
+        text: &mut Vec<u8>,
+    ) -> Result<(), AllocError>
+        requires client { client < 4 }
+        requires room { IsWithin (2 ^ 63) self.old }
+        requires settled { self.old.core.settled ≡ true }
+        requires empty { text.old.items ≡ [] }
+        ensures registers { OnOk result (RegistersFrom (left_of (kind_of kind) self.old.left == 0) self.old number client (kind_of kind) name self.new text.new.items) }
+        ensures settled { self.new.core.settled ≡ true }
+        ensures same { OnErr result (self.new ≡ self.old) }
+    {
+        let kind = kind_of(kind);
+        if self.left.of(kind) == 0 {
+            return append_bad(number, LineFault::NoStock, text);
+        }
+        self.register(alloc, client, kind, name, text)
+    }
+
+    // Does what a line asks for, and says what came of it.
+    fn obey(
+        &mut self,
+        alloc: Global,
+        number: u64,
+        client: u8,
+        asked: Asked,
+        text: &mut Vec<u8>,
+    ) -> Result<(), AllocError>
+        requires client { client < 4 }
+        requires room { IsWithin (2 ^ 63) self.old }
+        requires settled { self.old.core.settled ≡ true }
+        requires handless { HandsNothing asked }
+        requires empty { text.old.items ≡ [] }
+        ensures obeys { OnOk result (Obeys self.old number client asked self.new text.new.items) }
+        ensures settled { self.new.core.settled ≡ true }
+        ensures same { OnErr result (self.new ≡ self.old) }
+    {
+        match asked {
+            Asked::Change(call) => self.change(alloc, client, call, text),
+            Asked::Register { kind, name } => self.register_left(
+                alloc, number, client, kind, name, text,
+            ),
+            Asked::Infos { target } => self.infos(alloc, client, target.as_ref(), text),
+            Asked::State { id } => self.state(alloc, &id, text),
+        }
+    }
+
+    /// Plays the line of this number. An error says that memory ran out, and leaves everything as it was.
+    ///
+    /// The room in which a line is read is made anew for each: kept in the manager, its arena would bind it to one thread.
+    #[tactic(auto, unfolding(crate::specs::Turns::Turns))]
+    pub fn line(
+        &mut self,
+        alloc: Global,
+        number: u64,
+        line: &[u8],
+        text: &mut Vec<u8>,
+    ) -> Result<(), AllocError>
+        requires room { IsWithin (2 ^ 63) self.old }
+        requires settled { self.old.core.settled ≡ true }
+        requires empty { text.old.items ≡ [] }
+        ensures turns { OnOk result (Turns self.old number line.now self.new text.new.items) }
+        ensures settled { self.new.core.settled ≡ true }
+        ensures same { OnErr result (self.new ≡ self.old) }
+    {
+        if is_blank(line) {
+            return Ok(());
+        }
+        let mut room = LineRoom::new(alloc);
+        match asked_by_line(alloc, line, CLIENTS, &mut room) {
+            Ok((client, asked)) => self.obey(alloc, number, client, asked, text),
+            Err(LineFault::Message(MessageFault::Memory)) => Err(AllocError),
+            Err(LineFault::Value(ValueFault::Memory)) => Err(AllocError),
+            Err(fault) => append_bad(number, fault, text),
+        }
+    }
+}

@@ -1,0 +1,78 @@
+//! What is published, and since when it lists the same comms.
+ghost use Rattle.std.specs.Prelude.{◌≡◌, ◌^◌, ◌<◌, ◌++◌, ◌∷◌, [], length, false, MatchBool};
+ghost use Rattle.std.specs.Arc.{arc_value};
+ghost use Rattle.comm_core.specs.History.{IsLegal, replay};
+ghost use Rattle.comm_core.specs.Row.{rows};
+ghost use Rattle.comm_versions.specs.Known.{known, origin_of};
+ghost use Rattle.comm_versions.specs.Listing.{ListAlike};
+
+use crate::front::Front;
+use crate::history::{Head, History};
+use crate::rows::Rows;
+use crate::version::Version;
+use comm_core::Entry;
+use std::alloc::Global;
+use std::marker::Model;
+use std::sync::Arc;
+
+/// The front that is published, and a number of entries: after each beginning of more the same comms are listed. Contracts see the front.
+#[derive(Drop)]
+pub struct Published<J: History> {
+    front: Front<J>,
+    since: u64,
+}
+
+impl<J: History> Model for Published<J> {
+    ghost use Rattle.std.specs.Prelude.{List};
+    ghost use Rattle.comm_core.specs.declared.entry.Entry.{Entry};
+    ghost use Rattle.comm_versions.specs.Code.{entries_code};
+    ghost use Rattle.comm_versions.specs.Listing.{IsSettled};
+
+    ghost Value = { List Entry };
+
+    ghost coded = { entries_code };
+
+    ghost view = { λ p. p.front };
+
+    ghost invariant = { λ p. IsSettled J.limits.comms p.since p.front };
+}
+
+impl<J: History> Published<J> {
+    pub fn new(front: Front<J>) -> Published<J>
+        ensures { result ≡ front }
+    {
+        let since = front.len();
+        Published { front, since }
+    }
+
+    pub fn front(&self) -> &Front<J>
+        ensures { result.now ≡ self.now }
+    {
+        &self.front
+    }
+
+    /// Adds an entry, and says whether it did. It did not where the history is longer. The entry may list other comms where `relists` says so.
+    pub fn extend(&mut self, head: &Head<J>, entry: &Arc<Entry, Global>, relists: bool) -> bool
+        requires room { length self.old < 2 ^ 62 }
+        requires legal { IsLegal J.limits.clients J.limits.comms (self.old ++ arc_value entry.now ∷ []) }
+        requires lists { relists ≡ false → ListAlike (rows (replay J.limits.comms self.old)) (rows (replay J.limits.comms (self.old ++ arc_value entry.now ∷ []))) }
+        ensures { MatchBool result (self.new ≡ self.old ++ arc_value entry.now ∷ []) (self.new ≡ self.old) }
+    {
+        let before = self.front.len();
+        if !self.front.extend(head, entry) {
+            return false;
+        }
+        if relists {
+            self.since = before;
+        }
+        true
+    }
+
+    /// The version of these comms.
+    pub fn version(&self, root: Arc<Rows, Global>) -> Version
+        requires { arc_value root ≡ rows (replay J.limits.comms self.now) }
+        ensures { result.mark ≡ known (origin_of J.book J.limits) self.now }
+    {
+        Version::settled(root, self.since, self.front.mark().again())
+    }
+}

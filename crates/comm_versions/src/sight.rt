@@ -1,0 +1,104 @@
+//! What a reader has seen.
+ghost use Rattle.std.specs.Prelude.{◌≡◌, option_map, true, IfSome};
+ghost use mathlib.Core.List.{IsPrefix};
+ghost use Rattle.comm_core.specs.History.{replay};
+ghost use Rattle.comm_core.specs.Reads.{infos};
+ghost use Rattle.comm_versions.specs.Listing.{IsSettled};
+
+use crate::front::Front;
+use crate::history::History;
+use comm_messages::Infos;
+use comm_value::Text;
+use std::alloc::AllocError;
+use std::marker::Model;
+
+// A list of comms that was read after so many entries.
+#[derive(Drop)]
+struct Listing {
+    count: u64,
+    asked: Option<Text>,
+    comms: Infos,
+}
+
+/// The front that a reader has seen, and the list of comms that it read last. Contracts see the front.
+#[derive(Drop)]
+pub struct Sight<J: History> {
+    front: Front<J>,
+    last: Option<Listing>,
+}
+
+impl<J: History> Model for Sight<J> {
+    ghost use Rattle.std.specs.Prelude.{List, IfSome};
+    ghost use Rattle.comm_core.specs.declared.entry.Entry.{Entry};
+    ghost use Rattle.comm_versions.specs.Code.{entries_code};
+    ghost use Rattle.comm_versions.specs.Listing.{WasListed};
+
+    ghost Value = { List Entry };
+
+    ghost coded = { entries_code };
+
+    ghost view = { λ s. s.front };
+
+    ghost invariant = { λ s. IfSome s.last (λ l. WasListed J.limits.comms l.count l.asked l.comms s.front) };
+}
+
+// Whether both ask for the same comms.
+fn is_same(one: &Option<Text>, other: Option<&Text>) -> bool
+    ensures { result ≡ true → one.now ≡ option_map (λ t. t.now) other.entry }
+{
+    match (one, other) {
+        (None, None) => true,
+        (Some(one), Some(other)) => one == other,
+        _ => false,
+    }
+}
+
+impl<J: History> Sight<J> {
+    pub fn new(front: Front<J>) -> Sight<J>
+        ensures { result ≡ front }
+    {
+        Sight { front, last: None }
+    }
+
+    pub fn front(&self) -> &Front<J>
+        ensures { result.now ≡ self.now }
+    {
+        &self.front
+    }
+
+    /// Sees a front that begins with what was seen.
+    pub fn advance(&mut self, front: Front<J>)
+        requires { IsPrefix self.old front }
+        ensures { self.new ≡ front }
+    {
+        self.front = front;
+    }
+
+    /// The list that was read last, where it was of these comms and all beginnings after it list the same.
+    pub fn listed(&self, since: u64, asked: Option<&Text>) -> Option<&Infos>
+        requires { IsSettled J.limits.comms since self.now }
+        ensures { IfSome result (λ i. i.now ≡ infos (replay J.limits.comms self.now) (option_map (λ t. t.now) asked.entry)) }
+    {
+        match &self.last {
+            Some(last) if since < last.count && is_same(&last.asked, asked) => Some(&last.comms),
+            _ => None,
+        }
+    }
+
+    /// Keeps a list that was read after this front. Err: memory.
+    pub fn keep(&mut self, asked: Option<&Text>, comms: &Infos) -> Result<(), AllocError>
+        requires { comms.now ≡ infos (replay J.limits.comms self.old) (option_map (λ t. t.now) asked) }
+        ensures { self.new ≡ self.old }
+    {
+        let asked = match asked {
+            Some(name) => Some(name.copy()?),
+            None => None,
+        };
+        self.last = Some(Listing {
+            count: self.front.len(),
+            asked,
+            comms: comms.copy()?,
+        });
+        Ok(())
+    }
+}
