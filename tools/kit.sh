@@ -1,5 +1,5 @@
 # Sourced by ./play and ./check: asks for the Rattle kit that the proofs were made with.
-WANTED_KIT="rattle-kit-13b"
+WANTED_KIT="rattle-kit-13f"
 
 need_kit() {
   if ! command -v rt >/dev/null 2>&1; then
