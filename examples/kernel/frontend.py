@@ -1,15 +1,14 @@
 """A frontend over ZeroMQ, by jupyter_client: starts the kernel, sends what a notebook sends, and gathers what comes back."""
 
-import json
 import pathlib
-import sys
 import tempfile
 from typing import NamedTuple
 
 from jupyter_client import BlockingKernelClient, KernelManager
 from jupyter_client.kernelspec import KernelSpecManager
 
-HERE = pathlib.Path(__file__).resolve().parent
+import spec
+
 SECONDS = 120  # a machine may be busy with proofs
 
 
@@ -23,11 +22,10 @@ class Message(NamedTuple):
 class Frontend:
     def __init__(self):
         self.specs = tempfile.TemporaryDirectory()
-        spec = pathlib.Path(self.specs.name) / "proved"
-        spec.mkdir()
-        argv = [sys.executable, "-B", "-Xfrozen_modules=off", str(HERE / "kernel.py"), "-f", "{connection_file}"]
-        (spec / "kernel.json").write_text(json.dumps({"argv": argv, "display_name": "proved comms", "language": "python"}))
-        self.kernel = KernelManager(kernel_name="proved", kernel_spec_manager=KernelSpecManager(kernel_dirs=[self.specs.name]))
+        folder = pathlib.Path(self.specs.name) / spec.NAME
+        folder.mkdir()
+        spec.write(folder)
+        self.kernel = KernelManager(kernel_name=spec.NAME, kernel_spec_manager=KernelSpecManager(kernel_dirs=[self.specs.name]))
         self.kernel.start_kernel()
         self.client = self.connected()
 
