@@ -1,8 +1,8 @@
 """Calls a second from Python, beside ipykernel's own comm manager on the same messages in one run: bench.py LIBRARY [SECONDS]
 
-Each message comes as the wire has it, its header, metadata and content as JSON texts and its buffers as bytes; it is played; and what goes out is made into such
-parts again. ipykernel's widget keeps its state as ipywidgets does, without traits. SECONDS is how long each measurement takes (1), of which there are three, in
-turn; the best of each counts. /usr/bin/python3 has Debian's ipykernel.
+Each message comes as the wire has it, its header, metadata and content as JSON texts and its buffers as bytes; it is played; and what goes out is
+made into such parts again. ipykernel's widget keeps its state as ipywidgets does, without traits. SECONDS is how long each measurement takes (1), of
+which there are three, in turn; the best of each counts. /usr/bin/python3 has Debian's ipykernel.
 """
 
 import base64

@@ -49,6 +49,7 @@ def a_slider(front):
     came = front.send("comm_msg", {"comm_id": slider, "data": {"method": "request_state"}})
     state = {**opened.content["data"]["state"], "value": 10}
     check("the manager has the state", [got.content["data"] for got in came], [update(state)])
+    check("a slider with a fraction is refused", front.run("ipywidgets.FloatSlider()")[0], "CommRefused: comm_open: not_whole")
     check("a close in Python", [(got.kind, got.content["comm_id"]) for got in front.run("s.close()")[1]], [("comm_close", slider)])
 
 
