@@ -2,7 +2,7 @@
 
 import sys
 
-from comm import Manager, load
+from rolgunai import Manager, load
 
 
 def main(library: str, script: str) -> None:

@@ -7,7 +7,7 @@ import sys
 import threading
 from collections.abc import Callable
 
-from comm import ClosedError, CommError, Kind, Manager, Status, load
+from rolgunai import ClosedError, CommError, Kind, Manager, Status, load
 
 passed = failed = 0
 

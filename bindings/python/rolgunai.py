@@ -6,6 +6,8 @@
 
 A line and its answers are those of docs/FORMATS.md. One manager has one call at a time: threads that share one take a lock of
 their own. The library is built by tools/c_library, or by `load(path)` it is taken from elsewhere.
+
+The module isn't named `comm`, since ipykernel stands on one of that name.
 """
 
 from __future__ import annotations

@@ -1,0 +1,95 @@
+// What the header adds to the calls: errors as exceptions, texts longer than the buffer, frames, answers cut into lines, moves.
+// The last line is 'N passed, M failed', and so is the status.
+#include "comm.hpp"
+
+#include <array>
+#include <cstdio>
+#include <optional>
+#include <thread>
+#include <type_traits>
+
+static int passed, failed;
+
+static void check(bool holds, const char *what) {
+  if (holds) {
+    passed++;
+  } else {
+    failed++;
+    std::printf("FAILED: %s\n", what);
+  }
+}
+
+template <class Call> static std::optional<comm::status> status_of(Call call) {
+  try {
+    call();
+  } catch (const comm::error &error) {
+    return error.code();
+  }
+  return std::nullopt;
+}
+
+static void opening() {
+  comm::stock none;
+  none.comms = 0;
+  check(status_of([&] { comm::manager manager(none); }) == comm::status::bad_limit, "no comm");
+  none.comms = 4097;
+  check(status_of([&] { comm::manager manager(none); }) == comm::status::bad_limit, "too many comms");
+  static_assert(!std::is_copy_constructible_v<comm::manager>, "a handle isn't copied");
+}
+
+static void registering(comm::manager &manager) {
+  check(manager.register_target(comm::kind::plain, "mine é") == "reply 1 registered\n", "a plain target");
+  check(manager.register_target(comm::kind::widget, "mine é") == "reply 2 name_taken\n", "a taken name");
+  check(status_of([&] { manager.register_target(comm::kind::plain, "x"); }) == comm::status::no_stock, "no second plain target");
+  check(status_of([&] { manager.register_target(static_cast<comm::kind>(4), "x"); }) == comm::status::bad_kind, "a kind that isn't");
+  check(status_of([&] { manager.register_target(comm::kind::widget, "\xff"); }) == comm::status::bad_name, "a name that isn't UTF-8");
+  check(manager.register_target(comm::kind::widget, {}) == "reply 3 registered\n", "an empty name");
+}
+
+static void frames(comm::manager &manager) {
+  check(manager.message(R"({"msg_type":"comm_open"})", "{}", R"({"comm_id":"a","target_name":"mine é"})") == "reply 4 opened\n", "an open by its parts");
+  const std::array<std::uint8_t, 2> two{1, 2};
+  const std::string six = "\x89PNG\r\n";
+  const std::vector<std::byte> four(4, std::byte{255});
+  const std::string_view said =
+      manager.message(R"({"msg_type":"comm_msg"})", "{}", R"({"comm_id":"a","data":{"x":1}})", {two, {}, six, four});
+  check(said == "reply 5 custom {\"buffers\":[\"AQI=\",\"\",\"iVBORw0K\",\"/////w==\"],\"content\":{\"x\":1}}\n", "frames of many types");
+}
+
+static void answers(comm::manager &manager) {
+  const std::vector<comm::answer> found = comm::answers(manager.line(R"({"call":"send","id":"a","data":{"y":"\n "}})"));
+  check(found.size() == 2 && found[0].word == "reply" && found[0].number == 6 && found[0].words == "delivered", "a reply");
+  check(found.size() == 2 && found[1].word == "out" && found[1].words.substr(0, 14) == "{\"buffers\":[],", "what goes out");
+  const std::vector<comm::answer> bad = comm::answers(manager.line("{"));
+  check(bad.size() == 1 && bad[0].word == "bad" && bad[0].number == 7 && bad[0].words == "not_json", "a bad line");
+  check(manager.line("").empty() && manager.line({}).empty() && comm::answers("").empty(), "an empty line says nothing");
+}
+
+static void long_texts(comm::manager &manager) {
+  const std::string text(100000, 'x');
+  const std::string wanted = "reply 7 custom {\"buffers\":[],\"content\":{\"k\":\"" + text + "\"}}\n";
+  check(manager.message(R"({"msg_type":"comm_msg"})", "{}", R"({"comm_id":"a","data":{"k":")" + text + "\"}}") == wanted, "a long text");
+  check(manager.text() == wanted, "the same again");
+}
+
+static void moves(comm::manager manager) {
+  comm::manager other;
+  other = std::move(manager);
+  check(status_of([&] { manager.line("{}"); }) == comm::status::closed, "one that was moved from");
+  std::thread([&] { check(other.line(R"({"call":"hang_up","id":"nobody"})") == "reply 8 no_comm\n", "another thread"); }).join();
+  other.end();
+  check(status_of([&] { other.text(); }) == comm::status::closed, "after the end");
+  check(status_of([&] { other.end(); }) == comm::status::closed, "a second end");
+}
+
+int main() {
+  opening();
+  comm::manager manager(comm::stock{0, 0, 1, 1});
+  registering(manager);
+  frames(manager);
+  answers(manager);
+  long_texts(manager);
+  moves(std::move(manager));
+  std::printf("%d passed, %d failed\n", passed, failed);
+  return failed != 0;
+}

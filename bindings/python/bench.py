@@ -1,0 +1,180 @@
+"""Calls a second from Python, beside ipykernel's own comm manager on the same messages in one run: bench.py LIBRARY [SECONDS]
+
+Each message comes as the wire has it, its header, metadata and content as JSON texts and its buffers as bytes; it is played; and what goes out is
+made into such parts again. ipykernel's widget keeps its state as ipywidgets does, without traits. SECONDS is how long each measurement takes (1), of
+which there are three, in turn; the best of each counts. /usr/bin/python3 has Debian's ipykernel.
+"""
+
+import base64
+import json
+import logging
+import sys
+import time
+
+from rolgunai import Kind, Manager, load
+
+dumps = json.JSONEncoder(separators=(",", ":"), ensure_ascii=False).encode
+OPEN, MSG = b'{"msg_type":"comm_open"}', b'{"msg_type":"comm_msg"}'
+VERSION = b'{"version":"2.1.0"}'
+
+
+class Lines:
+    """The library, by lines: the parts are put together as they are, and JSON is read where something goes out."""
+
+    def __init__(self, library):
+        self.manager = Manager(widget=1, plain=1, library=library)
+        self.manager.register(Kind.WIDGET, "jupyter.widget")
+        self.manager.register(Kind.PLAIN, "plain")
+
+    def play(self, header, metadata, content, buffers):
+        texts = b",".join(b'"%s"' % base64.b64encode(buffer) for buffer in buffers)
+        answer = self.manager.line(b'{"header":%s,"metadata":%s,"content":%s,"buffers":[%s]}' % (header, metadata, content, texts))
+        sent, heard = [], None
+        for said in answer.splitlines():
+            word, rest = said.split(b" ", 1)
+            if word == b"out":
+                out = json.loads(rest)
+                sent.append((dumps(out["content"]), [base64.b64decode(text) for text in out["buffers"]]))
+            elif rest.split(b" ", 2)[1] == b"custom":
+                # For the kernel, which has the message in hand.
+                heard = json.loads(content)["data"], buffers
+        return sent, heard
+
+
+def separated(value, path, paths, buffers):
+    """A state without its bytes, as ipywidgets takes them out."""
+    if isinstance(value, dict):
+        kept = {}
+        for key, item in value.items():
+            if isinstance(item, bytes):
+                paths.append([*path, key])
+                buffers.append(item)
+            else:
+                kept[key] = separated(item, [*path, key], paths, buffers)
+        return kept
+    return value
+
+
+class Widget:
+    def __init__(self, comm, message):
+        self.comm, self.state = comm, message["content"]["data"]["state"]
+        self.place(self.state, message)
+        comm.on_msg(self.hear)
+
+    def place(self, state, message):
+        for path, buffer in zip(message["content"]["data"]["buffer_paths"], message["buffers"]):
+            at = state
+            for step in path[:-1]:
+                at = at[step]
+            at[path[-1]] = buffer
+
+    def hear(self, message):
+        data = message["content"]["data"]
+        if data["method"] == "update":
+            self.place(data["state"], message)
+            self.state.update(data["state"])
+        else:
+            paths, buffers = [], []
+            state = separated(self.state, [], paths, buffers)
+            self.comm.send({"method": "update", "state": state, "buffer_paths": paths}, buffers=buffers)
+
+
+class Ipykernel:
+    """ipykernel's manager and comms in a kernel that sends nothing over a socket."""
+
+    def __init__(self):
+        from ipykernel.comm import CommManager
+        from ipykernel.kernelbase import Kernel
+        from jupyter_client.session import Session
+
+        sent = self.sent = []
+
+        class Sends(Session):
+            def send(self, stream, kind, content=None, parent=None, ident=None, buffers=None, track=False, header=None, metadata=None):
+                sent.append((dumps(content), buffers or []))
+
+        class Alone(Kernel):
+            shell, implementation, language, banner = None, "bench", "none", ""
+
+            def get_parent(self, channel=None):
+                return {}
+
+        log = logging.getLogger("bench")
+        kernel = Alone(session=Sends(key=b""), log=log)
+        Kernel._instance = Alone._instance = kernel
+        self.manager = kernel.comm_manager = CommManager(kernel=kernel, parent=kernel, log=log)
+        self.manager.register_target("jupyter.widget", Widget)
+        self.manager.register_target("plain", lambda comm, message: comm.on_msg(self.hear))
+
+    def hear(self, message):
+        self.heard = message["content"]["data"], message["buffers"]
+
+    def play(self, header, metadata, content, buffers):
+        self.sent.clear()
+        self.heard = None
+        message = {"header": json.loads(header), "metadata": json.loads(metadata), "content": json.loads(content), "buffers": buffers}
+        if message["header"]["msg_type"] == "comm_open":
+            self.manager.comm_open(None, None, message)
+        else:
+            self.manager.comm_msg(None, None, message)
+        return self.sent, self.heard
+
+
+def opening(buffers):
+    """What is played first: a slider, whose state has the buffers, and a comm of a kernel's own."""
+    keys = {f"key_{n}": n for n in range(20)}
+    state = {**keys, "value": 1, "picture": {}}
+    data = {"state": state, "buffer_paths": [["picture", "png"]][: len(buffers)]}
+    widget = {"comm_id": "widget", "target_name": "jupyter.widget", "data": data}
+    yield OPEN, VERSION, dumps(widget).encode(), buffers
+    yield OPEN, b"{}", dumps({"comm_id": "plain", "target_name": "plain", "data": {}}).encode(), []
+
+
+def workloads(buffers):
+    paths = [["picture", "png"]][: len(buffers)]
+    state = {"value": 7, "picture": {}} if buffers else {"value": 7}
+    for name, comm, data, sent in (
+        ("update", "widget", {"method": "update", "state": state, "buffer_paths": paths}, buffers),
+        ("request_state", "widget", {"method": "request_state"}, []),
+        ("comm of one's own", "plain", {"event": "mouse", "x": 10, "y": 20}, buffers),
+    ):
+        yield name, (MSG, b"{}", dumps({"comm_id": comm, "data": data}).encode(), sent)
+
+
+def same(one, other):
+    """Whether two managers said the same: the JSON of what went out, its bytes, and what the kernel heard."""
+    (sent, heard), (other_sent, other_heard) = one, other
+    parts = [[(json.loads(content), [bytes(b) for b in buffers]) for content, buffers in list(out)] for out in (sent, other_sent)]
+    return parts[0] == parts[1] and heard == other_heard
+
+
+def a_second(manager, parts, seconds):
+    """How many calls a second are made."""
+    calls, began = 0, time.perf_counter()
+    while True:
+        for _ in range(100):
+            manager.play(*parts)
+        calls += 100
+        took = time.perf_counter() - began
+        if took >= seconds:
+            return calls / took
+
+
+def main(path, seconds=1.0):
+    logging.disable(logging.CRITICAL)
+    library = load(path)
+    print(f"{'calls a second':20} {'buffer':>7} {'library':>10} {'ipykernel':>10}  ratio")
+    for size in (0, 1024, 65536):
+        buffers = [bytes(n % 251 for n in range(size))] if size else []
+        managers = [Lines(library), Ipykernel()]
+        for parts in opening(buffers):
+            for manager in managers:
+                manager.play(*parts)
+        for name, parts in workloads(buffers):
+            assert same(*(manager.play(*parts) for manager in managers)), (name, size)
+            best = [max(counts) for counts in zip(*([a_second(manager, parts, seconds) for manager in managers] for _ in range(3)))]
+            print(f"{name:20} {size:7} {best[0]:10.0f} {best[1]:10.0f} {best[0] / best[1]:6.2f}", flush=True)
+
+
+if __name__ == "__main__":
+    main(sys.argv[1], *map(float, sys.argv[2:]))

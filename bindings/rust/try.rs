@@ -1,0 +1,79 @@
+//! What the wrapper adds to the calls: errors, texts longer than the buffer, answers cut into lines, another thread, the drop.
+//! The last line is 'N passed, M failed', and so is the status.
+
+mod comm;
+
+use comm::{answers, Answer, Error, Kind, Manager, Stock};
+use std::process::ExitCode;
+
+#[derive(Default)]
+struct Checks {
+    passed: u32,
+    failed: u32,
+}
+
+impl Checks {
+    fn check(&mut self, what: &str, holds: bool) {
+        if holds {
+            self.passed += 1;
+        } else {
+            self.failed += 1;
+            println!("FAILED: {what}");
+        }
+    }
+}
+
+fn opening(checks: &mut Checks) {
+    let limited = |comms| Manager::open(Stock { comms, ..Stock::default() }).err();
+    checks.check("no comm", limited(0) == Some(Error::BadLimit));
+    checks.check("too many comms", limited(4097) == Some(Error::BadLimit));
+    checks.check("one comm", limited(1).is_none());
+}
+
+fn registering(checks: &mut Checks, manager: &mut Manager) {
+    checks.check("a plain target", manager.register(Kind::Plain, "mine é") == Ok(b"reply 1 registered\n"));
+    checks.check("a taken name", manager.register(Kind::Widget, "mine é") == Ok(b"reply 2 name_taken\n"));
+    checks.check("no second plain target", manager.register(Kind::Plain, "x") == Err(Error::NoStock));
+    for kind in [Kind::Echo, Kind::Counter] {
+        checks.check("no stock", manager.register(kind, "x") == Err(Error::NoStock));
+    }
+    checks.check("an empty name", manager.register(Kind::Widget, "") == Ok(b"reply 3 registered\n"));
+}
+
+fn lines(checks: &mut Checks, manager: &mut Manager) {
+    let open = r#"{"header":{"msg_type":"comm_open"},"content":{"comm_id":"a","target_name":"mine é"}}"#;
+    checks.check("an open", manager.line(open.as_bytes()) == Ok(b"reply 4 opened\n"));
+    let sent = manager.line(br#"{"call":"send","id":"a","data":{"y":"\n "}}"#).map(|text| answers(text).collect::<Vec<_>>());
+    let sends = matches!(sent.as_deref(), Ok([Answer::Reply(5, "delivered"), Answer::Out(json)]) if json.starts_with(r#"{"buffers":[],"#));
+    checks.check("a reply, and what goes out", sends);
+    let read = manager.line(br#"{"call":"state","id":"a"}"#).map(|text| answers(text).collect::<Vec<_>>());
+    checks.check("a state", read.as_deref() == Ok(&[Answer::State(5, "no_state")]));
+    let bad = manager.line(b"{").map(|text| answers(text).collect::<Vec<_>>());
+    checks.check("a bad line", bad.as_deref() == Ok(&[Answer::Bad(7, "not_json")]));
+    checks.check("an empty line says nothing", manager.line(b"") == Ok(b""));
+}
+
+fn long_texts(checks: &mut Checks, manager: &mut Manager) {
+    let text = "x".repeat(100_000);
+    let line = format!(r#"{{"header":{{"msg_type":"comm_msg"}},"content":{{"comm_id":"a","data":{{"k":"{text}"}}}}}}"#);
+    let wanted = format!("reply 6 custom {{\"buffers\":[],\"content\":{{\"k\":\"{text}\"}}}}\n");
+    checks.check("a long text", manager.line(line.as_bytes()) == Ok(wanted.as_bytes()));
+    checks.check("the same again", manager.text() == Ok(wanted.as_bytes()));
+}
+
+fn main() -> ExitCode {
+    let mut checks = Checks::default();
+    opening(&mut checks);
+    match Manager::open(Stock { plain: 1, ..Stock::default() }) {
+        Err(error) => checks.check(&format!("an open: {error}"), false),
+        Ok(mut manager) => {
+            registering(&mut checks, &mut manager);
+            lines(&mut checks, &mut manager);
+            long_texts(&mut checks, &mut manager);
+            let elsewhere = std::thread::spawn(move || manager.line(br#"{"call":"hang_up","id":"nobody"}"#) == Ok(b"reply 7 no_comm\n"));
+            checks.check("another thread, which drops it", elsewhere.join().unwrap_or(false));
+        }
+    }
+    println!("{} passed, {} failed", checks.passed, checks.failed);
+    ExitCode::from(u8::from(checks.failed != 0))
+}

@@ -1,0 +1,80 @@
+"""A frontend over ZeroMQ, by jupyter_client: starts the kernel, sends what a notebook sends, and gathers what comes back."""
+
+import pathlib
+import tempfile
+from typing import NamedTuple
+
+from jupyter_client import BlockingKernelClient, KernelManager
+from jupyter_client.kernelspec import KernelSpecManager
+
+import spec
+
+SECONDS = 120  # a machine may be busy with proofs
+
+
+class Message(NamedTuple):
+    kind: str
+    content: dict
+    metadata: dict
+    buffers: list
+
+
+class Frontend:
+    def __init__(self):
+        self.specs = tempfile.TemporaryDirectory()
+        folder = pathlib.Path(self.specs.name) / spec.NAME
+        folder.mkdir()
+        spec.write(folder)
+        self.kernel = KernelManager(kernel_name=spec.NAME, kernel_spec_manager=KernelSpecManager(kernel_dirs=[self.specs.name]))
+        self.kernel.start_kernel()
+        self.client = self.connected()
+
+    def connected(self):
+        """A client with a session of its own, as another browser tab has."""
+        client = BlockingKernelClient(connection_file=self.kernel.connection_file, parent=self.kernel)
+        client.load_connection_file()
+        client.start_channels()
+        client.wait_for_ready(timeout=SECONDS)
+        return client
+
+    def send(self, kind, content, metadata=None, buffers=None):
+        """Sends on the shell channel. Gives what comes of it on iopub, until the kernel is idle."""
+        sent = self.client.session.msg(kind, content, metadata=metadata or {})
+        self.client.session.send(self.client.shell_channel.socket, sent, buffers=buffers)
+        came = []
+        while True:
+            got = self.client.get_iopub_msg(timeout=SECONDS)
+            if got["parent_header"].get("msg_id") != sent["header"]["msg_id"]:
+                continue
+            if got["msg_type"] == "status" and got["content"]["execution_state"] == "idle":
+                return came
+            if got["msg_type"] not in ("status", "execute_input"):
+                came.append(Message(got["msg_type"], got["content"], got["metadata"], [bytes(frame) for frame in got["buffers"]]))
+
+    def run(self, code):
+        """Runs a cell. Gives what it prints, with the error that it ends in, and the comms' messages."""
+        came = self.send("execute_request", {"code": code, "silent": False})
+        printed = "".join(got.content["text"] for got in came if got.kind == "stream")
+        printed += "".join(f"{got.content['ename']}: {got.content['evalue']}" for got in came if got.kind == "error")
+        return printed, [got for got in came if got.kind.startswith("comm_")]
+
+    def info(self, target=None, client=None):
+        """The open comms and their targets, as comm_info_reply has them."""
+        client = client or self.client
+        sent = client.session.msg("comm_info_request", {} if target is None else {"target_name": target})
+        client.session.send(client.shell_channel.socket, sent)
+        while True:
+            got = client.get_shell_msg(timeout=SECONDS)
+            if got["parent_header"].get("msg_id") == sent["header"]["msg_id"]:
+                return {comm_id: comm["target_name"] for comm_id, comm in got["content"]["comms"].items()}
+
+    def kill(self):
+        """Kills the kernel's process, and starts another."""
+        self.client.stop_channels()
+        self.kernel.restart_kernel(now=True)
+        self.client = self.connected()
+
+    def end(self):
+        self.client.stop_channels()
+        self.kernel.shutdown_kernel(now=True)
+        self.specs.cleanup()
