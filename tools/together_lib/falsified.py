@@ -206,7 +206,9 @@ def read_told_as_change(run, asked, chance):
 
 
 def seen_shorter(run, asked, chance):
-    it = one(chance, (it for it in run.answers if it.before > 0))
+    """Where something was heard, one less may have been heard as well."""
+    pairs = zip(run.answers, run.answers[1:])
+    it = one(chance, (it for last, it in pairs if last.client == it.client and 0 < it.before == last.after))
     it.before -= 1
     return True
 
