@@ -1,8 +1,6 @@
 // Lets threads loose on a script of comm messages and commands, and tells all that anybody saw.
 #![tactic(auto)]
 
-ghost use Rattle.std.specs.Prelude.{◌≡◌};
-
 mod account;
 mod desk;
 mod limits;

@@ -260,7 +260,7 @@ impl<J: Naming> Player<J> {
         Ok(())
     }
 
-    // Plays these lines.
+    // Plays these lines. After each one the others may come, on one processor too.
     fn play_all<T: Target, R: Wait>(
         &mut self,
         rt: &R,

@@ -1,5 +1,5 @@
 //! What a line of the script asks of its client's thread.
-ghost use Rattle.std.specs.Prelude.{◌≡◌, ◌<◌, IfOk};
+ghost use Rattle.std.specs.Prelude.{◌<◌, IfOk};
 ghost use Rattle.comm_script.specs.Command.{HandsNothing};
 
 use crate::limits::CLIENTS;
