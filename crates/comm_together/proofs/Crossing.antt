@@ -1,12 +1,7 @@
 -- A client with its lines may go to a thread, and threads may share what lies on the desk.
 use denote.RattleType.{RattleType}
 use denote.Param.Send.{IsSend, IsSync, sendable}
-use denote.Param.SendFields.{variants_send}
 use Rattle.std.proofs.Crossing.{crosses}
-use Rattle.comm_value.proofs.text.Text.TheSendSync as Text
-use Rattle.comm_core.proofs.Crossing.{call_field_send}
-use Rattle.comm_script.specs.contracts.asked.Asked as asked
-use Rattle.comm_script.specs.contracts.asked.LineFault as fault
 use Rattle.comm_script.specs.contracts.stock.Stock as stock
 use Rattle.comm_targets.specs.declared.target.Target as target
 use Rattle.comm_versions.proofs.stamp.Stamp.TheSendSync as Stamp
@@ -15,18 +10,12 @@ use Rattle.comm_manager.specs.declared.naming.Naming as naming
 use Rattle.comm_manager.proofs.Crossing.{client_send}
 use Rattle.comm_together.specs.contracts.account.Account as account
 use Rattle.comm_together.specs.contracts.desk.Desk as desk
+use Rattle.comm_together.specs.contracts.script.Line as line
 use Rattle.comm_together.specs.contracts.threads.Part as part
 use Rattle.comm_together.specs.contracts.threads.Parts as parts
-use Rattle.comm_together.specs.contracts.turn.Turn as turn
 
-pub asked_send : IsSend asked.the_row
-asked_send = variants_send asked.enum (search (sendable, crosses, call_field_send, Text.the_send) depth 40)
-
-pub fault_send : IsSend fault.the_row
-fault_send = search (sendable, crosses) depth 40
-
-pub turn_send : IsSend turn.the_row
-turn_send = search (sendable, crosses, asked_send, fault_send) depth 40
+pub line_send : IsSend line.the_row
+line_send = search (sendable, crosses) depth 40
 
 pub account_send : IsSend account.the_row
 account_send = search (sendable, crosses) depth 40
@@ -36,7 +25,7 @@ stock_send T t s = search (sendable, crosses) depth 40
 
 module _ (J : RattleType) (n : naming.Ghosts J.Denot) (h : history.Ghosts J.Denot) (sj : IsSend J) (yj : IsSync J) where
   pub part_send : IsSend (part.the_row J n h)
-  part_send = let l = client_send J n h sj yj in search (sendable, crosses, turn_send) depth 40
+  part_send = let l = client_send J n h sj yj in search (sendable, crosses, line_send) depth 40
 
   pub parts_send : IsSend (parts.the_row J n h)
   parts_send = let p = part_send in search (sendable, crosses) depth 40

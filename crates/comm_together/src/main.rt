@@ -5,10 +5,10 @@ mod account;
 mod desk;
 mod limits;
 mod player;
+mod reading;
 mod running;
 mod script;
 mod threads;
-mod turn;
 mod words;
 
 use crate::running::run;

@@ -4,9 +4,11 @@ ghost use Rattle.comm_script.specs.Command.{HandsNothing};
 
 use crate::account::Account;
 use crate::desk::Desk;
-use crate::turn::Turn;
+use crate::reading::{asked_of, heard};
+use crate::script::Line;
 use crate::words::{append_history_full, append_seen};
 use comm_core::{Call, Unavailable};
+use comm_json::LineRoom;
 use comm_manager::{Answered, Client, Manager, Naming, ReadFault, Stamp};
 use comm_messages::{Outgoing, Parent};
 use comm_script::{
@@ -18,11 +20,12 @@ use comm_value::Text;
 use std::sync::Wait;
 use std::thread::yield_now;
 
-/// A client, and what is told of its lines so far.
+// A client, what is told of its lines so far, and the room to read one.
 #[derive(Drop)]
-pub struct Player<J: Naming> {
-    pub client: Client<J>,
-    pub account: Account,
+struct Player<J: Naming> {
+    client: Client<J>,
+    account: Account,
+    room: LineRoom,
 }
 
 // What came of a line.
@@ -236,28 +239,56 @@ impl<J: Naming> Player<J> {
         unreachable!()
     }
 
-    // Plays a line. What it had seen before counts what it has just heard.
+    // Notes what was said to a line.
+    fn note<T: Target>(
+        &mut self,
+        desk: &Desk<J, T>,
+        line: u64,
+        before: u64,
+        said: &[u8],
+    ) -> Result<(), RunFault> {
+        let after = self.client.seen();
+        let text = &mut self.account.text;
+        append_seen(desk.alloc, line, self.client.id(), before, after, text)?;
+        text.extend_from_slice(said)?;
+        Ok(())
+    }
+
+    // Hears whom a line names.
+    fn listen<T: Target, R: Wait>(
+        &mut self,
+        rt: &R,
+        desk: &Desk<J, T>,
+        text: &[u8],
+    ) -> Result<(), RunFault> {
+        if let Some(other) = heard(text, &mut self.room)? {
+            desk.hear(rt, &mut self.client, other);
+        }
+        Ok(())
+    }
+
+    // Plays a line. What the client had seen before counts what it has just heard.
     fn play<T: Target, R: Wait>(
         &mut self,
         rt: &R,
         manager: &Manager<J, T>,
         desk: &Desk<J, T>,
-        turn: &Turn,
+        line: &Line,
     ) -> Result<(), RunFault> {
-        if let Some(other) = turn.hears {
-            desk.hear(rt, &mut self.client, other);
-        }
-        let before = self.client.seen();
         let mut said = Vec::new(desk.alloc);
-        match &turn.asks {
-            Ok(asked) => self.insist(rt, manager, desk, turn.line, asked, &mut said)?,
-            Err(fault) => append_bad(turn.line, *fault, &mut said)?,
+        match asked_of(desk.alloc, &line.text, &mut self.room)? {
+            Ok((_client, asked)) => {
+                self.listen(rt, desk, &line.text)?;
+                let before = self.client.seen();
+                self.insist(rt, manager, desk, line.number, &asked, &mut said)?;
+                self.note(desk, line.number, before, &said)
+            }
+            Err(fault) => {
+                let before = self.client.seen();
+                append_bad(line.number, fault, &mut said)?;
+                self.note(desk, line.number, before, &said)
+            }
         }
-        let after = self.client.seen();
-        let text = &mut self.account.text;
-        append_seen(desk.alloc, turn.line, self.client.id(), before, after, text)?;
-        text.extend_from_slice(&said)?;
-        Ok(())
     }
 
     // Plays these lines. After each one the others may come, on one processor too.
@@ -266,10 +297,10 @@ impl<J: Naming> Player<J> {
         rt: &R,
         manager: &Manager<J, T>,
         desk: &Desk<J, T>,
-        turns: &[Turn],
+        lines: &[Line],
     ) -> Result<(), RunFault> {
-        for turn in turns {
-            self.play(rt, manager, desk, turn)?;
+        for line in lines {
+            self.play(rt, manager, desk, line)?;
             yield_now();
         }
         Ok(())
@@ -285,15 +316,20 @@ pub(crate) fn played<J: Naming, T: Target, R: Wait>(
     manager: &Manager<J, T>,
     desk: &Desk<J, T>,
     client: Client<J>,
-    turns: &[Turn],
+    lines: &[Line],
 ) -> Back<J> {
     let mut player = Player {
         client,
         account: Account::new(desk.alloc),
+        room: LineRoom::new(desk.alloc),
     };
     desk.begin();
-    let done = player.play_all(rt, manager, desk, turns);
-    let Player { client, account } = player;
+    let done = player.play_all(rt, manager, desk, lines);
+    let Player {
+        client,
+        account,
+        room: _room,
+    } = player;
     match done {
         Ok(()) => (client, Ok(account)),
         Err(fault) => (client, Err(fault)),

@@ -25,24 +25,24 @@ use std::thread::Threads;
 // The clients with their lines. A manager opens with as many as its limits say.
 fn parts_of<J: Naming>(clients: Vec<Client<J>>, script: Script) -> Result<Parts<J>, RunFault> {
     let mut clients = clients;
-    let [zero, one, two, three] = script.into_turns();
+    let [zero, one, two, three] = script.into_lines();
     match (clients.pop(), clients.pop(), clients.pop(), clients.pop()) {
         (Some(fourth), Some(third), Some(second), Some(first)) => Ok(Parts {
             first: Part {
                 client: first,
-                turns: zero,
+                lines: zero,
             },
             second: Part {
                 client: second,
-                turns: one,
+                lines: one,
             },
             third: Part {
                 client: third,
-                turns: two,
+                lines: two,
             },
             fourth: Part {
                 client: fourth,
-                turns: three,
+                lines: three,
             },
         }),
         _ => Err(RunFault::NoReader),

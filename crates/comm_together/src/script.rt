@@ -1,17 +1,26 @@
 //! A script, taken apart by clients.
-use crate::turn::{Turn, turn_of};
+ghost use Rattle.std.specs.Prelude.{◌<◌, IfOk};
+
+use crate::reading::asked_of;
 use comm_json::LineRoom;
 use comm_script::{RunFault, is_blank, split_line};
 use std::alloc::Global;
 use std::io::{ErrorKind, Read};
 
-/// What each client is to do, in the order of its lines.
+/// A line that isn't blank, by its number in the script, from 1.
+#[derive(Drop)]
+pub struct Line {
+    pub number: u64,
+    pub text: Vec<u8>,
+}
+
+/// Each client's lines, in their order.
 #[derive(Drop)]
 pub struct Script {
     alloc: Global,
     room: LineRoom,
-    lines: u64,
-    turns: [Vec<Turn>; 4],
+    count: u64,
+    lines: [Vec<Line>; 4],
 }
 
 impl Script {
@@ -19,8 +28,8 @@ impl Script {
         Script {
             alloc,
             room: LineRoom::new(alloc),
-            lines: 0,
-            turns: [
+            count: 0,
+            lines: [
                 Vec::new(alloc),
                 Vec::new(alloc),
                 Vec::new(alloc),
@@ -29,19 +38,34 @@ impl Script {
         }
     }
 
+    // Whose a line is. One that can't be read is client 0's.
+    fn whose(&mut self, text: &[u8]) -> Result<u8, RunFault>
+        ensures { IfOk result (λ client. client < 4) }
+    {
+        match asked_of(self.alloc, text, &mut self.room)? {
+            Ok((client, _asked)) => Ok(client),
+            Err(_) => Ok(0),
+        }
+    }
+
     // The next line; a blank one is only counted.
-    fn add(&mut self, line: &[u8]) -> Result<(), RunFault> {
-        self.lines = self.lines.saturating_add(1);
-        if is_blank(line) {
+    fn add(&mut self, text: &[u8]) -> Result<(), RunFault> {
+        self.count = self.count.saturating_add(1);
+        if is_blank(text) {
             return Ok(());
         }
-        let (client, turn) = turn_of(self.alloc, self.lines, line, &mut self.room)?;
-        self.turns[usize::from(client)].push(turn)?;
+        let client = self.whose(text)?;
+        let mut copy = Vec::new(self.alloc);
+        copy.extend_from_slice(text)?;
+        self.lines[usize::from(client)].push(Line {
+            number: self.count,
+            text: copy,
+        })?;
         Ok(())
     }
 
-    pub(crate) fn into_turns(self) -> [Vec<Turn>; 4] {
-        self.turns
+    pub(crate) fn into_lines(self) -> [Vec<Line>; 4] {
+        self.lines
     }
 }
 

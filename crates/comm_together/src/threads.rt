@@ -1,7 +1,7 @@
 //! All clients at work at once, beside a thread that takes what goes out.
 use crate::desk::Desk;
 use crate::player::{Back, played};
-use crate::turn::Turn;
+use crate::script::Line;
 use comm_manager::{Client, Manager, Naming, Publisher};
 use comm_targets::Target;
 use std::sync::Wait;
@@ -14,7 +14,7 @@ pub const THREADS: u64 = 5;
 #[derive(Drop)]
 pub struct Part<J: Naming> {
     pub client: Client<J>,
-    pub turns: Vec<Turn>,
+    pub lines: Vec<Line>,
 }
 
 /// The parts of all clients, in the order of their numbers.
@@ -36,8 +36,8 @@ fn alone<J: Naming, T: Target, R: Wait>(
     desk: &Desk<J, T>,
     part: Part<J>,
 ) -> Back<J> {
-    let Part { client, turns } = part;
-    played(rt, manager, desk, client, &turns)
+    let Part { client, lines } = part;
+    played(rt, manager, desk, client, &lines)
 }
 
 fn both<J: Naming + Send + Sync, T: Target, R: Threads + Wait + Sync>(
