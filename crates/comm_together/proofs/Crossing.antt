@@ -1,15 +1,11 @@
--- A client with its lines may go to a thread, and threads may share what lies on the desk.
+-- A client with its lines may go to a thread.
 use denote.RattleType.{RattleType}
 use denote.Param.Send.{IsSend, IsSync, sendable}
 use Rattle.std.proofs.Crossing.{crosses}
-use Rattle.comm_script.specs.contracts.stock.Stock as stock
-use Rattle.comm_targets.specs.declared.target.Target as target
-use Rattle.comm_versions.proofs.stamp.Stamp.TheSendSync as Stamp
 use Rattle.comm_versions.specs.declared.history.History as history
 use Rattle.comm_manager.specs.declared.naming.Naming as naming
 use Rattle.comm_manager.proofs.Crossing.{client_send}
 use Rattle.comm_together.specs.contracts.account.Account as account
-use Rattle.comm_together.specs.contracts.desk.Desk as desk
 use Rattle.comm_together.specs.contracts.script.Line as line
 use Rattle.comm_together.specs.contracts.threads.Part as part
 use Rattle.comm_together.specs.contracts.threads.Parts as parts
@@ -20,15 +16,9 @@ line_send = search (sendable, crosses) depth 40
 pub account_send : IsSend account.the_row
 account_send = search (sendable, crosses) depth 40
 
-pub stock_send : (T : RattleType) (t : target.Ghosts T.Denot) → IsSend T → IsSend (stock.the_row T t)
-stock_send T t s = search (sendable, crosses) depth 40
-
 module _ (J : RattleType) (n : naming.Ghosts J.Denot) (h : history.Ghosts J.Denot) (sj : IsSend J) (yj : IsSync J) where
   pub part_send : IsSend (part.the_row J n h)
   part_send = let l = client_send J n h sj yj in search (sendable, crosses, line_send) depth 40
 
   pub parts_send : IsSend (parts.the_row J n h)
   parts_send = let p = part_send in search (sendable, crosses) depth 40
-
-  pub desk_sync : (T : RattleType) (t : target.Ghosts T.Denot) → IsSend T → IsSync (desk.the_row J T n h t)
-  desk_sync T t st = let s = stock_send T t st in search (sendable, crosses, Stamp.the_send) depth 40
