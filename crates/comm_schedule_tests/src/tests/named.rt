@@ -23,22 +23,20 @@ pub enum Play {
     Waiting(Arc<Moments>),
 }
 
-/// What was counted, whose changes were taken, and the history.
+/// What was counted, and whose changes were taken.
+#[derive(Drop)]
+pub struct Outcome {
+    pub counts: (u64, u64),
+    pub taken: Vec<(u8, u64)>,
+}
+
+/// The same, and the whole history, with what wasn't taken.
 #[derive(Drop)]
 pub struct Seen {
     pub counts: (u64, u64),
     pub taken: Vec<(u8, u64)>,
     pub history: Vec<Arc<Entry, Global>>,
     pub untaken: Vec<Arc<Entry, Global>>,
-}
-
-/// What comes back from the threads.
-#[derive(Drop)]
-pub struct Back<J: Naming> {
-    pub clients: (Client<J>, Client<J>),
-    pub publisher: Publisher<J>,
-    pub counts: (u64, u64),
-    pub taken: Vec<(u8, u64)>,
 }
 
 // Who visits needs a target first.
@@ -63,28 +61,19 @@ fn work<J: Naming + Send + Sync, T: Target, R: Threads + Wait + Sync>(
     rt: &R,
     alloc: Global,
     manager: &Manager<J, T>,
-    clients: (Client<J>, Client<J>),
-    publisher: Publisher<J>,
+    zero: &mut Client<J>,
+    one: &mut Client<J>,
+    publisher: &mut Publisher<J>,
     jobs: (Job, Job),
     count: usize,
     targets: Vec<T>,
-) -> Result<Back<J>, Wrong> {
+) -> Result<Outcome, Wrong> {
     let mut targets = targets;
-    let (mut zero, one) = clients;
-    begin(rt, alloc, manager, &mut zero, jobs.0, &mut targets)?;
-    let (((zero, first), (one, second)), (publisher, taken)) = all_three(
-        rt,
-        alloc,
-        manager,
-        (zero, one),
-        jobs,
-        targets,
-        publisher,
-        count,
+    begin(rt, alloc, manager, zero, jobs.0, &mut targets)?;
+    let ((first, second), taken) = all_three(
+        rt, alloc, manager, zero, one, jobs, targets, publisher, count,
     );
-    Ok(Back {
-        clients: (zero, one),
-        publisher,
+    Ok(Outcome {
         counts: (first?, second?),
         taken: taken?,
     })
@@ -94,47 +83,22 @@ fn played<J: Naming + Send + Sync, T: Target, R: Threads + Wait + Sync>(
     rt: &R,
     alloc: Global,
     manager: &Manager<J, T>,
-    clients: Vec<Client<J>>,
-    publisher: Publisher<J>,
+    clients: &mut [Client<J>],
+    publisher: &mut Publisher<J>,
     play: Play,
     targets: Vec<T>,
-) -> Result<Back<J>, Wrong> {
-    let mut clients = clients;
-    let one = clients.pop().ok_or(Wrong)?;
-    let zero = clients.pop().ok_or(Wrong)?;
+) -> Result<Outcome, Wrong> {
+    let [zero, one] = clients else {
+        return Err(Wrong);
+    };
     match play {
         Play::Jobs(jobs, count) => work(
-            rt,
-            alloc,
-            manager,
-            (zero, one),
-            publisher,
-            jobs,
-            count,
-            targets,
+            rt, alloc, manager, zero, one, publisher, jobs, count, targets,
         ),
         Play::Waiting(moments) => waits(
-            rt,
-            alloc,
-            manager,
-            (zero, one),
-            publisher,
-            moments,
-            targets,
+            rt, alloc, manager, zero, one, publisher, &moments, targets,
         ),
     }
-}
-
-// Both clients in a list, as a shutdown wants them.
-fn listed<J: Naming>(
-    alloc: Global,
-    clients: (Client<J>, Client<J>),
-) -> Result<Vec<Client<J>>, Wrong> {
-    let (zero, one) = clients;
-    let mut all = Vec::with_capacity(alloc, 2)?;
-    all.push(zero)?;
-    all.push(one)?;
-    Ok(all)
 }
 
 // Shuts a manager down, which must not be refused.
@@ -159,23 +123,10 @@ fn shut<J: Naming, T: Target, R: Wait>(
     }
 }
 
-fn ended<J: Naming, T: Target, R: Wait>(
-    rt: &R,
-    alloc: Global,
-    manager: Manager<J, T>,
-    back: Back<J>,
-) -> Result<Seen, Wrong> {
-    let Back {
-        clients,
-        publisher,
-        counts,
-        taken,
-    } = back;
-    let Ok(clients) = listed(alloc, clients) else {
-        manager.discard(rt);
-        return Err(Wrong);
-    };
-    let Farewell { history, untaken } = shut(rt, manager, clients, publisher)?;
+// What was taken and what wasn't are as many as the history has.
+fn seen(outcome: Result<Outcome, Wrong>, farewell: Result<Farewell, Wrong>) -> Result<Seen, Wrong> {
+    let Outcome { counts, taken } = outcome?;
+    let Farewell { history, untaken } = farewell?;
     holds(taken.len().saturating_add(untaken.len()) == history.len())?;
     Ok(Seen {
         counts,
@@ -194,16 +145,20 @@ fn opened<J: Naming + Send + Sync, T: Target, R: Threads + Wait + Sync>(
 ) -> Result<Seen, Wrong>
     requires { Named opening J.book J.ledgers J.queue J.limits }
 {
-    let Ok((manager, clients, publisher)) = Manager::<J, T>::open(rt, alloc, opening) else {
+    let Ok((manager, mut clients, mut publisher)) = Manager::<J, T>::open(rt, alloc, opening) else {
         return Err(Wrong);
     };
-    match played(rt, alloc, &manager, clients, publisher, play, targets) {
-        Ok(back) => ended(rt, alloc, manager, back),
-        Err(wrong) => {
-            manager.discard(rt);
-            Err(wrong)
-        }
-    }
+    let outcome = played(
+        rt,
+        alloc,
+        &manager,
+        clients.as_mut_slice(),
+        &mut publisher,
+        play,
+        targets,
+    );
+    let farewell = shut(rt, manager, clients, publisher);
+    seen(outcome, farewell)
 }
 
 /// Plays it with a manager of these limits, and these targets.

@@ -7,39 +7,27 @@ use std::alloc::Global;
 use std::sync::Wait;
 use std::thread::{Threads, join, yield_now};
 
-/// A client that comes back from its thread, with what it counted.
-pub type Worked<J> = (Client<J>, Result<u64, Wrong>);
+/// How much a client did.
+pub type Count = Result<u64, Wrong>;
 
-/// The publisher that comes back from its thread, with whose changes it took.
-pub type Took<J> = (Publisher<J>, Result<Vec<(u8, u64)>, Wrong>);
-
-fn works<J: Naming, T: Target, R: Wait>(
-    rt: &R,
-    alloc: Global,
-    manager: &Manager<J, T>,
-    mut client: Client<J>,
-    job: Job,
-    targets: Vec<T>,
-) -> Worked<J> {
-    let count = does(rt, alloc, manager, &mut client, job, targets);
-    (client, count)
-}
+/// Whose changes were taken, in their order.
+pub type Taken = Result<Vec<(u8, u64)>, Wrong>;
 
 // Both clients. The targets are for the first.
 fn both<J: Naming + Send + Sync, T: Target, R: Threads + Wait + Sync>(
     rt: &R,
     alloc: Global,
     manager: &Manager<J, T>,
-    clients: (Client<J>, Client<J>),
+    zero: &mut Client<J>,
+    one: &mut Client<J>,
     jobs: (Job, Job),
     targets: Vec<T>,
-) -> (Worked<J>, Worked<J>) {
-    let (zero, one) = clients;
+) -> (Count, Count) {
     let (first, second) = jobs;
     join(
         rt,
-        move || works(rt, alloc, manager, zero, first, targets),
-        move || works(rt, alloc, manager, one, second, Vec::new(alloc)),
+        move || does(rt, alloc, manager, zero, first, targets),
+        move || does(rt, alloc, manager, one, second, Vec::new(alloc)),
     )
 }
 
@@ -57,27 +45,18 @@ fn takes_next<J: Naming, R: Wait>(
     Err(Wrong)
 }
 
-fn takes_all<J: Naming, R: Wait>(
+fn takes<J: Naming, R: Wait>(
     rt: &R,
     alloc: Global,
     publisher: &mut Publisher<J>,
     count: usize,
-) -> Result<Vec<(u8, u64)>, Wrong> {
+) -> Taken {
     let mut taken = Vec::with_capacity(alloc, count)?;
     for _ in 0..count {
-        taken.push(takes_next(rt, publisher)?)?;
+        let whose = takes_next(rt, publisher)?;
+        taken.push(whose)?;
     }
     Ok(taken)
-}
-
-fn takes<J: Naming, R: Wait>(
-    rt: &R,
-    alloc: Global,
-    mut publisher: Publisher<J>,
-    count: usize,
-) -> Took<J> {
-    let taken = takes_all(rt, alloc, &mut publisher, count);
-    (publisher, taken)
 }
 
 /// Both clients at work, and a third thread that takes so many entries.
@@ -85,15 +64,16 @@ pub fn all_three<J: Naming + Send + Sync, T: Target, R: Threads + Wait + Sync>(
     rt: &R,
     alloc: Global,
     manager: &Manager<J, T>,
-    clients: (Client<J>, Client<J>),
+    zero: &mut Client<J>,
+    one: &mut Client<J>,
     jobs: (Job, Job),
     targets: Vec<T>,
-    publisher: Publisher<J>,
+    publisher: &mut Publisher<J>,
     count: usize,
-) -> ((Worked<J>, Worked<J>), Took<J>) {
+) -> ((Count, Count), Taken) {
     join(
         rt,
-        move || both(rt, alloc, manager, clients, jobs, targets),
+        move || both(rt, alloc, manager, zero, one, jobs, targets),
         move || takes(rt, alloc, publisher, count),
     )
 }

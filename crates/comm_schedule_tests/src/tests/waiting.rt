@@ -2,7 +2,7 @@
 ghost use Rattle.std.specs.Prelude.{◌≡◌, [], None};
 
 use crate::tests::jobs::register;
-use crate::tests::named::{Back, Play, Seen, named};
+use crate::tests::named::{Outcome, Play, Seen, named};
 use crate::tests::replay::replayed;
 use crate::tests::words::{Told, Wrong, answer, holds, limits, valued, whose};
 use comm_manager::{Client, Manager, Naming, Publisher};
@@ -123,24 +123,27 @@ fn spoken<J: Naming, T: Target, R: Wait>(
     holds(said == Told::Delivered && client.seen() == 3)
 }
 
+// In any case the other client needn't wait for it any more.
 fn speaks<J: Naming, T: Target, R: Wait>(
     rt: &R,
     alloc: Global,
     manager: &Manager<J, T>,
-    mut client: Client<J>,
-) -> (Client<J>, bool) {
-    let is_well = spoken(rt, alloc, manager, &mut client).is_ok();
-    (client, is_well)
+    client: &mut Client<J>,
+    moments: &Moments,
+) -> bool {
+    let is_well = spoken(rt, alloc, manager, client).is_ok();
+    moments.is_asked.store(true, Ordering::SeqCst);
+    is_well
 }
 
 // The one comm that is open before the message.
-fn reads<J: Naming>(alloc: Global, client: &mut Client<J>) -> Result<bool, Wrong> {
+fn reads<J: Naming>(alloc: Global, client: &mut Client<J>) -> Result<(), Wrong> {
     let read = client.comm_info(alloc, None)?;
     let is_one = match read.comms.as_slice() {
         [info] => info.id.is("a") && info.target.is("t"),
         _ => false,
     };
-    Ok(is_one && read.front == 2 && client.seen() == 2)
+    holds(is_one && read.front == 2 && client.seen() == 2)
 }
 
 // Whether the first entry is taken.
@@ -155,20 +158,16 @@ fn takes<J: Naming, R: Wait>(rt: &R, publisher: &mut Publisher<J>) -> bool {
 fn meanwhile<J: Naming, R: Wait>(
     rt: &R,
     alloc: Global,
-    mut client: Client<J>,
-    mut publisher: Publisher<J>,
-    moments: Arc<Moments>,
-) -> (Client<J>, Publisher<J>, bool) {
+    client: &mut Client<J>,
+    publisher: &mut Publisher<J>,
+    moments: &Moments,
+) -> bool {
     awaited(&moments.is_asked);
-    let is_taken = takes(rt, &mut publisher);
-    let read = reads(alloc, &mut client);
+    let is_taken = takes(rt, publisher);
+    let is_read = reads(alloc, client).is_ok();
     let is_held = !moments.is_answered.load(Ordering::SeqCst);
     moments.is_read.store(true, Ordering::SeqCst);
-    (
-        client,
-        publisher,
-        is_taken && read.unwrap_or(false) && is_held,
-    )
+    is_taken && is_read && is_held
 }
 
 // One client speaks, and the other takes and reads meanwhile.
@@ -176,50 +175,41 @@ fn at_once<J: Naming + Send + Sync, T: Target, R: Threads + Wait + Sync>(
     rt: &R,
     alloc: Global,
     manager: &Manager<J, T>,
-    clients: (Client<J>, Client<J>),
-    publisher: Publisher<J>,
-    moments: Arc<Moments>,
-) -> ((Client<J>, bool), (Client<J>, Publisher<J>, bool)) {
-    let (zero, one) = clients;
+    zero: &mut Client<J>,
+    one: &mut Client<J>,
+    publisher: &mut Publisher<J>,
+    moments: &Moments,
+) -> (bool, bool) {
     join(
         rt,
-        move || speaks(rt, alloc, manager, zero),
+        move || speaks(rt, alloc, manager, zero, moments),
         move || meanwhile(rt, alloc, one, publisher, moments),
     )
 }
 
-/// A change stays with its target until another thread has taken an entry and read.
+/// A change stays with its target until another thread has taken the first entry and read.
 pub fn waits<J: Naming + Send + Sync, T: Target, R: Threads + Wait + Sync>(
     rt: &R,
     alloc: Global,
     manager: &Manager<J, T>,
-    clients: (Client<J>, Client<J>),
-    publisher: Publisher<J>,
-    moments: Arc<Moments>,
+    zero: &mut Client<J>,
+    one: &mut Client<J>,
+    publisher: &mut Publisher<J>,
+    moments: &Moments,
     targets: Vec<T>,
-) -> Result<Back<J>, Wrong> {
-    let (mut zero, mut one) = clients;
-    begin(rt, alloc, manager, &mut zero, &mut one, targets)?;
-    let ((zero, is_said), (one, publisher, is_well)) = at_once(
-        rt,
-        alloc,
-        manager,
-        (zero, one),
-        publisher,
-        moments,
-    );
+) -> Result<Outcome, Wrong> {
+    begin(rt, alloc, manager, zero, one, targets)?;
+    let (is_said, is_well) = at_once(rt, alloc, manager, zero, one, publisher, moments);
     holds(is_said && is_well)?;
     let mut taken = Vec::new(alloc);
     taken.push((0, 1))?;
-    Ok(Back {
-        clients: (zero, one),
-        publisher,
+    Ok(Outcome {
         counts: (3, 0),
         taken,
     })
 }
 
-// Two targets of the same moments: one for the run, and one for when it is played again, which needn't wait.
+// A target of these moments. When it is asked again, all is read, and it needn't wait.
 fn patients(alloc: Global, moments: &Arc<Moments>) -> Result<Vec<Patient>, Wrong> {
     let mut all = Vec::with_capacity(alloc, 1)?;
     all.push(Patient::new(alloc, Arc::try_clone(moments)?))?;
