@@ -124,7 +124,10 @@ fn shut<J: Naming, T: Target, R: Wait>(
 }
 
 // What was taken and what wasn't are as many as the history has.
-fn seen(outcome: Result<Outcome, Wrong>, farewell: Result<Farewell, Wrong>) -> Result<Seen, Wrong> {
+fn all_seen(
+    outcome: Result<Outcome, Wrong>,
+    farewell: Result<Farewell, Wrong>,
+) -> Result<Seen, Wrong> {
     let Outcome { counts, taken } = outcome?;
     let Farewell { history, untaken } = farewell?;
     holds(taken.len().saturating_add(untaken.len()) == history.len())?;
@@ -158,7 +161,7 @@ fn opened<J: Naming + Send + Sync, T: Target, R: Threads + Wait + Sync>(
         targets,
     );
     let farewell = shut(rt, manager, clients, publisher);
-    seen(outcome, farewell)
+    all_seen(outcome, farewell)
 }
 
 /// Plays it with a manager of these limits, and these targets.
