@@ -5,6 +5,7 @@
      REFUSE + n   from here on requests are counted, and the one of number n (malloc, calloc or realloc) is refused, once; granted
      TOLD         from here on no request is counted; granted if that request was refused
      LEAKED       granted if more blocks are held than at MARK
+   A program says no word: with REFUSE_AT=n in the environment the request of number n of the whole process is refused, once.
    At the end of the process one line goes to the descriptor REFUSE_TO: 'asked=A refused=R', A being the words REFUSE + n and R the
    refusals. It needs no header, so that the kit's clang alone compiles it. */
 typedef unsigned long size;
@@ -110,18 +111,23 @@ static char *put(char *to, const char *name, long n) {
     return to;
 }
 
-/* The descriptor that the environment names, or -1. */
-static int descriptor(void) {
-    const char *digit = getenv("REFUSE_TO");
+/* The number that the environment has by this name, or -1. */
+static long number(const char *name) {
+    const char *digit = getenv(name);
     if (!digit || *digit < '0' || '9' < *digit) return -1;
-    int n = 0;
+    long n = 0;
     while ('0' <= *digit && *digit <= '9') n = 10 * n + (*digit++ - '0');
     return n;
 }
 
+static __attribute__((constructor)) void begin(void) {
+    refused_number = number("REFUSE_AT");
+    counts = refused_number > 0;
+}
+
 static __attribute__((destructor)) void tell(void) {
     char line[80], *to = line;
-    int file = descriptor();
+    int file = number("REFUSE_TO");
     if (file < 0) return;
     to = put(to, "asked=", words);
     to = put(to, " refused=", refusals);

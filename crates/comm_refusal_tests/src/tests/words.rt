@@ -1,0 +1,74 @@
+//! What these tests say.
+ghost use Rattle.std.specs.Prelude.{◌≡◌, ⊤};
+
+use comm_core::{Limits, StateAnswer};
+use comm_json::LineRoom;
+use comm_messages::{Body, MessageFault, fields_of, object_in, whole_dict};
+use comm_value::{Buffers, Dict, Val};
+use std::alloc::{AllocError, AllocFailed, Global};
+
+/// What isn't as it should be.
+#[derive(Clone, Copy, Debug)]
+pub struct Wrong(pub &'static str);
+
+impl From<AllocError> for Wrong {
+    ghost from_gives = { λ _ _. ⊤ };
+
+    fn from(_error: AllocError) -> Wrong {
+        Wrong("no memory where none is refused")
+    }
+}
+
+impl<T: Drop> From<AllocFailed<T>> for Wrong {
+    ghost from_gives = { λ _ _. ⊤ };
+
+    fn from(_error: AllocFailed<T>) -> Wrong {
+        Wrong("no memory where none is refused")
+    }
+}
+
+impl From<MessageFault> for Wrong {
+    ghost from_gives = { λ _ _. ⊤ };
+
+    fn from(_fault: MessageFault) -> Wrong {
+        Wrong("no body")
+    }
+}
+
+pub fn holds(is: bool, what: &'static str) -> Result<(), Wrong> {
+    if is { Ok(()) } else { Err(Wrong(what)) }
+}
+
+/// Room for more comms than any test here opens.
+pub const LIMITS: Limits = Limits {
+    clients: 2,
+    comms: 64,
+    history: 1_000,
+    outbox: 64,
+};
+
+/// The dict of this JSON.
+pub fn dict(alloc: Global, json: &str) -> Result<Dict, Wrong> {
+    let body = body(alloc, json)?;
+    let (content, buffers) = body.into_parts();
+    drop(buffers);
+    Ok(content)
+}
+
+/// A body with this JSON as its data, and no buffers.
+pub fn body(alloc: Global, json: &str) -> Result<Body, Wrong> {
+    let mut room = LineRoom::new(alloc);
+    let object = object_in(json.as_bytes(), &mut room)?;
+    Ok(Body::new(whole_dict(alloc, fields_of(&object))?, Buffers::none(alloc)))
+}
+
+/// Whether a state was read, whose value is 1.
+pub fn is_one(answer: &StateAnswer) -> bool {
+    match answer {
+        StateAnswer::State(state) => match state.get("value") {
+            Some(Val::Whole(value)) => value.get() == 1,
+            _ => false,
+        },
+        StateAnswer::NoComm | StateAnswer::NoState => false,
+    }
+}
