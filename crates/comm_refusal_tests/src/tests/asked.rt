@@ -16,7 +16,8 @@ pub enum Asked {
     Update,
     RequestState,
     Custom,
-    Refused,
+    /// A message that a widget refuses, and others take.
+    Say,
     Close,
     CloseUnknown,
     Unregister,
@@ -32,7 +33,7 @@ pub const ALL: [Asked; 13] = [
     Asked::Update,
     Asked::RequestState,
     Asked::Custom,
-    Asked::Refused,
+    Asked::Say,
     Asked::Close,
     Asked::CloseUnknown,
     Asked::Unregister,
@@ -40,6 +41,29 @@ pub const ALL: [Asked; 13] = [
     Asked::Push,
     Asked::Send,
     Asked::HangUp,
+];
+
+/// What targets other than widgets are asked.
+pub const OF_OTHERS: [Asked; 5] = [
+    Asked::Open,
+    Asked::Say,
+    Asked::Close,
+    Asked::Unregister,
+    Asked::Send,
+];
+
+/// At how many comms beside one it is asked: a table grows at some of them, and the readers' pieces at 64 comms.
+pub fn sizes(asked: Asked) -> &'static [usize] {
+    match asked {
+        Asked::Open | Asked::Launch => &MANY,
+        _ => &FEW,
+    }
+}
+
+const FEW: [usize; 2] = [0, 5];
+
+const MANY: [usize; 20] = [
+    0, 1, 2, 3, 4, 5, 6, 7, 8, 9, 10, 11, 12, 13, 14, 15, 16, 62, 63, 64,
 ];
 
 /// The data of an opening.
@@ -132,9 +156,7 @@ pub fn call_of(alloc: Global, asked: Asked) -> Result<Call, Wrong>
 {
     match asked {
         Asked::Open | Asked::OpenNowhere => opening(alloc, "b", target_of(asked)),
-        Asked::Update | Asked::RequestState | Asked::Custom | Asked::Refused => message(
-            alloc, asked,
-        ),
+        Asked::Update | Asked::RequestState | Asked::Custom | Asked::Say => message(alloc, asked),
         Asked::Close | Asked::CloseUnknown => Ok(Call::Close {
             id: Text::copy_of(alloc, id_of(asked))?,
         }),
@@ -160,7 +182,7 @@ pub fn is_answered(asked: Asked, reply: &Reply) -> bool {
             Reply::Delivered(None)
         ),
         Asked::Custom => matches!(reply, Reply::Delivered(Some(_))),
-        Asked::Refused => matches!(reply, Reply::Fault(_)),
+        Asked::Say => matches!(reply, Reply::Fault(_) | Reply::Delivered(None)),
         Asked::Close | Asked::HangUp => matches!(reply, Reply::Closed),
         Asked::CloseUnknown => matches!(reply, Reply::NoComm),
         Asked::Unregister => matches!(reply, Reply::Unregistered(_)),

@@ -15,7 +15,7 @@ use std::sync::Wait;
 
 /// What a change came to: its number, whether the reply is as it should be, and its stamp.
 #[derive(Drop)]
-pub enum Told<J: Naming> {
+pub enum Outcome<J: Naming> {
     Answered {
         number: u64,
         is_right: bool,
@@ -25,7 +25,7 @@ pub enum Told<J: Naming> {
     Other,
 }
 
-fn told<J: Naming>(asked: Asked, given: Result<Answered<J>, Unavailable<Stamp<J>>>) -> Told<J> {
+fn told<J: Naming>(asked: Asked, given: Result<Answered<J>, Unavailable<Stamp<J>>>) -> Outcome<J> {
     match given {
         Ok(answered) => {
             let Answered {
@@ -35,14 +35,14 @@ fn told<J: Naming>(asked: Asked, given: Result<Answered<J>, Unavailable<Stamp<J>
             } = answered;
             let is_right = is_answered(asked, &reply);
             drop(reply);
-            Told::Answered {
+            Outcome::Answered {
                 number,
                 is_right,
                 stamp,
             }
         }
-        Err(Unavailable::Memory) => Told::Memory,
-        Err(_) => Told::Other,
+        Err(Unavailable::Memory) => Outcome::Memory,
+        Err(_) => Outcome::Other,
     }
 }
 
@@ -54,7 +54,7 @@ pub fn ask<J: Naming, T: Target, R: Wait>(
     client: &mut Client<J>,
     asked: Asked,
     number: u32,
-) -> Result<Told<J>, Wrong> {
+) -> Result<Outcome<J>, Wrong> {
     let call = call_of(alloc, asked)?;
     let _is_heard = refuse(alloc, number);
     let given = match call {
@@ -76,14 +76,14 @@ pub fn ask<J: Naming, T: Target, R: Wait>(
     Ok(told(asked, given))
 }
 
-fn is_next<J: Naming>(told: &Told<J>, number: u64) -> bool {
+fn is_next<J: Naming>(told: &Outcome<J>, number: u64) -> bool {
     match told {
-        Told::Answered {
+        Outcome::Answered {
             number: got,
             is_right,
             ..
         } => *got == number && *is_right,
-        Told::Memory | Told::Other => false,
+        Outcome::Memory | Outcome::Other => false,
     }
 }
 
@@ -100,7 +100,7 @@ fn open<J: Naming, T: Target, R: Wait>(
     let given = client.open_comm(rt, manager, id, name, version, body);
     let is_opened = matches!(
         told(Asked::Open, given),
-        Told::Answered { is_right: true, .. }
+        Outcome::Answered { is_right: true, .. }
     );
     holds(is_opened, "a comm isn't opened")
 }
@@ -168,7 +168,7 @@ pub fn change<J: Naming, T: Target, R: Wait>(
         return Ok(true);
     }
     holds(
-        matches!(first, Told::Memory),
+        matches!(first, Outcome::Memory),
         "an answer in the face of a refusal",
     )?;
     holds(client.seen() == before, "something was seen")?;

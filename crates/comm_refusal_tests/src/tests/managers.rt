@@ -2,8 +2,8 @@
 ghost use Rattle.std.specs.Prelude.{◌≡◌};
 ghost use Rattle.comm_targets.specs.Meaning.{IsIdle};
 
-use crate::tests::asked::{ALL, Asked};
-use crate::tests::clients::{Told, ask, change, fill, register};
+use crate::tests::asked::{ALL, Asked, sizes};
+use crate::tests::clients::{Outcome, ask, change, fill, register};
 use crate::tests::named::{Of, Trial, named};
 use crate::tests::reads::read;
 use crate::tests::words::{Wrong, holds};
@@ -50,7 +50,7 @@ fn spare<J: Naming, T: Target, R: Wait>(
     one: &mut Client<J>,
 ) -> Result<bool, Wrong> {
     match ask(rt, alloc, manager, zero, Asked::CloseUnknown, 0)? {
-        Told::Answered { stamp, .. } => {
+        Outcome::Answered { stamp, .. } => {
             let _is_heard = refuse(alloc, 1);
             one.hear(&stamp.copy());
             let is_right = one.seen() == stamp.number() && one.id() == 1;
@@ -58,7 +58,7 @@ fn spare<J: Naming, T: Target, R: Wait>(
             holds(is_right && is_spared, "a stamp isn't heard")?;
             Ok(true)
         }
-        Told::Memory | Told::Other => Err(Wrong("no stamp")),
+        Outcome::Memory | Outcome::Other => Err(Wrong("no stamp")),
     }
 }
 
@@ -242,13 +242,17 @@ fn refused_opening(rt: HostRuntime) -> Result<(), Fail> {
     try_each(&rt, rt.alloc(), Of::Opening, 0)
 }
 
-// A table grows at some numbers of comms.
+fn try_all<R: Abort + Wait>(rt: &R, alloc: Global, asked: Asked) -> Result<(), Fail> {
+    for more in sizes(asked) {
+        try_each(rt, alloc, Of::Change(asked), *more)?;
+    }
+    Ok(())
+}
+
 #[test]
 fn refused_changes(rt: HostRuntime) -> Result<(), Fail> {
     for asked in ALL {
-        for more in 0..17usize {
-            try_each(&rt, rt.alloc(), Of::Change(asked), more)?;
-        }
+        try_all(&rt, rt.alloc(), asked)?;
     }
     Ok(())
 }

@@ -3,72 +3,32 @@ ghost use Rattle.std.specs.Prelude.{◌≡◌, true};
 ghost use Rattle.comm_core.specs.Ready.{HandsNothingIn, IsReady};
 ghost use Rattle.comm_targets.specs.Meaning.{IsIdle};
 
-use crate::tests::asked::{ALL, Asked, call_of, is_answered, opening};
-use crate::tests::words::{LIMITS, Wrong, holds, is_one};
+use crate::tests::asked::{Asked, call_of, is_answered};
+use crate::tests::filled::{Of, Trial, is_as_before};
+use crate::tests::words::{Wrong, holds};
 use comm_core::{Call, Core, Finished, Ready};
-use comm_fakes::{has_leaked, mark, refuse, was_refused};
-use comm_targets::Target;
-use comm_value::Text;
+use comm_fakes::{refuse, was_refused};
+use comm_messages::Outgoing;
+use comm_targets::{Kind, Target};
+use comm_value::Val;
 use std::alloc::Global;
-use std::process::Abort;
-use std::test::Fail;
-use widget_target::WidgetTarget;
 
-/// Which call of the manager meets the refusal.
-#[derive(Clone, Copy, Debug, PartialEq, Eq, Drop)]
-enum Of {
-    Step,
-    /// `begin`, after which the change is withdrawn or made. Neither may ask for memory.
-    Begin,
-    Entry,
-    Row,
-}
-
-fn open<T: Target>(alloc: Global, core: &mut Core<T>, id: &str) -> Result<(), Wrong>
-    requires settled { core.old.settled ≡ true }
-    ensures { core.new.settled ≡ true }
-{
-    let call = opening(alloc, id, "w")?;
-    let (reply, outgoing) = core.step(call)?;
-    drop(outgoing);
-    holds(is_answered(Asked::Open, &reply), "a comm isn't opened")
-}
-
-// The widget `w`, the comm `a`, and as many more.
-fn fill<T: Target>(alloc: Global, core: &mut Core<T>, target: T, more: usize) -> Result<(), Wrong>
-    requires settled { core.old.settled ≡ true }
-    requires idle { IsIdle (T.means target) }
-    ensures { core.new.settled ≡ true }
-{
-    let name = Text::copy_of(alloc, "w")?;
-    let is_registered = core.register(name, target).is_ok();
-    holds(is_registered, "the widget isn't registered")?;
-    open(alloc, core, "a")?;
-    for number in 0..more {
-        let id = format!(in alloc; "c{number}")?;
-        open(alloc, core, id.as_str())?;
+// A counter that was asked once answers 1, however often it was asked in vain.
+fn is_first(trial: Trial, outgoing: &[Outgoing]) -> bool {
+    match (trial.kind, trial.asked, outgoing) {
+        (Kind::Counter, Asked::Say, [Outgoing::Msg { body, .. }]) => {
+            matches!(body.content().get("count"), Some(Val::Whole(count)) if count.get() == 1)
+        }
+        (Kind::Counter, Asked::Say, _) => false,
+        _ => true,
     }
-    Ok(())
 }
 
-// What `fill` left is there.
-fn is_as_before<T: Target>(alloc: Global, core: &Core<T>, more: usize) -> Result<(), Wrong> {
-    holds(core.settled(), "a change is left ready")?;
-    let infos = core.infos(None)?;
-    holds(
-        infos.as_slice().len().checked_sub(1) == Some(more),
-        "another number of comms",
-    )?;
-    let id = Text::copy_of(alloc, "a")?;
-    let state = core.state(&id)?;
-    holds(is_one(&state), "another state")
-}
-
-// One step. Tells whether no allocation was refused.
+// One step in which the allocation of this number is refused. Tells whether none was.
 fn step<T: Target>(
     alloc: Global,
     core: &mut Core<T>,
-    asked: Asked,
+    trial: Trial,
     call: Call,
     number: u32,
 ) -> Result<bool, Wrong>
@@ -81,8 +41,8 @@ fn step<T: Target>(
     let is_whole = !was_refused(alloc);
     match result {
         Ok((reply, outgoing)) => {
+            let is_right = is_answered(trial.asked, &reply) && is_first(trial, &outgoing);
             drop(outgoing);
-            let is_right = is_answered(asked, &reply);
             drop(reply);
             holds(is_right, "another reply")?;
             holds(is_whole, "a reply in the face of a refusal")?;
@@ -112,7 +72,7 @@ fn is_made<T: Target>(core: &mut Core<T>, asked: Asked, ready: Ready<T>) -> bool
     is_right
 }
 
-// The change is withdrawn, or made.
+// A change stands ready, or doesn't, and is taken back.
 fn begin<T: Target>(
     alloc: Global,
     core: &mut Core<T>,
@@ -136,7 +96,6 @@ fn begin<T: Target>(
     Ok(is_whole)
 }
 
-// What is asked of the change that stands ready.
 fn is_told<T: Target>(alloc: Global, ready: &Ready<T>, of: Of) -> bool {
     match of {
         Of::Entry => ready.entry(alloc, 1, 7).is_ok(),
@@ -144,26 +103,24 @@ fn is_told<T: Target>(alloc: Global, ready: &Ready<T>, of: Of) -> bool {
     }
 }
 
-// What stands ready is told with a refusal, and then without; then the change is made, or withdrawn where there was no answer.
+// What stands ready is told with a refusal, and then without. Then the change is made where nothing was refused, else withdrawn.
 fn tell<T: Target>(
     alloc: Global,
     core: &mut Core<T>,
-    of: Of,
-    asked: Asked,
+    trial: Trial,
     call: Call,
-    number: u32,
 ) -> Result<bool, Wrong>
     requires settled { core.old.settled ≡ true }
     requires call { HandsNothingIn call }
     ensures { core.new.settled ≡ true }
 {
     let ready = core.begin(call)?;
-    let _is_heard = refuse(alloc, number);
-    let is_first = is_told(alloc, &ready, of);
+    let _is_heard = refuse(alloc, trial.number);
+    let is_first = is_told(alloc, &ready, trial.of);
     let is_whole = !was_refused(alloc);
-    let is_next = is_told(alloc, &ready, of);
+    let is_next = is_told(alloc, &ready, trial.of);
     if is_whole {
-        let is_right = is_made(core, asked, ready);
+        let is_right = is_made(core, trial.asked, ready);
         holds(is_right, "another reply")?;
     } else {
         let _back = core.withdraw(ready);
@@ -173,114 +130,64 @@ fn tell<T: Target>(
     Ok(is_whole)
 }
 
-fn ask<T: Target>(
+// What stands ready is made or taken back, and no memory is asked for.
+fn spare<T: Target>(
     alloc: Global,
     core: &mut Core<T>,
-    of: Of,
-    asked: Asked,
-    number: u32,
+    trial: Trial,
+    call: Call,
 ) -> Result<bool, Wrong>
+    requires settled { core.old.settled ≡ true }
+    requires call { HandsNothingIn call }
+    ensures { core.new.settled ≡ true }
+{
+    let ready = core.begin(call)?;
+    let _is_heard = refuse(alloc, 1);
+    let is_right = if trial.of == Of::Finish {
+        is_made(core, trial.asked, ready)
+    } else {
+        let _back = core.withdraw(ready);
+        true
+    };
+    let is_spared = core.settled() && !was_refused(alloc);
+    holds(is_right, "another reply")?;
+    holds(is_spared, "memory was asked for")?;
+    Ok(true)
+}
+
+// The call of the trial. Tells whether no allocation was refused.
+fn ask<T: Target>(alloc: Global, core: &mut Core<T>, trial: Trial) -> Result<bool, Wrong>
     requires settled { core.old.settled ≡ true }
     ensures { core.new.settled ≡ true }
 {
-    let call = call_of(alloc, asked)?;
-    match of {
-        Of::Step => step(alloc, core, asked, call, number),
-        Of::Begin => begin(alloc, core, call, number),
-        Of::Entry | Of::Row => tell(alloc, core, of, asked, call, number),
+    let call = call_of(alloc, trial.asked)?;
+    match trial.of {
+        Of::Begin => begin(alloc, core, call, trial.number),
+        Of::Entry | Of::Row => tell(alloc, core, trial, call),
+        Of::Finish | Of::Withdraw => spare(alloc, core, trial, call),
+        _ => step(alloc, core, trial, call, trial.number),
     }
 }
 
-// The allocation of this number is refused in the call. Then all is as before, and the next step is answered. Tells whether none was.
-fn ask_again<T: Target>(
-    alloc: Global,
-    core: &mut Core<T>,
-    of: Of,
-    asked: Asked,
-    more: usize,
-    number: u32,
-) -> Result<bool, Wrong>
+// One more step, in which nothing is refused.
+fn ask_again<T: Target>(alloc: Global, core: &mut Core<T>, trial: Trial) -> Result<bool, Wrong>
     requires settled { core.old.settled ≡ true }
     ensures { core.new.settled ≡ true }
 {
-    let is_whole = ask(alloc, core, of, asked, number)?;
+    let call = call_of(alloc, trial.asked)?;
+    step(alloc, core, trial, call, 0)
+}
+
+/// An allocation is refused in the call; then all is as before, and the next step is answered. Tells whether none was.
+pub fn change<T: Target>(alloc: Global, core: &mut Core<T>, trial: Trial) -> Result<bool, Wrong>
+    requires settled { core.old.settled ≡ true }
+    ensures { core.new.settled ≡ true }
+{
+    let is_whole = ask(alloc, core, trial)?;
     if !is_whole {
-        is_as_before(alloc, core, more)?;
-        let is_answered = ask(alloc, core, Of::Step, asked, 0)?;
-        holds(is_answered, "the next step is refused")?;
+        is_as_before(alloc, core, trial)?;
+        let is_next = ask_again(alloc, core, trial)?;
+        holds(is_next, "the next step is refused")?;
     }
     Ok(is_whole)
-}
-
-fn try_one<T: Target>(
-    alloc: Global,
-    target: T,
-    of: Of,
-    asked: Asked,
-    more: usize,
-    number: u32,
-) -> Result<bool, Wrong>
-    requires { IsIdle (T.means target) }
-{
-    let Ok(mut core) = Core::new(alloc, LIMITS) else {
-        return Err(Wrong("no manager"));
-    };
-    let filled = fill(alloc, &mut core, target, more);
-    let result = match filled {
-        Ok(()) => ask_again(alloc, &mut core, of, asked, more, number),
-        Err(wrong) => Err(wrong),
-    };
-    core.stop_all();
-    result
-}
-
-// Each allocation in turn, until the call asks for fewer.
-fn try_each(rt: &impl Abort, alloc: Global, of: Of, asked: Asked, more: usize) -> Result<(), Fail> {
-    for number in 1..10_000u32 {
-        mark(alloc);
-        let target = WidgetTarget::new(alloc);
-        match try_one(alloc, target, of, asked, more, number) {
-            Ok(is_whole) => {
-                assert!(rt;
-                    !has_leaked(alloc),
-                    "{of:?} {asked:?} beside {more} leaks at {number}"
-                );
-                if is_whole {
-                    return Ok(());
-                }
-            }
-            Err(Wrong(what)) => panic!(rt; "{of:?} {asked:?} beside {more} at {number}: {what}"),
-        }
-    }
-    panic!(rt; "it never answered");
-}
-
-// A table grows at some numbers of comms.
-fn try_all(rt: &impl Abort, alloc: Global, of: Of, most: usize) -> Result<(), Fail> {
-    for asked in ALL {
-        for more in 0..most {
-            try_each(rt, alloc, of, asked, more)?;
-        }
-    }
-    Ok(())
-}
-
-#[test]
-fn refused_step(rt: HostRuntime) -> Result<(), Fail> {
-    try_all(&rt, rt.alloc(), Of::Step, 17)
-}
-
-#[test]
-fn refused_begin(rt: HostRuntime) -> Result<(), Fail> {
-    try_all(&rt, rt.alloc(), Of::Begin, 17)
-}
-
-#[test]
-fn refused_entry(rt: HostRuntime) -> Result<(), Fail> {
-    try_all(&rt, rt.alloc(), Of::Entry, 2)
-}
-
-#[test]
-fn refused_row(rt: HostRuntime) -> Result<(), Fail> {
-    try_all(&rt, rt.alloc(), Of::Row, 2)
 }

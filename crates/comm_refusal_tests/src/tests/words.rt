@@ -39,12 +39,24 @@ pub fn holds(is: bool, what: &'static str) -> Result<(), Wrong> {
     if is { Ok(()) } else { Err(Wrong(what)) }
 }
 
+/// Whether a call was whole, which gave an answer that is right or not, or none for want of memory.
+pub fn answered(is_whole: bool, given: Option<bool>) -> Result<bool, Wrong> {
+    match given {
+        Some(is_right) => {
+            holds(is_right, "another answer")?;
+            holds(is_whole, "an answer in the face of a refusal")?;
+        }
+        None => holds(!is_whole, "no answer where nothing is refused")?,
+    }
+    Ok(is_whole)
+}
+
 /// Room for more comms than any test here opens.
 pub const LIMITS: Limits = Limits {
     clients: 2,
-    comms: 64,
+    comms: 128,
     history: 1_000,
-    outbox: 64,
+    outbox: 128,
 };
 
 /// The dict of this JSON.
