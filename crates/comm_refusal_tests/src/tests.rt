@@ -12,5 +12,6 @@ mod named;
 mod reads;
 mod registers;
 mod steps;
+mod thrice;
 mod values;
 mod words;

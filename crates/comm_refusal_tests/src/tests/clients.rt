@@ -76,7 +76,8 @@ pub fn ask<J: Naming, T: Target, R: Wait>(
     Ok(told(asked, given))
 }
 
-fn is_next<J: Naming>(told: &Outcome<J>, number: u64) -> bool {
+/// Whether it is the change of this number, with the reply that it should have.
+pub fn is_next<J: Naming>(told: &Outcome<J>, number: u64) -> bool {
     match told {
         Outcome::Answered {
             number: got,

@@ -6,6 +6,7 @@ use crate::tests::asked::{ALL, Asked, sizes};
 use crate::tests::clients::{Outcome, ask, change, fill, register};
 use crate::tests::named::{Of, Trial, named};
 use crate::tests::reads::read;
+use crate::tests::thrice::opened_at_last;
 use crate::tests::words::{Wrong, holds};
 use comm_core::Entry;
 use comm_fakes::{has_leaked, mark, refuse, was_refused};
@@ -31,12 +32,15 @@ fn work<J: Naming, T: Target, R: Wait>(
     requires target { IsIdle (T.means target) }
     requires other { IsIdle (T.means other) }
 {
+    if trial.of == Of::Thrice {
+        return opened_at_last(rt, alloc, manager, zero, target);
+    }
     fill(rt, alloc, manager, zero, target, trial.more)?;
     match trial.of {
         Of::Register => register(rt, alloc, manager, zero, other, trial),
         Of::Change(asked) => change(rt, alloc, manager, zero, asked, trial),
         Of::Infos | Of::InfosOfTarget | Of::State => read(alloc, one, trial),
-        Of::Opening | Of::Shutdown => Ok(true),
+        Of::Opening | Of::Shutdown | Of::Thrice => Ok(true),
         Of::Spared => spare(rt, alloc, manager, zero, one),
     }
 }

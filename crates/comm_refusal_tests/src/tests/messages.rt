@@ -21,7 +21,8 @@ enum Of {
 }
 
 const LINE: &str =
-    r#"{"buffers":["AQI=","AwQF"],"content":{"comm_id":"a","data":{"k":[1,"\u00e9",{"l":null}]},"target_name":"t"},"header":{"msg_type":"comm_open"},"metadata":{"version":"2.0.0"}}"#;
+    r#"{"buffers":["AQI=","AwQF"],"content":{"comm_id":"a","data":{"k":[1,"\u00e9",{"l":null}]},"target_name":"t"},
+"header":{"msg_type":"comm_open"},"metadata":{"version":"2.0.0"}}"#;
 
 const WRITTEN: &str =
     r#"{"buffers":["AQI="],"call":7,"client":1,"content":{"comm_id":"a","data":{"k":[1,"x"]}},"header":{"msg_type":"comm_msg"},"metadata":{}}"#;

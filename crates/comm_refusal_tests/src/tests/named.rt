@@ -25,6 +25,8 @@ pub enum Of {
     InfosOfTarget,
     State,
     Shutdown,
+    /// A target that answers Memory of its own accord.
+    Thrice,
     /// What takes no memory: a client's stamp that another hears, the publisher, and the end of it all.
     Spared,
 }
