@@ -81,9 +81,9 @@ class ProvedComms(CommManager):
         if not self.hear(msg):
             return
         content = msg["content"]
-        comm = self.comms[content["comm_id"]]
+        comm = self.get_comm(content["comm_id"])
         # The manager has a widget's state, and has answered.
-        if comm.target_name == WIDGET and content["data"]["method"] == "request_state":
+        if comm is None or (comm.target_name == WIDGET and content["data"]["method"] == "request_state"):
             return
         if comm.is_old:
             content["data"] = old_widgets.heard(content["data"])
