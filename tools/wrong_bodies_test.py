@@ -165,9 +165,12 @@ class Batches(unittest.TestCase):
 
 class Judging(unittest.TestCase):
     def test_how(self):
-        self.assertEqual(kit.how_refused(True, "must-fail a/b.edit: refused, as it must be: src/a.rt:1:1"), "proof")
-        self.assertEqual(kit.how_refused(True, f"must-fail a/b.edit: refused, as it must be ({kit.BY_NAME}, so ..)"), "by-name")
-        self.assertIsNone(kit.how_refused(False, "must-fail a/b.edit: NOT REFUSED"))
+        rt = kit.loaded()
+        self.assertEqual(kit.how_refused(rt.REFUSED, "must-fail a/b.edit: refused, as it must be: src/a.rt:1:1"), "proof")
+        self.assertEqual(kit.how_refused(rt.REFUSED, f"must-fail a/b.edit: refused, as it must be ({kit.BY_NAME}, so ..)"), "by-name")
+        self.assertEqual(kit.how_refused(rt.AT_LIMIT, "must-fail a/b.edit: refused, as it must be (only by a limit of the prover)"), "limit")
+        for outcome in (rt.MISSED, rt.BAD, rt.UNSURE):
+            self.assertIsNone(kit.how_refused(outcome, "must-fail a/b.edit: refused, as it must be"))
 
 
 class Lanes(unittest.TestCase):

@@ -10,10 +10,8 @@ import subprocess
 import sys
 from pathlib import Path
 
-NEEDED = ("must_fail", "read_edit", "unread", "checked", "need", "free", "processors")
-REFUSED = "refused, as it must be"
+NEEDED = ("must_fail", "read_edit", "unread", "checked", "need", "free", "processors", "REFUSED", "AT_LIMIT", "BAD", "UNSURE", "MISSED")
 BY_NAME = "only because a proof file names what the edit took away"
-UNSURE = ("NOT REFUSED", "did not reach the prover", "could not be used")
 ONE_JOB = ["--jobs", "1"]
 
 
@@ -33,9 +31,12 @@ def loaded():
     return made
 
 
-def how_refused(is_refused, text):
-    """'proof', 'by-name', or None where the edit isn't refused by a proof that fails."""
-    if not is_refused or REFUSED not in text:
+def how_refused(outcome, text):
+    """'proof', 'by-name', 'limit', or None where the edit isn't refused, or by no proof that fails."""
+    rt = loaded()
+    if outcome == rt.AT_LIMIT:
+        return "limit"
+    if outcome != rt.REFUSED:
         return None
     return "by-name" if BY_NAME in text else "proof"
 
@@ -80,11 +81,10 @@ class Kit:
         """How the prover refuses the edit (None: it doesn't), and what the kit says of it. What isn't refused over the kept work is tried
         once more from nothing."""
         crate = self.crates[edit.crate]
-        is_refused, text = self.rt.must_fail(crate, str(path), ONE_JOB, str(kept))
-        if not is_refused and any(it in text for it in UNSURE):
-            is_refused, text = self.rt.must_fail(crate, str(path), ONE_JOB)
-        return how_refused(is_refused, text), text.partition(".edit: ")[2] or text
-
+        outcome, text = self.rt.must_fail(crate, str(path), ONE_JOB, str(kept))
+        if outcome in (self.rt.MISSED, self.rt.UNSURE):
+            outcome, text = self.rt.must_fail(crate, str(path), ONE_JOB)
+        return how_refused(outcome, text), text.partition(".edit: ")[2] or text
 
     def texts_of(self, edit, path):
         """The texts that the edit changes, by their file, and the same as they are; nothing where it can't be applied."""

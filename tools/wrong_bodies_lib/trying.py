@@ -43,9 +43,10 @@ class Told:
     not_reached: list = field(default_factory=list)
 
     def lines(self):
-        by_name = [str(it) for it, how in sorted(self.refused.items()) if how == "by-name"]
+        by_name, by_limit = ([str(it) for it, how in sorted(self.refused.items()) if how == wanted] for wanted in ("by-name", "limit"))
         yield from (f"wrong_bodies: {it}: {why}" for it, why in sorted(self.failed.items(), key=str))
         yield from (f"wrong_bodies: {it}: refused only because a proof file names what it took away" for it in by_name)
+        yield from (f"wrong_bodies: {it}: refused only by a limit of the prover, which gave no verdict" for it in by_limit)
         reached = f", {len(self.not_reached)} that stand weren't reached in the time" if self.not_reached else ""
         yield f"wrong_bodies: {len(self.refused) + len(self.failed)} tried, {self.stand} stand by the record{reached}"
         yield f"{len(self.refused)} passed, {len(self.failed)} failed"
