@@ -1,0 +1,97 @@
+//! A script, taken apart by clients.
+ghost use Rattle.std.specs.Prelude.{◌<◌, IfOk};
+
+use crate::reading::asked_of;
+use comm_json::LineRoom;
+use comm_script::{RunFault, is_blank, split_line};
+use std::alloc::Global;
+use std::io::{ErrorKind, Read};
+
+/// A line that isn't blank, by its number in the script, from 1.
+#[derive(Drop)]
+pub struct Line {
+    pub number: u64,
+    pub text: Vec<u8>,
+}
+
+/// Each client's lines, in their order.
+#[derive(Drop)]
+pub struct Script {
+    alloc: Global,
+    room: LineRoom,
+    count: u64,
+    lines: [Vec<Line>; 4],
+}
+
+impl Script {
+    fn new(alloc: Global) -> Script {
+        Script {
+            alloc,
+            room: LineRoom::new(alloc),
+            count: 0,
+            lines: [
+                Vec::new(alloc),
+                Vec::new(alloc),
+                Vec::new(alloc),
+                Vec::new(alloc),
+            ],
+        }
+    }
+
+    // Whose a line is. One that can't be read is client 0's.
+    fn whose(&mut self, text: &[u8]) -> Result<u8, RunFault>
+        ensures { IfOk result (λ client. client < 4) }
+    {
+        match asked_of(self.alloc, text, &mut self.room)? {
+            Ok((client, _asked)) => Ok(client),
+            Err(_) => Ok(0),
+        }
+    }
+
+    // The next line; a blank one is only counted.
+    fn add(&mut self, text: &[u8]) -> Result<(), RunFault> {
+        self.count = self.count.saturating_add(1);
+        if is_blank(text) {
+            return Ok(());
+        }
+        let client = self.whose(text)?;
+        let mut copy = Vec::new(self.alloc);
+        copy.extend_from_slice(text)?;
+        self.lines[usize::from(client)].push(Line {
+            number: self.count,
+            text: copy,
+        })?;
+        Ok(())
+    }
+
+    pub(crate) fn into_lines(self) -> [Vec<Line>; 4] {
+        self.lines
+    }
+}
+
+// All that the reader has.
+fn whole<I: Read>(alloc: Global, reader: &mut I) -> Result<Vec<u8>, RunFault> {
+    let mut text = Vec::new(alloc);
+    match reader.read_to_end(&mut text) {
+        Ok(_) => Ok(text),
+        Err(e) => match e.kind() {
+            ErrorKind::OutOfMemory => Err(RunFault::Memory),
+            _ => Err(RunFault::Read),
+        },
+    }
+}
+
+/// The script that the reader has.
+pub(crate) fn script_of<I: Read>(alloc: Global, reader: &mut I) -> Result<Script, RunFault> {
+    let text = whole(alloc, reader)?;
+    let mut script = Script::new(alloc);
+    let mut rest = text.as_slice();
+    while let Some((line, more)) = split_line(rest) {
+        script.add(line)?;
+        rest = more;
+    }
+    if !rest.is_empty() {
+        script.add(rest)?;
+    }
+    Ok(script)
+}
