@@ -1,0 +1,11 @@
+//! Whatever the threads' schedule was, the history is one of the manager of one thread.
+mod comings;
+mod filling;
+mod jobs;
+mod named;
+mod one_comm;
+mod one_waits;
+mod replay;
+mod threads;
+mod waiting;
+mod words;
