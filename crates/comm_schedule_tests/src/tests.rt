@@ -5,6 +5,7 @@ mod jobs;
 mod named;
 mod one_comm;
 mod one_waits;
+mod refusals;
 mod replay;
 mod threads;
 mod waiting;

@@ -1,4 +1,5 @@
 //! What a client does in a thread of its own.
+use crate::tests::refusals::{bears, refuses};
 use crate::tests::words::{Told, Wrong, answer, empty, holds, told_by};
 use comm_core::{Reply, Unavailable};
 use comm_manager::{Client, Manager, Naming, Stamp};
@@ -21,6 +22,10 @@ pub enum Job {
     Fills,
     /// Opens this comm towards "t" 50 times, and closes it where it was opened.
     Visits(&'static str),
+    /// Opens "a" towards "t" and closes it, again and again, each time with another allocation refused.
+    Refuses,
+    /// Opens "b" towards "t" and closes it, and bears it where memory is refused.
+    Bears,
 }
 
 /// Registers an idle target as "t".
@@ -236,5 +241,7 @@ pub fn does<J: Naming, T: Target, R: Wait>(
         Job::Closes => closes(rt, alloc, manager, client),
         Job::Fills => fills(rt, alloc, manager, client),
         Job::Visits(id) => visits(rt, alloc, manager, client, id),
+        Job::Refuses => refuses(rt, alloc, manager, client),
+        Job::Bears => bears(rt, alloc, manager, client),
     }
 }

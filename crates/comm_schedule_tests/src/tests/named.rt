@@ -39,7 +39,7 @@ pub struct Seen {
     pub untaken: Vec<Arc<Entry, Global>>,
 }
 
-// Who visits needs a target first.
+// Who visits needs a target first, and so does who has memory refused.
 fn begin<J: Naming, T: Target, R: Wait>(
     rt: &R,
     alloc: Global,
@@ -49,7 +49,7 @@ fn begin<J: Naming, T: Target, R: Wait>(
     targets: &mut Vec<T>,
 ) -> Result<(), Wrong> {
     match job {
-        Job::Visits(_) => {
+        Job::Visits(_) | Job::Refuses => {
             let target = targets.pop().ok_or(Wrong)?;
             register(rt, alloc, manager, client, target)
         }
