@@ -2,9 +2,10 @@
 //
 //     comm::manager manager({.widget = 1, .plain = 1});   // C++20; in C++17 comm::stock{0, 0, 1, 1}
 //     manager.register_target(comm::kind::widget, "jupyter.widget");
-//     for (comm::answer answer : comm::answers(manager.message(header, metadata, content, buffers))) ..
+//     comm::outcome came = manager.message(header, metadata, content, frames);
+//     for (const comm::sent &sent : came.sent) ..
 //
-// A call that isn't made throws comm::error, and leaves the manager as it was. The texts that calls give stand in the manager's own
+// A call that isn't made throws comm::error, and leaves the manager as it was. The texts that `line` and its like give stand in the manager's own
 // buffer, until its next call. A manager has one call at a time, and may go to another thread between two calls.
 #ifndef COMM_HPP
 #define COMM_HPP
@@ -35,7 +36,31 @@ enum class status : std::uint32_t {
   full = COMM_FULL,
   bad_name = COMM_BAD_NAME,
   bad_kind = COMM_BAD_KIND,
-  no_stock = COMM_NO_STOCK
+  no_stock = COMM_NO_STOCK,
+  bad_sizes = COMM_BAD_SIZES,
+  not_json = COMM_NOT_JSON,
+  no_part = COMM_NO_PART
+};
+
+/// What a call came to. At bad, refused and fault `manager::text` has the reason.
+enum class reply : std::uint32_t {
+  none = COMM_REPLY_NONE,
+  bad = COMM_REPLY_BAD,
+  read = COMM_REPLY_READ,
+  registered = COMM_REPLY_REGISTERED,
+  name_taken = COMM_REPLY_NAME_TAKEN,
+  opened = COMM_REPLY_OPENED,
+  id_in_use = COMM_REPLY_ID_IN_USE,
+  refused = COMM_REPLY_REFUSED,
+  delivered = COMM_REPLY_DELIVERED,
+  custom = COMM_REPLY_CUSTOM,
+  fault = COMM_REPLY_FAULT,
+  no_comm = COMM_REPLY_NO_COMM,
+  closed = COMM_REPLY_CLOSED,
+  unregistered = COMM_REPLY_UNREGISTERED,
+  no_target = COMM_REPLY_NO_TARGET,
+  launched = COMM_REPLY_LAUNCHED,
+  not_widget = COMM_REPLY_NOT_WIDGET
 };
 
 inline const char *name_of(status found) noexcept {
@@ -50,6 +75,9 @@ inline const char *name_of(status found) noexcept {
   case status::bad_name: return "comm: the name isn't UTF-8";
   case status::bad_kind: return "comm: no kind has this number";
   case status::no_stock: return "comm: no target of the kind is left";
+  case status::bad_sizes: return "comm: the sizes don't add up to that of the frames";
+  case status::not_json: return "comm: header, metadata or content isn't one JSON text";
+  case status::no_part: return "comm: there is no such part";
   }
   return "comm: a status that this header doesn't know";
 }
@@ -87,18 +115,29 @@ private:
   std::size_t size_ = 0;
 };
 
-/// Adds the base64 text of bytes (RFC 4648, section 4), as `buffers` of a line have it.
-inline void append_base64(std::string &to, bytes from) {
-  static constexpr char letters[] = "ABCDEFGHIJKLMNOPQRSTUVWXYZabcdefghijklmnopqrstuvwxyz0123456789+/";
-  for (std::size_t at = 0; at < from.size(); at += 3) {
-    const std::size_t left = from.size() - at;
-    const std::uint32_t three = std::uint32_t{from[at]} << 16 | (left > 1 ? std::uint32_t{from[at + 1]} << 8 : 0) | (left > 2 ? from[at + 2] : 0u);
-    to += letters[three >> 18];
-    to += letters[three >> 12 & 63];
-    to += left > 1 ? letters[three >> 6 & 63] : '=';
-    to += left > 2 ? letters[three & 63] : '=';
-  }
-}
+/// Bytes that came out of a manager.
+using frame = std::vector<std::uint8_t>;
+
+/// A message that goes out, by its parts. A comm_info_reply has no id; content and metadata are JSON.
+struct sent {
+  std::string type;
+  std::string id;
+  std::string content;
+  std::string metadata;
+  std::vector<frame> frames;
+};
+
+/// What a call came to, and what goes out, in its order.
+struct outcome {
+  comm::reply reply = comm::reply::none;
+  std::vector<comm::sent> sent;
+};
+
+/// What a reply carries for the kernel: JSON, and frames.
+struct carried {
+  std::string content;
+  std::vector<frame> frames;
+};
 
 /// One line of an answer: `word` is "reply", "out", "state" or "bad". An `out` has its JSON in `words`, and no number.
 struct answer {
@@ -159,20 +198,41 @@ public:
     return told([&](std::size_t &size) { return comm_line(handle(), some(text), text.size(), out_.data(), out_.size(), &size); });
   }
 
-  /// Plays a message of a frontend by its JSON texts, as the wire has them, and its binary frames. Each text is to be one JSON object.
-  std::string_view message(std::string_view header, std::string_view metadata, std::string_view content, const std::vector<bytes> &buffers = {}) {
-    line_.assign("{\"header\":").append(header).append(",\"metadata\":").append(metadata).append(",\"content\":").append(content);
-    line_ += ",\"buffers\":[";
-    for (const bytes &buffer : buffers) {
-      line_ += line_.back() == '[' ? "\"" : ",\"";
-      append_base64(line_, buffer);
-      line_ += '"';
+  /// Plays a message of a frontend by its parts: JSON texts as the wire has them, and binary frames. Clients are numbered 0 to 3.
+  outcome message(std::string_view header, std::string_view metadata, std::string_view content, const std::vector<bytes> &frames = {},
+                  std::uint32_t client = 0) {
+    together_.clear();
+    std::vector<std::size_t> sizes;
+    for (const bytes &frame : frames) {
+      together_.insert(together_.end(), frame.begin(), frame.end());
+      sizes.push_back(frame.size());
     }
-    line_ += "]}";
-    return line(line_);
+    // The library takes no null pointer, which an empty vector may have.
+    sizes.push_back(0);
+    const bytes texts[] = {header, metadata, content, together_};
+    std::uint32_t reply = 0;
+    std::size_t count = 0;
+    checked(comm_message(handle(), client, some(texts[0]), texts[0].size(), some(texts[1]), texts[1].size(), some(texts[2]), texts[2].size(),
+                         some(texts[3]), texts[3].size(), sizes.data(), frames.size(), &reply, &count));
+    return came(reply, count);
   }
 
-  /// What was said to the last line or register, again.
+  /// What the last line, message or register came to.
+  outcome answer() {
+    std::uint32_t reply = 0;
+    std::size_t count = 0;
+    checked(comm_answer(handle(), &reply, &count));
+    return came(reply, count);
+  }
+
+  /// What the last reply carries for the kernel: `custom` its content and frames, `unregistered` the JSON list of the ids that were closed. Others
+  /// carry nothing, and this throws `no_part`.
+  carried own() {
+    const auto part = [&](std::size_t part, std::size_t &size) { return comm_reply_part(handle(), part, out_.data(), out_.size(), &size); };
+    return {text_of(part, COMM_PART_CONTENT), frames_of(part)};
+  }
+
+  /// What was said to the last line, message or register, again.
   std::string_view text() {
     return told([&](std::size_t &size) { return comm_text(handle(), out_.data(), out_.size(), &size); });
   }
@@ -203,6 +263,41 @@ private:
     return handle_.get();
   }
 
+  outcome came(std::uint32_t reply, std::size_t count) {
+    outcome found{static_cast<comm::reply>(reply), {}};
+    for (std::size_t number = 0; number < count; number++) {
+      const auto part = [&](std::size_t part, std::size_t &size) { return comm_part(handle(), number, part, out_.data(), out_.size(), &size); };
+      found.sent.push_back({text_of(part, COMM_PART_TYPE), text_of(part, COMM_PART_ID), text_of(part, COMM_PART_CONTENT),
+                            text_of(part, COMM_PART_METADATA), frames_of(part)});
+    }
+    return found;
+  }
+
+  /// Has a part written into the buffer, which grows to it.
+  template <class Part> status written(Part part, std::size_t number, std::size_t &size) {
+    std::uint32_t found = part(number, size);
+    if (found == COMM_SHORT) {
+      out_.resize(2 * size);
+      found = part(number, size);
+    }
+    if (found != COMM_NO_PART) checked(found);
+    return static_cast<status>(found);
+  }
+
+  template <class Part> std::string text_of(Part part, std::size_t number) {
+    std::size_t size = 0;
+    if (written(part, number, size) == status::no_part) throw error(status::no_part);
+    return {out_.begin(), out_.begin() + static_cast<std::ptrdiff_t>(size)};
+  }
+
+  template <class Part> std::vector<frame> frames_of(Part part) {
+    std::vector<frame> found;
+    std::size_t size = 0;
+    while (written(part, COMM_PART_FRAMES + found.size(), size) == status::ok)
+      found.emplace_back(out_.begin(), out_.begin() + static_cast<std::ptrdiff_t>(size));
+    return found;
+  }
+
   template <class Call> std::string_view told(Call call) {
     std::size_t size = 0;
     std::uint32_t found = call(size);
@@ -218,7 +313,7 @@ private:
   // On the heap, since a handle is not to be copied, and a manager may be moved.
   std::unique_ptr<comm_handle, ends> handle_;
   std::vector<std::uint8_t> out_;
-  std::string line_;
+  std::vector<std::uint8_t> together_;
 };
 
 } // namespace comm

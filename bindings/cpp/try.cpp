@@ -47,19 +47,31 @@ static void registering(comm::manager &manager) {
 }
 
 static void frames(comm::manager &manager) {
-  check(manager.message(R"({"msg_type":"comm_open"})", "{}", R"({"comm_id":"a","target_name":"mine é"})") == "reply 4 opened\n", "an open by its parts");
+  const comm::outcome opened = manager.message(R"({"msg_type":"comm_open"})", "{}", R"({"comm_id":"a","target_name":"mine é"})");
+  check(opened.reply == comm::reply::opened && opened.sent.empty(), "an open by its parts");
+  check(status_of([&] { manager.own(); }) == comm::status::no_part, "an open carries nothing");
   const std::array<std::uint8_t, 2> two{1, 2};
-  const std::string six = "\x89PNG\r\n";
+  const std::string six(6000, 'p');
   const std::vector<std::byte> four(4, std::byte{255});
-  const std::string_view said =
-      manager.message(R"({"msg_type":"comm_msg"})", "{}", R"({"comm_id":"a","data":{"x":1}})", {two, {}, six, four});
-  check(said == "reply 5 custom {\"buffers\":[\"AQI=\",\"\",\"iVBORw0K\",\"/////w==\"],\"content\":{\"x\":1}}\n", "frames of many types");
+  const comm::outcome came = manager.message(R"({"msg_type":"comm_msg"})", "{}", R"({"comm_id":"a","data":{"x":1}})", {two, {}, six, four}, 3);
+  check(came.reply == comm::reply::custom && came.sent.empty(), "frames of many types");
+  const comm::carried own = manager.own();
+  const std::vector<comm::frame> wanted{{1, 2}, {}, comm::frame(6000, 'p'), {255, 255, 255, 255}};
+  check(own.content == R"({"x":1})" && own.frames == wanted, "what the kernel gets");
+  check(status_of([&] { manager.message("{", "{}", "{}"); }) == comm::status::not_json, "no JSON");
 }
 
 static void answers(comm::manager &manager) {
   const std::vector<comm::answer> found = comm::answers(manager.line(R"({"call":"send","id":"a","data":{"y":"\n "}})"));
   check(found.size() == 2 && found[0].word == "reply" && found[0].number == 6 && found[0].words == "delivered", "a reply");
   check(found.size() == 2 && found[1].word == "out" && found[1].words.substr(0, 14) == "{\"buffers\":[],", "what goes out");
+  const comm::outcome again = manager.answer();
+  check(again.reply == comm::reply::delivered && again.sent.size() == 1, "the same by its parts");
+  if (again.sent.size() == 1) {
+    const comm::sent &sent = again.sent[0];
+    check(sent.type == "comm_msg" && sent.id == "a" && sent.content == R"({"comm_id":"a","data":{"y":"\n "}})", "what goes out, by its parts");
+    check(sent.metadata == "{}" && sent.frames.empty(), "nothing more");
+  }
   const std::vector<comm::answer> bad = comm::answers(manager.line("{"));
   check(bad.size() == 1 && bad[0].word == "bad" && bad[0].number == 7 && bad[0].words == "not_json", "a bad line");
   check(manager.line("").empty() && manager.line({}).empty() && comm::answers("").empty(), "an empty line says nothing");
@@ -68,7 +80,8 @@ static void answers(comm::manager &manager) {
 static void long_texts(comm::manager &manager) {
   const std::string text(100000, 'x');
   const std::string wanted = "reply 7 custom {\"buffers\":[],\"content\":{\"k\":\"" + text + "\"}}\n";
-  check(manager.message(R"({"msg_type":"comm_msg"})", "{}", R"({"comm_id":"a","data":{"k":")" + text + "\"}}") == wanted, "a long text");
+  manager.message(R"({"msg_type":"comm_msg"})", "{}", R"({"comm_id":"a","data":{"k":")" + text + "\"}}");
+  check(manager.own().content == "{\"k\":\"" + text + "\"}", "a long text");
   check(manager.text() == wanted, "the same again");
 }
 

@@ -11,20 +11,34 @@ import logging
 import sys
 import time
 
-from rolgunai import Kind, Manager, load
+from rolgunai import Kind, Manager, Reply, load
 
 dumps = json.JSONEncoder(separators=(",", ":"), ensure_ascii=False).encode
 OPEN, MSG = b'{"msg_type":"comm_open"}', b'{"msg_type":"comm_msg"}'
 VERSION = b'{"version":"2.1.0"}'
 
 
-class Lines:
-    """The library, by lines: the parts are put together as they are, and JSON is read where something goes out."""
+class Parts:
+    """The library, by parts."""
+
+    name = "by parts"
 
     def __init__(self, library):
         self.manager = Manager(widget=1, plain=1, library=library)
         self.manager.register(Kind.WIDGET, "jupyter.widget")
         self.manager.register(Kind.PLAIN, "plain")
+
+    def play(self, header, metadata, content, buffers):
+        answer = self.manager.message(header, metadata, content, buffers)
+        # For the kernel, which has the message in hand.
+        heard = (json.loads(content)["data"], buffers) if answer.reply == Reply.CUSTOM else None
+        return [(sent.content, sent.frames) for sent in answer.sent], heard
+
+
+class Lines(Parts):
+    """The library, by lines: the parts are put together as they are, and JSON is read where something goes out."""
+
+    name = "by lines"
 
     def play(self, header, metadata, content, buffers):
         texts = b",".join(b'"%s"' % base64.b64encode(buffer) for buffer in buffers)
@@ -36,7 +50,6 @@ class Lines:
                 out = json.loads(rest)
                 sent.append((dumps(out["content"]), [base64.b64decode(text) for text in out["buffers"]]))
             elif rest.split(b" ", 2)[1] == b"custom":
-                # For the kernel, which has the message in hand.
                 heard = json.loads(content)["data"], buffers
         return sent, heard
 
@@ -81,6 +94,8 @@ class Widget:
 
 class Ipykernel:
     """ipykernel's manager and comms in a kernel that sends nothing over a socket."""
+
+    name = "ipykernel"
 
     def __init__(self):
         from ipykernel.comm import CommManager
@@ -163,17 +178,18 @@ def a_second(manager, parts, seconds):
 def main(path, seconds=1.0):
     logging.disable(logging.CRITICAL)
     library = load(path)
-    print(f"{'calls a second':20} {'buffer':>7} {'library':>10} {'ipykernel':>10}  ratio")
+    print("calls a second        buffer " + "".join(f"{kind.name:>11}" for kind in (Parts, Lines, Ipykernel)) + "  by parts / ipykernel")
     for size in (0, 1024, 65536):
         buffers = [bytes(n % 251 for n in range(size))] if size else []
-        managers = [Lines(library), Ipykernel()]
+        managers = [Parts(library), Lines(library), Ipykernel()]
         for parts in opening(buffers):
             for manager in managers:
                 manager.play(*parts)
         for name, parts in workloads(buffers):
-            assert same(*(manager.play(*parts) for manager in managers)), (name, size)
+            by_parts, by_lines, ipykernel = (manager.play(*parts) for manager in managers)
+            assert same(by_parts, ipykernel) and same(by_lines, ipykernel), (name, size)
             best = [max(counts) for counts in zip(*([a_second(manager, parts, seconds) for manager in managers] for _ in range(3)))]
-            print(f"{name:20} {size:7} {best[0]:10.0f} {best[1]:10.0f} {best[0] / best[1]:6.2f}", flush=True)
+            print(f"{name:20} {size:7} " + "".join(f"{count:11.0f}" for count in best) + f"{best[0] / best[2]:8.2f}", flush=True)
 
 
 if __name__ == "__main__":

@@ -7,7 +7,7 @@ import sys
 import threading
 from collections.abc import Callable
 
-from rolgunai import ClosedError, CommError, Kind, Manager, Status, load
+from rolgunai import Answer, ClosedError, CommError, Kind, Manager, Reply, Sent, Status, load
 
 passed = failed = 0
 
@@ -55,6 +55,31 @@ def plain(library) -> None:
         check("after the end", True)
 
 
+OPEN, MSG, CLOSE = (b'{"msg_type":"comm_%s"}' % word for word in (b"open", b"msg", b"close"))
+
+
+def parts(library) -> None:
+    manager = Manager(echo=1, plain=1, library=library)
+    manager.register(Kind.ECHO, "e")
+    manager.register(Kind.PLAIN, "p")
+    for comm_id in (b"e", b"p"):
+        opened = manager.message(OPEN, b"{}", b'{"comm_id":"%s","target_name":"%s"}' % (comm_id, comm_id))
+        check("opened by parts", opened == Answer(Reply.OPENED, []))
+    frames = [b"\x00\xff", b"", bytes(100000)]
+    echoed = manager.message(MSG, b"{}", '{"comm_id":"e","data":{"x":"é"}}'.encode(), frames)
+    wanted = Sent("comm_msg", "e", '{"comm_id":"e","data":{"x":"é"}}'.encode(), b"{}", frames)
+    check("frames there and back", echoed == Answer(Reply.DELIVERED, [wanted]) and manager.answer() == echoed)
+    custom = manager.message(MSG, b"{}", b'{"comm_id":"p","data":{"x":[1]}}', (memoryview(frame) for frame in frames), client=3)
+    check("for the kernel", custom == Answer(Reply.CUSTOM, []) and manager.custom() == (b'{"x":[1]}', frames))
+    check("no JSON", status_of(lambda: manager.message(MSG, b"{", b"{}")) == Status.NOT_JSON)
+    check("no such client", manager.message(MSG, b"{}", b'{"comm_id":"e"}', client=4).reply == Reply.BAD and b" bad_client\n" in manager.text())
+    manager.line(b'{"call":"unregister","name":"e"}')
+    ended = Answer(Reply.UNREGISTERED, [Sent("comm_close", "e", b'{"comm_id":"e","data":{}}', b"{}", [])])
+    check("a line's answer by parts", manager.answer() == ended and manager.closed() == b'["e"]')
+    check("no part", status_of(Manager(library=library).closed) == Status.NO_PART)
+    check("closed by parts", manager.message(CLOSE, b"{}", b'{"comm_id":"p"}') == Answer(Reply.CLOSED, []))
+
+
 def threads(library) -> None:
     with Manager(library=library) as manager:
         answers: list[bytes] = []
@@ -70,6 +95,7 @@ def main(path: str) -> int:
     library = load(path)
     opening(library)
     plain(library)
+    parts(library)
     threads(library)
     print(f"{passed} passed, {failed} failed")
     return failed != 0

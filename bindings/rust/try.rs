@@ -3,7 +3,7 @@
 
 mod comm;
 
-use comm::{answers, Answer, Error, Kind, Manager, Stock};
+use comm::{answers, Answer, Error, Kind, Manager, Outcome, Reply, Sent, Stock};
 use std::process::ExitCode;
 
 #[derive(Default)]
@@ -61,9 +61,37 @@ fn long_texts(checks: &mut Checks, manager: &mut Manager) {
     checks.check("the same again", manager.text() == Ok(wanted.as_bytes()));
 }
 
+fn parts(checks: &mut Checks) -> Result<(), Error> {
+    let mut manager = Manager::open(Stock { echo: 1, plain: 1, ..Stock::default() })?;
+    manager.register(Kind::Echo, "e")?;
+    manager.register(Kind::Plain, "p")?;
+    checks.check("a register carries nothing", manager.own() == Err(Error::NoPart));
+    for content in [r#"{"comm_id":"e","target_name":"e"}"#, r#"{"comm_id":"p","target_name":"p"}"#] {
+        let opened = manager.message(0, br#"{"msg_type":"comm_open"}"#, b"{}", content.as_bytes(), &[])?;
+        checks.check("an open by its parts", opened == Outcome { reply: Reply::Opened, sent: vec![] });
+    }
+    let frames: [&[u8]; 3] = [&[0, 255], &[], &[7; 100_000]];
+    let echoed = manager.message(3, br#"{"msg_type":"comm_msg"}"#, b"{}", br#"{"comm_id":"e","data":{"x":1}}"#, &frames)?;
+    let sent = Sent {
+        kind: b"comm_msg".to_vec(),
+        id: b"e".to_vec(),
+        content: br#"{"comm_id":"e","data":{"x":1}}"#.to_vec(),
+        metadata: b"{}".to_vec(),
+        frames: frames.map(<[u8]>::to_vec).to_vec(),
+    };
+    checks.check("frames there and back", echoed == Outcome { reply: Reply::Delivered, sent: vec![sent] } && manager.answer() == Ok(echoed.clone()));
+    let custom = manager.message(0, br#"{"msg_type":"comm_msg"}"#, b"{}", br#"{"comm_id":"p","data":{"y":[2]}}"#, &frames)?;
+    checks.check("for the kernel", custom == Outcome { reply: Reply::Custom, sent: vec![] });
+    checks.check("what the kernel gets", manager.own() == Ok((br#"{"y":[2]}"#.to_vec(), frames.map(<[u8]>::to_vec).to_vec())));
+    checks.check("no JSON", manager.message(0, b"{", b"{}", b"{}", &[]) == Err(Error::NotJson));
+    Ok(())
+}
+
 fn main() -> ExitCode {
     let mut checks = Checks::default();
     opening(&mut checks);
+    let parted = parts(&mut checks);
+    checks.check("each call by parts is made", parted == Ok(()));
     match Manager::open(Stock { plain: 1, ..Stock::default() }) {
         Err(error) => checks.check(&format!("an open: {error}"), false),
         Ok(mut manager) => {

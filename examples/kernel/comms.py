@@ -15,11 +15,13 @@ from ipykernel.jsonutil import json_clean
 from traitlets import default
 
 import old_widgets
-from rolgunai import Kind, Manager
-from wire import Sent, ask, line_of, texts
+from rolgunai import Answer, Kind, Manager, Reply, Sent
+from wire import command, dumps, hear, texts, words
 
 WIDGET = "jupyter.widget"
 ANY_NUMBER = 2**32 - 1
+DONE = {Reply.OPENED, Reply.LAUNCHED, Reply.DELIVERED, Reply.CUSTOM, Reply.CLOSED, Reply.UNREGISTERED}
+LATER = Answer(Reply.NONE, [])
 
 
 class CommRefused(ValueError):
@@ -35,41 +37,46 @@ class ProvedComms(CommManager):
         self.names = set()
         self.lock, self.is_busy, self.late = threading.RLock(), False, collections.deque()
 
-    def play(self, line, parent, send):
-        """Plays a line, and sends what goes out in its order. Gives the words of the reply."""
+    def play(self, call, parent, send):
+        """Has the manager play what the call hands it, and sends what goes out in its order. Gives its answer; raises where it is a refusal."""
         with self.lock:
             # The garbage collector ends a comm amid a call of this thread: its close is played after that.
             if self.is_busy:
-                self.late.append((line, parent, send))
-                return "later"
+                self.late.append((call, parent, send))
+                return LATER
             self.is_busy = True
             try:
-                words = self._play(line, parent, send)
+                answer, why = self._play(call, parent, send)
                 while self.late:
                     self._play(*self.late.popleft())
-                return words
             finally:
                 self.is_busy = False
+        if why is not None:
+            raise CommRefused(why)
+        return answer
 
-    def _play(self, line, parent, send):
-        answer = ask(self.proved, line)
+    def _play(self, call, parent, send):
+        answer = call(self.proved)
         for sent in answer.sent:
             send(sent, parent)
-        return answer.words
+        is_done = answer.reply in DONE or (answer.reply == Reply.READ and answer.sent)
+        return answer, None if is_done else words(self.proved)
 
-    def publish(self, sent, parent):
+    def publish(self, sent, parent, metadata=None):
         """Sends to all frontends."""
-        topic = ("comm-" + sent.content["comm_id"]).encode()
+        topic = ("comm-" + sent.comm_id).encode()
+        metadata = {**json.loads(sent.metadata), **(metadata or {})}
         session, socket = self.kernel.session, self.kernel.iopub_socket
-        session.send(socket, sent.kind, sent.content, parent=parent, ident=topic, metadata=sent.metadata, buffers=sent.buffers)
+        session.send(socket, sent.kind, sent.content, parent=parent, ident=topic, metadata=metadata, buffers=sent.frames)
 
     def hear(self, message):
         """Plays a message of a frontend; tells whether the kernel's own code is to have it."""
-        words = self.play(line_of(message), message, self.publish)
-        if words in ("opened", "delivered", "closed") or words.startswith("custom "):
-            return True
-        self.log.warning("%s: %s", message["header"]["msg_type"], words)
-        return False
+        try:
+            self.play(lambda manager: hear(manager, message), message, self.publish)
+        except CommRefused as refused:
+            self.log.warning("%s: %s", message["header"]["msg_type"], refused)
+            return False
+        return True
 
     # What frontends send.
 
@@ -81,9 +88,9 @@ class ProvedComms(CommManager):
         if not self.hear(msg):
             return
         content = msg["content"]
-        comm = self.comms[content["comm_id"]]
+        comm = self.get_comm(content["comm_id"])
         # The manager has a widget's state, and has answered.
-        if comm.target_name == WIDGET and content["data"]["method"] == "request_state":
+        if comm is None or (comm.target_name == WIDGET and content["data"]["method"] == "request_state"):
             return
         if comm.is_old:
             content["data"] = old_widgets.heard(content["data"])
@@ -97,9 +104,10 @@ class ProvedComms(CommManager):
         def reply(sent, to):
             self.kernel.session.send(stream, sent.kind, sent.content, to, ident)
 
-        words = self.play(line_of(parent), parent, reply)
-        if words:
-            content = {"status": "error", "ename": "CommRefused", "evalue": words, "traceback": []}
+        try:
+            self.play(lambda manager: hear(manager, parent), parent, reply)
+        except CommRefused as refused:
+            content = {"status": "error", "ename": "CommRefused", "evalue": str(refused), "traceback": []}
             self.kernel.session.send(stream, "comm_info_reply", content, parent, ident)
 
     # What the kernel's code asks for.
@@ -111,11 +119,15 @@ class ProvedComms(CommManager):
 
     def unregister_target(self, target_name, f):
         """Closes the target's comms, which ipykernel leaves open."""
-        words = self.play({"call": "unregister", "name": target_name}, self.parent_message(), self.publish)
-        if words.startswith("unregistered "):
-            self.names.discard(target_name)
-            for comm_id in json.loads(words.split(" ", 1)[1]):
-                self.comms.pop(comm_id)._closed = True
+        def unregister(manager):
+            answer = command(manager, {"call": "unregister", "name": target_name})
+            if answer.reply == Reply.UNREGISTERED:
+                self.names.discard(target_name)
+                for comm_id in json.loads(manager.closed()):
+                    self.comms.pop(comm_id)._closed = True
+            return answer
+
+        self.play(unregister, self.parent_message(), self.publish)
         return super().unregister_target(target_name, f)
 
     def name(self, target_name):
@@ -150,16 +162,18 @@ class ProvedComm(Comm):
 
         def send(sent, parent):
             # The data of a kernel's close and any metadata are the caller's own: the manager says nothing of them.
-            content = {**sent.content, "data": data} if msg_type == "comm_close" else sent.content
-            comms.publish(sent._replace(content=content, metadata={**sent.metadata, **metadata}), parent)
+            if msg_type == "comm_close":
+                sent = sent._replace(content=dumps({"comm_id": self.comm_id, "data": data}).encode())
+            comms.publish(sent, parent, metadata)
 
         parent = comms.parent_message()
-        words = comms.play(line, parent, send)
-        if words not in ("launched", "opened", "delivered", "closed", "later"):
-            raise CommRefused(f"{msg_type}: {words}")
-        if words == "opened":
-            content = {"comm_id": self.comm_id, "data": data, **keys}
-            comms.publish(Sent(msg_type, content, metadata, buffers), parent)
+        try:
+            answer = comms.play(lambda manager: command(manager, line), parent, send)
+        except CommRefused as refused:
+            raise CommRefused(f"{msg_type}: {refused}") from None
+        if answer.reply == Reply.OPENED:
+            content = dumps({"comm_id": self.comm_id, "data": data, **keys}).encode()
+            comms.publish(Sent(msg_type, self.comm_id, content, b"{}", buffers), parent, metadata)
 
     def command(self, msg_type, data, buffers):
         """The line that the manager plays for it."""

@@ -1,46 +1,32 @@
-"""Between Jupyter's messages and the manager's lines (docs/FORMATS.md): all the glue that a kernel in Python needs, with no Jupyter in it."""
+"""Between Jupyter's messages and the manager: all the glue that a kernel in Python needs, with no Jupyter in it.
+
+A message goes in and out by its parts, so that its buffers stay bytes. A command of the kernel is a line (docs/FORMATS.md).
+"""
 
 import base64
 import json
-from typing import NamedTuple
+
+dumps = json.JSONEncoder(separators=(",", ":")).encode
 
 
-class Sent(NamedTuple):
-    """A message that the manager sends."""
-
-    kind: str
-    content: dict
-    metadata: dict
-    buffers: list
+def hear(manager, message):
+    """Plays a message of a frontend, as ipykernel's session gives it."""
+    header = {"msg_type": message["header"]["msg_type"]}
+    parts = (dumps(part).encode() for part in (header, message["metadata"], message["content"]))
+    return manager.message(*parts, message.get("buffers") or ())
 
 
-class Answer(NamedTuple):
-    """What the manager says to a line: the words of its reply, or why the line is bad, and what goes out."""
-
-    words: str
-    sent: list
+def command(manager, line):
+    """Plays a command."""
+    manager.line(dumps(line).encode())
+    return manager.answer()
 
 
 def texts(buffers):
-    """Binary buffers as a line has them."""
+    """Binary buffers as a command has them."""
     return [base64.b64encode(bytes(buffer)).decode() for buffer in buffers or []]
 
 
-def line_of(message):
-    """A message of a frontend, as ipykernel's session gives it, as a line."""
-    line = {"header": {"msg_type": message["header"]["msg_type"]}, "content": message["content"], "metadata": message["metadata"]}
-    return {**line, "buffers": texts(message.get("buffers"))}
-
-
-def ask(manager, line):
-    """Plays a message or a command."""
-    words, sent = "", []
-    for said in manager.line(json.dumps(line, separators=(",", ":")).encode()).splitlines():
-        word, rest = said.split(b" ", 1)
-        if word == b"out":
-            out = json.loads(rest)
-            buffers = [base64.b64decode(text) for text in out["buffers"]]
-            sent.append(Sent(out["header"]["msg_type"], out["content"], out["metadata"], buffers))
-        else:
-            words = rest.split(b" ", 1)[1].decode()
-    return Answer(words, sent)
+def words(manager):
+    """The words of the last reply, or why the line or message is bad."""
+    return manager.text().split(b"\n", 1)[0].split(b" ", 2)[2].decode()

@@ -15,7 +15,7 @@ use Rattle.std.specs.declared.option.Option.{Option}
 use Rattle.std.specs.declared.option.Option.TheVariants.{None, Some}
 use Rattle.std_alloc.proofs.SendSync.{quiet, lies}
 use Rattle.comm_core.proofs.boxes.Boxes.TheSendSync as Boxes
-use Rattle.comm_core.proofs.Crossing.{dict_send}
+use Rattle.comm_core.proofs.Crossing.{dict_send, outgoings_send, reply_send, values}
 use Rattle.comm_core.specs.contracts.manager.Core as core
 use Rattle.comm_core.specs.contracts.comms.Comms as comms
 use Rattle.comm_core.specs.contracts.comm.Comm as comm
@@ -36,7 +36,11 @@ use Rattle.comm_c.specs.contracts.desk.Desk as desk
 use Rattle.comm_c.specs.contracts.handle.Handle as handle
 use Rattle.comm_c.specs.contracts.manager.Manager as manager
 use Rattle.comm_c.specs.contracts.manager.Manager.TheInside as inside
+use Rattle.comm_c.specs.contracts.sequel.Made as made
+use Rattle.comm_c.specs.contracts.sequel.Sequel as sequel
 use Rattle.comm_c.specs.contracts.stocked.Stocked as stocked
+use Rattle.comm_core.specs.contracts.reply.StateAnswer as state_answer
+use Rattle.comm_script.specs.contracts.asked.LineFault as line_fault
 
 comm_send : IsSend comm.the_row
 comm_send = search (sendable, crosses, dict_send, Text.the_send) depth 40
@@ -69,10 +73,34 @@ desk_send = search (sendable, crosses, stocked_send, core_send) depth 60 fits 20
 desk_field_send : IsSend (as_row desk.the_field)
 desk_field_send = desk_send
 
+made_send : IsSend made.the_row
+made_send = search (values, reply_send, outgoings_send) depth 40
+
+state_answer_send : IsSend state_answer.the_row
+state_answer_send = search values depth 40
+
+line_fault_send : IsSend line_fault.the_row
+line_fault_send = search (sendable, crosses) depth 40
+
+sequel_send : IsSend sequel.the_row
+sequel_send = search (values, made_send, outgoings_send, state_answer_send, line_fault_send) depth 60 fits 20000
+
+sequel_field_send : IsSend (as_row sequel.the_field)
+sequel_field_send = sequel_send
+
 inside_send : IsSend inside.the_row
 inside_send = declared_send inside.the_type (
   search (sendable, crosses, desk_field_send) depth 40,
-  (search (sendable, crosses) depth 40, (search (sendable, crosses) depth 40, (search (sendable, crosses) depth 40, tt))),
+  (
+    search (sendable, crosses) depth 40,
+    (
+      search (sendable, crosses) depth 40,
+      (
+        search (sendable, crosses) depth 40,
+        (search (sendable, crosses, sequel_field_send) depth 40, tt),
+      ),
+    ),
+  ),
 )
 
 manager_send : IsSend manager.the_row

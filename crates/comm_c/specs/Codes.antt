@@ -43,6 +43,18 @@ bad_kind = 8
 abbrev pub no_stock : ℕ
 no_stock = 9
 
+-- the sizes aren't those of the frames
+abbrev pub bad_sizes : ℕ
+bad_sizes = 10
+
+-- a part of the message isn't JSON
+abbrev pub not_json : ℕ
+not_json = 11
+
+-- there is no such message, or it has no such part
+abbrev pub no_part : ℕ
+no_part = 12
+
 -- the kinds of targets by their numbers
 abbrev pub kind_numbered : ℕ → Option Kind
 kind_numbered n =

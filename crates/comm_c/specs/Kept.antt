@@ -4,15 +4,19 @@ use Rattle.comm_core.specs.declared.limits.Limits.{Limits}
 use Rattle.comm_core.specs.Machine.{Name}
 use Rattle.comm_targets.specs.declared.kind.Kind.{Kind}
 use Rattle.comm_c.specs.Desk.{IsWithin, fresh_desk}
+use Rattle.comm_c.specs.Sequel.{sequel_text}
 use Rattle.comm_c.specs.Turns.{Turns, Registers}
 use Rattle.comm_c.specs.declared.left.Left.{Left}
 use Rattle.comm_c.specs.declared.desk.Desk.{Desk}
+use Rattle.comm_c.specs.declared.sequel.Sequel.{Sequel}
+use Rattle.comm_c.specs.declared.sequel.Sequel.TheVariants.{Nothing}
 
--- what it holds, how many calls it has had, lines and registers, and what it said to the last one
+-- what it holds, how many calls it has had, lines, messages and registers, what it said to the last one, and the same as values
 pub record Kept : Type 0 where
   pub desk : Desk
   pub number : ℕ
   pub text : List ℕ
+  pub sequel : Sequel
 
 -- it may have another call, after at most 2^62 of them
 pub record IsReady (d : Desk) (n : ℕ) : Type 0 where
@@ -22,11 +26,15 @@ pub record IsReady (d : Desk) (n : ℕ) : Type 0 where
 
 -- with nothing played, and these targets to register
 abbrev pub opened : Left → ℕ → Kept
-opened left comms = record { desk = fresh_desk left comms; number = 0; text = [] }
+opened left comms = record { desk = fresh_desk left comms; number = 0; text = []; sequel = Nothing }
 
 -- what a manager with this limit of comms plays within
 abbrev pub limits_of : ℕ → Limits
 limits_of comms = record { clients = 4; comms = comms; history = 4294967295; outbox = 65536 }
+
+-- its values are what its text says
+abbrev pub Shows : Kept → Type 0
+Shows k = k.text ≡ sequel_text k.sequel
 
 -- it plays this line as its next call, and keeps what it says
 abbrev pub Plays : Kept → List ℕ → Kept → Type 0

@@ -5,7 +5,10 @@ pub mod Kept
 pub mod KeptCode
 pub mod Left
 pub mod Legal
+pub mod Parted
+pub mod Piece
 pub mod Said
+pub mod Sequel
 pub mod Since
 pub mod Stocked
 pub mod Turns

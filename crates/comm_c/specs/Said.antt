@@ -3,11 +3,42 @@ use Rattle.std.specs.Prelude.{◌≡◌, ℕ, ◌<◌, ◌≤◌, ◌^◌, List,
 use Rattle.comm_targets.specs.declared.kind.Kind.{Kind}
 use Rattle.comm_core.specs.Machine.{Name}
 use Rattle.comm_c.specs.Left.{left_of}
-use Rattle.comm_c.specs.Kept.{Kept, Plays, Enters}
+use Rattle.comm_c.specs.Kept.{Kept, Plays, Enters, Shows}
+use Rattle.comm_c.specs.Sequel.{part_replied, part_sent, sent, sequel_number}
 
 -- the text stands at the beginning of the buffer, and the rest is as it was
 abbrev pub Fills : List ℕ → List ℕ → List ℕ → Type 0
 Fills text before now = now ≡ text ++ drop (length text) before
+
+-- a manager is there, whose values are what its text says
+abbrev pub HasShown : Option Kept → Type 0
+HasShown (Some k) = Shows k
+HasShown None = ⊥
+
+-- a manager is there, and this is the number of what its last call came to, and how many messages it sent
+abbrev pub HasAnswered : Option Kept → (reply count : ℕ) → Type 0
+HasAnswered (Some k) reply count = (reply ≡ sequel_number k.sequel) × (count ≡ length (sent k.sequel))
+HasAnswered None reply count = ⊥
+
+-- a part of a message that the last call sent, where there is one
+abbrev pub part_of : Option Kept → (message part : ℕ) → Option (List ℕ)
+part_of (Some k) message part = part_sent k.sequel message part
+part_of None message part = None
+
+-- a part of the reply to the last call, where there is one
+abbrev pub reply_part_of : Option Kept → (part : ℕ) → Option (List ℕ)
+reply_part_of (Some k) part = part_replied k.sequel part
+reply_part_of None part = None
+
+-- there is such a text, and it is in the buffer, with its size
+abbrev pub FillsPart : Option (List ℕ) → (before now : List ℕ) → ℕ → Type 0
+FillsPart (Some text) before now n = Fills text before now × (n ≡ length text)
+FillsPart None before now n = ⊥
+
+-- there is such a text of this size, which is longer than the buffer
+abbrev pub IsLonger : Option (List ℕ) → (buffer : List ℕ) → ℕ → Type 0
+IsLonger (Some text) buffer n = (n ≡ length text) × (length buffer < n)
+IsLonger None buffer n = ⊥
 
 -- a manager is there, and what it said last is in the buffer, with its size
 abbrev pub Tells : Option Kept → (before now : List ℕ) → ℕ → Type 0

@@ -1,7 +1,7 @@
 //! What C gets of a manager.
 ghost use Rattle.std.specs.Prelude.{◌≡◌, ◌≢◌, ◌⊎◌, ◌<◌, ◌≤◌, ◌^◌, None, Some, option_map, length, IsUtf8};
 ghost use Rattle.comm_c.specs.Codes.{ok, memory, short, full, bad_name, bad_kind, no_stock, kind_numbered};
-ghost use Rattle.comm_c.specs.Kept.{Plays};
+ghost use Rattle.comm_c.specs.Kept.{Plays, Shows};
 ghost use Rattle.comm_c.specs.Said.{EntersAs, Fills, LacksKind};
 
 use crate::codes::{BAD_KIND, BAD_NAME, FULL, MEMORY, NO_STOCK, OK, SHORT, kind_numbered};
@@ -34,7 +34,17 @@ pub fn told(manager: &Manager, out: &mut [u8], size: &mut usize) -> u32
     ensures kept { result ≢ ok → out.new ≡ out.old }
     ensures codes { (result ≡ ok) ⊎ (result ≡ short) }
 {
-    let text = manager.text();
+    filled(manager.text(), out, size)
+}
+
+/// Writes a text into the buffer, if that is long enough, and tells its size in any case.
+pub fn filled(text: &[u8], out: &mut [u8], size: &mut usize) -> u32
+    ensures whole { result ≡ ok → Fills text.now out.old out.new }
+    ensures size { size.new ≡ length text.now }
+    ensures short { result ≡ short → length out.old < length text.now }
+    ensures kept { result ≢ ok → out.new ≡ out.old }
+    ensures codes { (result ≡ ok) ⊎ (result ≡ short) }
+{
     let n = text.len();
     *size = n;
     if out.len() < n {
@@ -53,6 +63,7 @@ pub fn played(
     size: &mut usize,
 ) -> u32
     ensures plays { (result ≡ ok) ⊎ (result ≡ short) → Plays manager.old line.now manager.new }
+    ensures shows { (result ≡ ok) ⊎ (result ≡ short) → Shows manager.new }
     ensures whole { result ≡ ok → Fills manager.new.text out.old out.new }
     ensures size { (result ≡ ok) ⊎ (result ≡ short) → size.new ≡ length manager.new.text }
     ensures kept { result ≢ ok → out.new ≡ out.old }
@@ -80,6 +91,7 @@ pub fn entered(
     size: &mut usize,
 ) -> u32
     ensures enters { (result ≡ ok) ⊎ (result ≡ short) → EntersAs manager.old (kind_numbered kind) name.now manager.new }
+    ensures shows { (result ≡ ok) ⊎ (result ≡ short) → Shows manager.new }
     ensures whole { result ≡ ok → Fills manager.new.text out.old out.new }
     ensures size { (result ≡ ok) ⊎ (result ≡ short) → size.new ≡ length manager.new.text }
     ensures kept { result ≢ ok → out.new ≡ out.old }

@@ -34,6 +34,15 @@ pub const BAD_KIND: u32 = 8;
 /// No target of the kind is left.
 pub const NO_STOCK: u32 = 9;
 
+/// The sizes aren't those of the frames.
+pub const BAD_SIZES: u32 = 10;
+
+/// A part of the message isn't JSON.
+pub const NOT_JSON: u32 = 11;
+
+/// There is no such message, or it has no such part.
+pub const NO_PART: u32 = 12;
+
 /// The kind of targets that has this number.
 pub fn kind_numbered(number: u32) -> Option<Kind>
     ensures { result ≡ kind_numbered number }

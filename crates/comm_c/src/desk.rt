@@ -9,11 +9,14 @@ ghost use Rattle.comm_core.specs.Step.{step};
 ghost use Rattle.comm_script.specs.Words.{reply_line, out_lines};
 ghost use Rattle.comm_c.specs.Desk.{Changes, IsWithin, change_text};
 ghost use Rattle.comm_c.specs.Left.{is_registered, left_of};
+ghost use Rattle.comm_c.specs.Sequel.{sequel_text};
 ghost use Rattle.comm_c.specs.Turns.{Registers};
+ghost use Rattle.comm_c.specs.declared.sequel.Sequel.TheVariants as sequel;
 
 use crate::left::Left;
+use crate::sequel::{Made, Sequel};
 use crate::stocked::Stocked;
-use comm_core::{Call, Core, Entry, Finished, Ready, Reply};
+use comm_core::{Call, Core, Entry, Finished, Outgoings, Ready, Reply};
 use comm_messages::Parent;
 use comm_script::{append_outs, append_reply};
 use comm_targets::Kind;
@@ -73,13 +76,14 @@ impl Desk {
         client: u8,
         ready: Ready<Stocked>,
         text: &mut Vec<u8>,
-    ) -> Result<Reply, AllocError>
+    ) -> Result<Made, AllocError>
         requires client { client < 4 }
         requires ready { IsReady self.old.core ready }
         requires room { IsWithin (2 ^ 63) self.old }
         requires empty { text.old.items ≡ [] }
         ensures step { OnOk result (step self.old.core.limit (machine self.old.core) ready.call ready.outcome ≡ Some (record { reply = ready.reply; outgoing = ready.outgoing; next = machine self.new.core })) }
-        ensures reply { IfOk result (λ r. r ≡ ready.reply) }
+        ensures reply { IfOk result (λ m. m.reply ≡ ready.reply) }
+        ensures shows { IfOk result (λ m. text.new.items ≡ sequel_text (sequel.Change m)) }
         ensures limit { self.new.core.limit ≡ self.old.core.limit }
         ensures settled { self.new.core.settled ≡ true }
         ensures left { self.new.left ≡ self.old.left }
@@ -97,7 +101,7 @@ impl Desk {
         }
         let Finished {
             reply,
-            outgoing: _outgoing,
+            outgoing,
             ended,
             back: _back,
         } = self.core.finish(ready);
@@ -106,7 +110,13 @@ impl Desk {
         }
         self.changes = change;
         self.made[i] = number;
-        Ok(reply)
+        Ok(Made {
+            number: change,
+            client,
+            call: number,
+            reply,
+            sent: Outgoings::new(outgoing),
+        })
     }
 
     /// Makes a change that hands no target in, and says what it came to. An error says that memory ran out, and leaves everything as it was.
@@ -116,20 +126,20 @@ impl Desk {
         client: u8,
         call: Call,
         text: &mut Vec<u8>,
-    ) -> Result<(), AllocError>
+    ) -> Result<Sequel, AllocError>
         requires client { client < 4 }
         requires room { IsWithin (2 ^ 63) self.old }
         requires settled { self.old.core.settled ≡ true }
         requires call { HandsNothingIn call }
         requires empty { text.old.items ≡ [] }
         ensures changes { OnOk result (Changes self.old client call self.new text.new.items) }
+        ensures shows { IfOk result (λ s. text.new.items ≡ sequel_text s) }
         ensures settled { self.new.core.settled ≡ true }
         ensures same { OnErr result (self.new ≡ self.old) }
     {
         let ready = self.core.begin(call)?;
-        let reply = self.conclude(alloc, client, ready, text)?;
-        drop(reply);
-        Ok(())
+        let made = self.conclude(alloc, client, ready, text)?;
+        Ok(Sequel::Change(made))
     }
 
     /// Registers a new target of a kind of which one is left, and says what it came to. An error says that memory ran out, and leaves everything
@@ -141,25 +151,25 @@ impl Desk {
         kind: Kind,
         name: Text,
         text: &mut Vec<u8>,
-    ) -> Result<(), AllocError>
+    ) -> Result<Sequel, AllocError>
         requires client { client < 4 }
         requires room { IsWithin (2 ^ 63) self.old }
         requires settled { self.old.core.settled ≡ true }
         requires left { 0 < left_of kind self.old.left }
         requires empty { text.old.items ≡ [] }
         ensures registers { OnOk result (Registers self.old client kind name self.new text.new.items) }
+        ensures shows { IfOk result (λ s. text.new.items ≡ sequel_text s) }
         ensures settled { self.new.core.settled ≡ true }
         ensures same { OnErr result (self.new ≡ self.old) }
     {
         let target = Stocked::new(alloc, kind);
         match self.core.begin_register(name, target) {
             Ok(ready) => {
-                let reply = self.conclude(alloc, client, ready, text)?;
-                if is_registered(&reply) {
+                let made = self.conclude(alloc, client, ready, text)?;
+                if is_registered(&made.reply) {
                     self.left.take(kind);
                 }
-                drop(reply);
-                Ok(())
+                Ok(Sequel::Change(made))
             }
             Err((_, _target)) => Err(AllocError),
         }

@@ -6,26 +6,34 @@
 
 mod answers;
 mod codes;
+mod content;
 mod desk;
+mod given;
 mod handle;
 mod laws;
 mod left;
 mod loose;
 mod manager;
+mod part;
+mod parts;
+mod sequel;
 mod stocked;
 mod turn;
 
 ghost use Rattle.std.specs.Prelude.{◌≡◌, ◌≢◌, ◌⊎◌, ◌↔◌, Some, None, IsSome, IsUtf8};
 ghost use Rattle.comm_core.specs.Limits.{AreAllowed};
-ghost use Rattle.comm_c.specs.Codes.{ok, closed, memory, bad_limit, busy, short, full, bad_name, bad_kind, no_stock, kind_numbered};
+ghost use Rattle.comm_c.specs.Codes.{ok, closed, memory, bad_limit, busy, short, full, bad_name, bad_kind, no_stock, bad_sizes, not_json, no_part, kind_numbered};
 ghost use Rattle.comm_c.specs.Kept.{limits_of, opened};
-ghost use Rattle.comm_c.specs.Said.{HasEntered, HasPlayed, IsFull, IsOut, Tells, Waits};
+ghost use Rattle.comm_c.specs.Parted.{AddUp, AreJson, frames_in, message_line};
+ghost use Rattle.comm_c.specs.Said.{FillsPart, HasAnswered, HasEntered, HasPlayed, HasShown, IsFull, IsLonger, IsOut, Tells, Waits, part_of, reply_part_of};
 
 use crate::answers::{entered, played, put, take, told};
 use crate::codes::{BAD_LIMIT, BUSY, CLOSED, MEMORY, OK};
+use crate::given::{answered, part, played_by_parts, reply_part};
 use crate::handle::Handle;
 use crate::left::Left;
 use crate::manager::Manager;
+use crate::parts::Parts;
 pub use laws::{calls_make_legal_histories, lines_play_scripts};
 use std::alloc::Global;
 
@@ -84,6 +92,7 @@ pub extern "C" fn comm_line(
     size: &mut usize,
 ) -> u32
     ensures played { (result ≡ ok) ⊎ (result ≡ short) → HasPlayed handle.old.value line.now handle.new.value }
+    ensures shown { (result ≡ ok) ⊎ (result ≡ short) → HasShown handle.new.value }
     ensures told { result ≡ ok → Tells handle.new.value out.old out.new size.new }
     ensures waits { result ≡ short → Waits handle.new.value out.old size.new }
     ensures kept { result ≢ ok → out.new ≡ out.old }
@@ -115,6 +124,7 @@ pub extern "C" fn comm_register(
     size: &mut usize,
 ) -> u32
     ensures entered { (result ≡ ok) ⊎ (result ≡ short) → HasEntered handle.old.value (kind_numbered kind) name.now handle.new.value }
+    ensures shown { (result ≡ ok) ⊎ (result ≡ short) → HasShown handle.new.value }
     ensures told { result ≡ ok → Tells handle.new.value out.old out.new size.new }
     ensures waits { result ≡ short → Waits handle.new.value out.old size.new }
     ensures kept { result ≢ ok → out.new ≡ out.old }
@@ -130,6 +140,139 @@ pub extern "C" fn comm_register(
     match take(handle, alloc) {
         Some(mut manager) => {
             let status = entered(&mut manager, alloc, kind, name, out, size);
+            put(handle, alloc, manager);
+            status
+        }
+        None => CLOSED,
+    }
+}
+
+/// Plays a message of a client by its parts, JSON texts and frames that stand one after another with their sizes beside: it is as if the line
+/// that they make were played. Tells what it came to by a number, and how many messages it sent.
+#[unsafe(no_mangle)]
+pub extern "C" fn comm_message(
+    alloc: Global,
+    handle: &mut Handle,
+    client: u32,
+    header: &[u8],
+    metadata: &[u8],
+    content: &[u8],
+    frames: &[u8],
+    sizes: &[usize],
+    reply: &mut u32,
+    sent: &mut usize,
+) -> u32
+    ensures played { result ≡ ok → HasPlayed handle.old.value (message_line client header.now metadata.now content.now (frames_in frames.now sizes.now)) handle.new.value }
+    ensures shown { result ≡ ok → HasShown handle.new.value }
+    ensures answered { result ≡ ok → HasAnswered handle.new.value reply.new sent.new }
+    ensures json { result ≡ ok → AreJson header.now metadata.now content.now }
+    ensures sizes { result ≡ ok → AddUp sizes.now frames.now }
+    ensures same { result ≢ ok → handle.new.value ≡ handle.old.value }
+    ensures nothing { result ≢ ok → (reply.new ≡ 0) × (sent.new ≡ 0) }
+    ensures closed { result ≡ closed ↔ (handle.old.value ≡ None) }
+    ensures full { result ≡ full → IsFull handle.old.value }
+    ensures bad_sizes { result ≡ bad_sizes → ¬ (AddUp sizes.now frames.now) }
+    ensures not_json { result ≡ not_json → ¬ (AreJson header.now metadata.now content.now) }
+    ensures codes { (result ≡ ok) ⊎ (result ≡ closed) ⊎ (result ≡ memory) ⊎ (result ≡ full) ⊎ (result ≡ bad_sizes) ⊎ (result ≡ not_json) }
+{
+    *reply = 0;
+    *sent = 0;
+    match take(handle, alloc) {
+        Some(mut manager) => {
+            let parts = Parts {
+                client,
+                header,
+                metadata,
+                content,
+                frames,
+                sizes,
+            };
+            let status = played_by_parts(&mut manager, alloc, &parts);
+            if status == OK {
+                answered(&manager, reply, sent);
+            }
+            put(handle, alloc, manager);
+            status
+        }
+        None => CLOSED,
+    }
+}
+
+/// Tells what the last call came to by a number, and how many messages it sent.
+#[unsafe(no_mangle)]
+pub extern "C" fn comm_answer(
+    alloc: Global,
+    handle: &mut Handle,
+    reply: &mut u32,
+    sent: &mut usize,
+) -> u32
+    ensures answered { result ≡ ok → HasAnswered handle.new.value reply.new sent.new }
+    ensures same { handle.new.value ≡ handle.old.value }
+    ensures closed { result ≡ closed ↔ (handle.old.value ≡ None) }
+    ensures codes { (result ≡ ok) ⊎ (result ≡ closed) }
+{
+    *reply = 0;
+    *sent = 0;
+    match take(handle, alloc) {
+        Some(manager) => {
+            answered(&manager, reply, sent);
+            put(handle, alloc, manager);
+            OK
+        }
+        None => CLOSED,
+    }
+}
+
+/// Writes a part of a message that the last call sent into the buffer. Its length stands in `size`, at SHORT too.
+#[unsafe(no_mangle)]
+pub extern "C" fn comm_part(
+    alloc: Global,
+    handle: &mut Handle,
+    message: usize,
+    number: usize,
+    out: &mut [u8],
+    size: &mut usize,
+) -> u32
+    ensures told { result ≡ ok → FillsPart (part_of handle.old.value message number) out.old out.new size.new }
+    ensures waits { result ≡ short → IsLonger (part_of handle.old.value message number) out.old size.new }
+    ensures none { result ≡ no_part → part_of handle.old.value message number ≡ None }
+    ensures kept { result ≢ ok → out.new ≡ out.old }
+    ensures same { handle.new.value ≡ handle.old.value }
+    ensures closed { result ≡ closed ↔ (handle.old.value ≡ None) }
+    ensures codes { (result ≡ ok) ⊎ (result ≡ closed) ⊎ (result ≡ memory) ⊎ (result ≡ short) ⊎ (result ≡ no_part) }
+{
+    *size = 0;
+    match take(handle, alloc) {
+        Some(manager) => {
+            let status = part(&manager, alloc, message, number, out, size);
+            put(handle, alloc, manager);
+            status
+        }
+        None => CLOSED,
+    }
+}
+
+/// Writes a part of the reply to the last call into the buffer. Its length stands in `size`, at SHORT too.
+#[unsafe(no_mangle)]
+pub extern "C" fn comm_reply_part(
+    alloc: Global,
+    handle: &mut Handle,
+    number: usize,
+    out: &mut [u8],
+    size: &mut usize,
+) -> u32
+    ensures told { result ≡ ok → FillsPart (reply_part_of handle.old.value number) out.old out.new size.new }
+    ensures waits { result ≡ short → IsLonger (reply_part_of handle.old.value number) out.old size.new }
+    ensures none { result ≡ no_part → reply_part_of handle.old.value number ≡ None }
+    ensures kept { result ≢ ok → out.new ≡ out.old }
+    ensures same { handle.new.value ≡ handle.old.value }
+    ensures closed { result ≡ closed ↔ (handle.old.value ≡ None) }
+    ensures codes { (result ≡ ok) ⊎ (result ≡ closed) ⊎ (result ≡ memory) ⊎ (result ≡ short) ⊎ (result ≡ no_part) }
+{
+    *size = 0;
+    match take(handle, alloc) {
+        Some(manager) => {
+            let status = reply_part(&manager, alloc, number, out, size);
             put(handle, alloc, manager);
             status
         }

@@ -1,11 +1,12 @@
 //! A manager that stays between the calls of a kernel.
 ghost use Rattle.std.specs.Prelude.{◌≡◌, ◌<◌, ◌^◌, ◌↔◌, ◌≤◌, IsTrue, IfOk, IfErr, IsOk, OnOk, OnErr};
 ghost use Rattle.comm_core.specs.Limits.{AreAllowed};
-ghost use Rattle.comm_c.specs.Kept.{Enters, Plays, limits_of, opened};
+ghost use Rattle.comm_c.specs.Kept.{Enters, Plays, Shows, limits_of, opened};
 ghost use Rattle.comm_c.specs.Left.{left_of};
 
 use crate::desk::Desk;
 use crate::left::Left;
+use crate::sequel::Sequel;
 use comm_core::{Core, Limits, NewFault};
 use comm_targets::Kind;
 use comm_value::Text;
@@ -16,13 +17,14 @@ use std::mem;
 /// How many calls a manager has.
 pub const MOST: u64 = 4_611_686_018_427_387_904;
 
-/// What a manager holds, how many calls it has had, and what it said to the last one. `spare` takes the next text, so that the last one stays
-/// where memory runs out.
+/// What a manager holds, how many calls it has had, and what it said to the last one, as a text and as values. `spare` takes the next text, so
+/// that the last one stays where memory runs out.
 pub struct Manager {
     desk: Desk,
     number: u64,
     text: Vec<u8>,
     spare: Vec<u8>,
+    sequel: Sequel,
 }
 
 impl Model for Manager {
@@ -33,7 +35,7 @@ impl Model for Manager {
 
     ghost coded = { kept_code };
 
-    ghost view = { λ m. record { desk = m.desk; number = m.number; text = m.text.items } };
+    ghost view = { λ m. record { desk = m.desk; number = m.number; text = m.text.items; sequel = m.sequel } };
 
     ghost invariant = { λ m. IsReady m.desk m.number };
 }
@@ -62,6 +64,7 @@ impl Manager {
             number: 0,
             text: Vec::new(alloc),
             spare: Vec::new(alloc),
+            sequel: Sequel::Nothing,
         })
     }
 
@@ -86,15 +89,23 @@ impl Manager {
         &self.text
     }
 
+    /// The same as values.
+    pub fn sequel(&self) -> &Sequel
+        ensures { result.now ≡ self.now.sequel }
+    {
+        &self.sequel
+    }
+
     /// Plays a line. An error says that memory ran out, and leaves everything as it was.
     pub fn line(&mut self, alloc: Global, line: &[u8]) -> Result<(), AllocError>
         requires { self.old.number < 2 ^ 62 }
         ensures plays { OnOk result (Plays self.old line.now self.new) }
+        ensures shows { OnOk result (Shows self.new) }
         ensures same { OnErr result (self.new ≡ self.old) }
     {
         self.spare.clear();
         let number = self.number + 1;
-        self.desk.line(alloc, number, line, &mut self.spare)?;
+        self.sequel = self.desk.line(alloc, number, line, &mut self.spare)?;
         self.number = number;
         mem::swap(&mut self.text, &mut self.spare);
         Ok(())
@@ -106,10 +117,11 @@ impl Manager {
         requires room { self.old.number < 2 ^ 62 }
         requires left { 0 < left_of kind self.old.desk.left }
         ensures enters { OnOk result (Enters self.old kind name self.new) }
+        ensures shows { OnOk result (Shows self.new) }
         ensures same { OnErr result (self.new ≡ self.old) }
     {
         self.spare.clear();
-        self.desk.register(alloc, 0, kind, name, &mut self.spare)?;
+        self.sequel = self.desk.register(alloc, 0, kind, name, &mut self.spare)?;
         self.number += 1;
         mem::swap(&mut self.text, &mut self.spare);
         Ok(())
@@ -123,6 +135,7 @@ impl Drop for Manager {
             number: _,
             text: _,
             spare: _,
+            sequel: _,
         } = self;
         let Desk {
             core,

@@ -1,0 +1,179 @@
+/* Messages by their parts: what goes in, what comes out, and the same by a line. The last line is 'N passed, M failed', and so is the status. */
+#include "comm.h"
+
+#include <stdio.h>
+#include <string.h>
+
+static int passed, failed;
+static comm_handle handle, other;
+static uint8_t out[4096], said[4096];
+static size_t size, sent;
+static uint32_t reply;
+
+static void check(int holds, const char *what) {
+  if (holds) passed++;
+  else {
+    failed++;
+    printf("FAILED: %s\n", what);
+  }
+}
+
+static const uint8_t *bytes(const char *text) { return (const uint8_t *)text; }
+
+static uint32_t message(uint32_t client, const char *header, const char *metadata, const char *content, const char *frames, size_t frames_size,
+                        const size_t *sizes, size_t count) {
+  return comm_message(&handle, client, bytes(header), strlen(header), bytes(metadata), strlen(metadata), bytes(content), strlen(content),
+                      bytes(frames), frames_size, sizes, count, &reply, &sent);
+}
+
+static const size_t no_sizes[1];
+
+/* A message without frames and metadata. */
+static uint32_t plainly(const char *type, const char *content) {
+  char header[64];
+  snprintf(header, sizeof header, "{\"msg_type\":\"%s\"}", type);
+  return message(0, header, "{}", content, "", 0, no_sizes, 0);
+}
+
+static void check_part(size_t number, size_t part, const char *wanted, size_t length, const char *what) {
+  memset(out, 0x55, sizeof out);
+  check(comm_part(&handle, number, part, out, sizeof out, &size) == COMM_OK && size == length && memcmp(out, wanted, length) == 0, what);
+  check(out[length] == 0x55, what);
+  size = 0;
+  uint32_t status = comm_part(&handle, number, part, out, 0, &size);
+  check(status == (length ? COMM_SHORT : COMM_OK) && size == length, what);
+}
+
+static void check_reply_part(size_t part, const char *wanted, size_t length, const char *what) {
+  check(comm_reply_part(&handle, part, out, sizeof out, &size) == COMM_OK && size == length && memcmp(out, wanted, length) == 0, what);
+}
+
+static void check_no_part(size_t number, size_t part, const char *what) {
+  size = 7;
+  check(comm_part(&handle, number, part, out, sizeof out, &size) == COMM_NO_PART && size == 0, what);
+}
+
+static void check_no_reply_part(size_t part, const char *what) {
+  size = 7;
+  check(comm_reply_part(&handle, part, out, sizeof out, &size) == COMM_NO_PART && size == 0, what);
+}
+
+/* The answer of the second manager, that is asked by a line, is the text that the first one, which was asked by parts, has. */
+static void same_by_line(const char *line) {
+  size_t length;
+  check(comm_line(&other, bytes(line), strlen(line), said, sizeof said, &length) == COMM_OK, line);
+  check(comm_text(&handle, out, sizeof out, &size) == COMM_OK && size == length && memcmp(out, said, length) == 0, line);
+  uint32_t other_reply;
+  size_t other_sent;
+  check(comm_answer(&other, &other_reply, &other_sent) == COMM_OK && other_reply == reply && other_sent == sent, line);
+}
+
+static void nothing_there(const char *when) {
+  reply = 7, sent = 7;
+  check(plainly("comm_info_request", "{}") == COMM_CLOSED && reply == 0 && sent == 0, when);
+  check(comm_answer(&handle, &reply, &sent) == COMM_CLOSED && reply == 0 && sent == 0, when);
+  check(comm_part(&handle, 0, 0, out, sizeof out, &size) == COMM_CLOSED && size == 0, when);
+  check(comm_reply_part(&handle, 0, out, sizeof out, &size) == COMM_CLOSED && size == 0, when);
+}
+
+static void opened(comm_handle *at) {
+  check(comm_open(at, 1, 1, 1, 1, 4) == COMM_OK, "open");
+  check(comm_register(at, COMM_ECHO, bytes("echo"), 4, out, sizeof out, &size) == COMM_OK, "register");
+  check(comm_register(at, COMM_PLAIN, bytes("mine"), 4, out, sizeof out, &size) == COMM_OK, "register");
+  check(comm_register(at, COMM_WIDGET, bytes("jupyter.widget"), 14, out, sizeof out, &size) == COMM_OK, "register");
+}
+
+static void frames_there_and_back(void) {
+  const size_t sizes[] = {2, 0, 3};
+  check(plainly("comm_open", "{\"comm_id\":\"e\",\"target_name\":\"echo\"}") == COMM_OK && reply == COMM_REPLY_OPENED && sent == 0, "an open");
+  same_by_line("{\"header\":{\"msg_type\":\"comm_open\"},\"content\":{\"comm_id\":\"e\",\"target_name\":\"echo\"}}");
+  check(message(1, "{\"msg_type\":\"comm_msg\"}", "{}", "{\"comm_id\":\"e\",\"data\":{\"x\":\"\\u00e9\"}}", "\0\xff" "abc", 5, sizes, 3) == COMM_OK,
+        "frames");
+  check(reply == COMM_REPLY_DELIVERED && sent == 1, "one message goes out");
+  same_by_line("{\"client\":1,\"header\":{\"msg_type\":\"comm_msg\"},\"content\":{\"comm_id\":\"e\",\"data\":{\"x\":\"\\u00e9\"}},"
+               "\"buffers\":[\"AP8=\",\"\",\"YWJj\"]}");
+  check_part(0, COMM_PART_TYPE, "comm_msg", 8, "its type");
+  check_part(0, COMM_PART_ID, "e", 1, "its id");
+  check_part(0, COMM_PART_CONTENT, "{\"comm_id\":\"e\",\"data\":{\"x\":\"\xc3\xa9\"}}", 33, "its content");
+  check_part(0, COMM_PART_METADATA, "{}", 2, "its metadata");
+  check_part(0, COMM_PART_FRAMES, "\0\xff", 2, "frame 0");
+  check_part(0, COMM_PART_FRAMES + 1, "", 0, "frame 1");
+  check_part(0, COMM_PART_FRAMES + 2, "abc", 3, "frame 2");
+  check_no_part(0, COMM_PART_FRAMES + 3, "no frame 3");
+  check_no_part(0, SIZE_MAX, "no last frame");
+  check_no_part(1, COMM_PART_TYPE, "no second message");
+  check_no_part(SIZE_MAX, SIZE_MAX, "no last message");
+  check_no_reply_part(COMM_PART_CONTENT, "nothing for the kernel");
+}
+
+static void for_the_kernel(void) {
+  const size_t sizes[] = {3};
+  check(plainly("comm_open", "{\"comm_id\":\"m\",\"target_name\":\"mine\"}") == COMM_OK && reply == COMM_REPLY_OPENED, "a plain comm");
+  check(message(0, "{\"msg_type\":\"comm_msg\"}", "{}", "{\"comm_id\":\"m\",\"data\":{\"y\":[2]}}", "xyz", 3, sizes, 1) == COMM_OK, "a message");
+  check(reply == COMM_REPLY_CUSTOM && sent == 0, "custom");
+  check_reply_part(COMM_PART_CONTENT, "{\"y\":[2]}", 9, "custom content");
+  check_reply_part(COMM_PART_FRAMES, "xyz", 3, "custom frame");
+  check_no_reply_part(COMM_PART_FRAMES + 1, "no second frame");
+  check_no_reply_part(COMM_PART_TYPE, "a reply has no type");
+  check_no_reply_part(COMM_PART_METADATA, "nor metadata");
+}
+
+static void a_widget(void) {
+  const char *launch = "{\"call\":\"launch\",\"name\":\"jupyter.widget\",\"uuid\":\"00000000-0000-0000-0000-000000000001\",\"state\":{\"v\":1}}";
+  check(comm_line(&handle, bytes(launch), strlen(launch), out, sizeof out, &size) == COMM_OK, "launch");
+  check(comm_answer(&handle, &reply, &sent) == COMM_OK && reply == COMM_REPLY_LAUNCHED && sent == 1, "launched");
+  check_part(0, COMM_PART_TYPE, "comm_open", 9, "an open goes out");
+  check_part(0, COMM_PART_ID, "00000000-0000-0000-0000-000000000001", 36, "its id");
+  check_part(0, COMM_PART_METADATA, "{\"version\":\"2.0.0\"}", 19, "its version");
+  check(plainly("comm_msg", "{\"comm_id\":\"00000000-0000-0000-0000-000000000001\",\"data\":{\"method\":\"request_state\"}}") == COMM_OK, "request");
+  check(reply == COMM_REPLY_DELIVERED && sent == 1, "the state goes out");
+  check(plainly("comm_msg", "{\"comm_id\":\"00000000-0000-0000-0000-000000000001\",\"data\":{}}") == COMM_OK && reply == COMM_REPLY_FAULT, "a fault");
+}
+
+static void lists_and_ends(void) {
+  check(plainly("comm_info_request", "{\"target_name\":\"echo\"}") == COMM_OK && reply == COMM_REPLY_READ && sent == 1, "which are open");
+  check_part(0, COMM_PART_TYPE, "comm_info_reply", 15, "an info reply");
+  check_part(0, COMM_PART_ID, "", 0, "of no comm");
+  check_part(0, COMM_PART_CONTENT, "{\"comms\":{\"e\":{\"target_name\":\"echo\"}},\"status\":\"ok\"}", 52, "its comms");
+  const char *line = "{\"call\":\"unregister\",\"name\":\"echo\"}";
+  check(comm_line(&handle, bytes(line), strlen(line), out, sizeof out, &size) == COMM_OK, line);
+  check(comm_answer(&handle, &reply, &sent) == COMM_OK && reply == COMM_REPLY_UNREGISTERED && sent == 1, "unregistered");
+  check_reply_part(COMM_PART_CONTENT, "[\"e\"]", 5, "the ids that were closed");
+  check_part(0, COMM_PART_TYPE, "comm_close", 10, "a close goes out");
+  check_part(0, COMM_PART_CONTENT, "{\"comm_id\":\"e\",\"data\":{}}", 25, "its content");
+}
+
+static void refusals(void) {
+  const size_t few[] = {1, 1}, many[] = {1, 3}, vast[] = {SIZE_MAX, 4};
+  uint8_t kept[4096];
+  size_t length;
+  check(plainly("comm_close", "{\"comm_id\":\"m\"}") == COMM_OK && reply == COMM_REPLY_CLOSED, "a close");
+  check(comm_text(&handle, kept, sizeof kept, &length) == COMM_OK, "its text");
+  check(message(0, "{}", "{}", "{}", "abc", 3, few, 2) == COMM_BAD_SIZES && reply == 0 && sent == 0, "too few");
+  check(message(0, "{}", "{}", "{}", "abc", 3, many, 2) == COMM_BAD_SIZES, "too many");
+  check(message(0, "{}", "{}", "{}", "abc", 3, vast, 2) == COMM_BAD_SIZES, "more than there can be");
+  check(message(0, "{},\"call\":\"hang_up\",\"id\":\"m\",\"x\":{}", "{}", "{}", "", 0, no_sizes, 0) == COMM_NOT_JSON, "a header that reaches beyond");
+  check(message(0, "{}", "", "{}", "", 0, no_sizes, 0) == COMM_NOT_JSON, "no metadata");
+  check(message(0, "{}", "{}", "\xff", "", 0, no_sizes, 0) == COMM_NOT_JSON && reply == 0, "a content that isn't UTF-8");
+  check(comm_text(&handle, out, sizeof out, &size) == COMM_OK && size == length && memcmp(out, kept, length) == 0, "the last text stays");
+  check(comm_answer(&handle, &reply, &sent) == COMM_OK && reply == COMM_REPLY_CLOSED && sent == 0, "and the last answer");
+  check(message(4, "{\"msg_type\":\"comm_info_request\"}", "{}", "{}", "", 0, no_sizes, 0) == COMM_OK && reply == COMM_REPLY_BAD, "a fifth client");
+  check(plainly("comm_open", "{\"comm_id\":\"z\",\"target_name\":\"none\"}") == COMM_OK && reply == COMM_REPLY_REFUSED && sent == 1, "no target");
+  check(plainly("comm_msg", "{\"comm_id\":\"nobody\"}") == COMM_OK && reply == COMM_REPLY_NO_COMM && sent == 0, "no comm");
+}
+
+int main(void) {
+  nothing_there("before an open");
+  opened(&handle);
+  check(comm_answer(&handle, &reply, &sent) == COMM_OK && reply == COMM_REPLY_REGISTERED && sent == 0, "registered");
+  opened(&other);
+  frames_there_and_back();
+  for_the_kernel();
+  a_widget();
+  lists_and_ends();
+  refusals();
+  check(comm_end(&handle) == COMM_OK && comm_end(&other) == COMM_OK, "the end");
+  nothing_there("after the end");
+  printf("%d passed, %d failed\n", passed, failed);
+  return failed != 0;
+}
