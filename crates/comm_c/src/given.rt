@@ -48,13 +48,13 @@ pub fn played_by_parts(manager: &mut Manager, alloc: Global, parts: &Parts<'_>) 
 }
 
 /// Tells what the last call came to, and how many messages it sent.
-pub fn answered(manager: &Manager, reply: &mut u32, sent: &mut usize)
+pub fn answered(manager: &Manager, reply: &mut u32, count: &mut usize)
     ensures reply { reply.new ≡ sequel_number manager.now.sequel }
-    ensures sent { sent.new ≡ length (sent manager.now.sequel) }
+    ensures count { count.new ≡ length (sent manager.now.sequel) }
 {
     let sequel = manager.sequel();
     *reply = sequel.number();
-    *sent = sequel.sent().len();
+    *count = sequel.sent().len();
 }
 
 fn piece_filled(piece: &Option<Piece<'_>>, out: &mut [u8], size: &mut usize) -> u32
