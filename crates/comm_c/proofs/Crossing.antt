@@ -15,7 +15,7 @@ use Rattle.std.specs.declared.option.Option.{Option}
 use Rattle.std.specs.declared.option.Option.TheVariants.{None, Some}
 use Rattle.std_alloc.proofs.SendSync.{quiet, lies}
 use Rattle.comm_core.proofs.boxes.Boxes.TheSendSync as Boxes
-use Rattle.comm_core.proofs.Crossing.{dict_send, outgoings_send, reply_send, values}
+use Rattle.comm_core.proofs.Crossing.{dict_send, outgoings_send, reply_field_send, values}
 use Rattle.comm_core.specs.contracts.manager.Core as core
 use Rattle.comm_core.specs.contracts.comms.Comms as comms
 use Rattle.comm_core.specs.contracts.comm.Comm as comm
@@ -74,16 +74,34 @@ desk_field_send : IsSend (as_row desk.the_field)
 desk_field_send = desk_send
 
 made_send : IsSend made.the_row
-made_send = search (values, reply_send, outgoings_send) depth 40
+made_send = declared_send made.the_type (
+  search (sendable, crosses) depth 40,
+  (
+    search (sendable, crosses) depth 40,
+    (
+      search (sendable, crosses) depth 40,
+      (search (sendable, crosses, reply_field_send) depth 40, (search (sendable, crosses, outgoings_send) depth 40, tt)),
+    ),
+  ),
+)
+
+made_field_send : IsSend (as_row made.the_field)
+made_field_send = made_send
 
 state_answer_send : IsSend state_answer.the_row
 state_answer_send = search values depth 40
 
+state_answer_field_send : IsSend (as_row state_answer.the_field)
+state_answer_field_send = state_answer_send
+
 line_fault_send : IsSend line_fault.the_row
 line_fault_send = search (sendable, crosses) depth 40
 
+line_fault_field_send : IsSend (as_row line_fault.the_field)
+line_fault_field_send = line_fault_send
+
 sequel_send : IsSend sequel.the_row
-sequel_send = search (values, made_send, outgoings_send, state_answer_send, line_fault_send) depth 60 fits 20000
+sequel_send = variants_send sequel.enum (search (sendable, crosses, made_field_send, outgoings_send, state_answer_field_send, line_fault_field_send) depth 40)
 
 sequel_field_send : IsSend (as_row sequel.the_field)
 sequel_field_send = sequel_send
