@@ -25,28 +25,29 @@ use std::thread::Threads;
 // The clients with their lines. A manager opens with as many as its limits say.
 fn parts_of<J: Naming>(clients: Vec<Client<J>>, script: Script) -> Result<Parts<J>, RunFault> {
     let mut clients = clients;
+    let fourth = clients.pop().ok_or(RunFault::NoReader)?;
+    let third = clients.pop().ok_or(RunFault::NoReader)?;
+    let second = clients.pop().ok_or(RunFault::NoReader)?;
+    let first = clients.pop().ok_or(RunFault::NoReader)?;
     let [zero, one, two, three] = script.into_lines();
-    match (clients.pop(), clients.pop(), clients.pop(), clients.pop()) {
-        (Some(fourth), Some(third), Some(second), Some(first)) => Ok(Parts {
-            first: Part {
-                client: first,
-                lines: zero,
-            },
-            second: Part {
-                client: second,
-                lines: one,
-            },
-            third: Part {
-                client: third,
-                lines: two,
-            },
-            fourth: Part {
-                client: fourth,
-                lines: three,
-            },
-        }),
-        _ => Err(RunFault::NoReader),
-    }
+    Ok(Parts {
+        first: Part {
+            client: first,
+            lines: zero,
+        },
+        second: Part {
+            client: second,
+            lines: one,
+        },
+        third: Part {
+            client: third,
+            lines: two,
+        },
+        fourth: Part {
+            client: fourth,
+            lines: three,
+        },
+    })
 }
 
 /// The clients that are back, and what is told of their lines, in the order of their numbers.
