@@ -7,7 +7,7 @@ use crate::account::Account;
 use crate::desk::Desk;
 use crate::limits::{CLIENTS, LIMITS};
 use crate::player::Back;
-use crate::script::{Script, script_of};
+use crate::script::{Line, Script, script_of};
 use crate::threads::{Backs, Part, Parts, THREADS, at_work};
 use crate::words::{append_history, append_taken};
 use comm_core::NewFault;
@@ -22,31 +22,29 @@ use std::marker::Brand;
 use std::sync::Wait;
 use std::thread::Threads;
 
+// The last client with its lines, of those that are left.
+fn last_of<J: Naming>(
+    clients: &mut Vec<Client<J>>,
+    lines: &mut Vec<Vec<Line>>,
+) -> Result<Part<J>, RunFault> {
+    let client = clients.pop().ok_or(RunFault::NoReader)?;
+    let lines = lines.pop().ok_or(RunFault::NoReader)?;
+    Ok(Part { client, lines })
+}
+
 // The clients with their lines. A manager opens with as many as its limits say.
 fn parts_of<J: Naming>(clients: Vec<Client<J>>, script: Script) -> Result<Parts<J>, RunFault> {
     let mut clients = clients;
-    let fourth = clients.pop().ok_or(RunFault::NoReader)?;
-    let third = clients.pop().ok_or(RunFault::NoReader)?;
-    let second = clients.pop().ok_or(RunFault::NoReader)?;
-    let first = clients.pop().ok_or(RunFault::NoReader)?;
-    let [zero, one, two, three] = script.into_lines();
+    let mut lines = script.into_lines();
+    let fourth = last_of(&mut clients, &mut lines)?;
+    let third = last_of(&mut clients, &mut lines)?;
+    let second = last_of(&mut clients, &mut lines)?;
+    let first = last_of(&mut clients, &mut lines)?;
     Ok(Parts {
-        first: Part {
-            client: first,
-            lines: zero,
-        },
-        second: Part {
-            client: second,
-            lines: one,
-        },
-        third: Part {
-            client: third,
-            lines: two,
-        },
-        fourth: Part {
-            client: fourth,
-            lines: three,
-        },
+        first,
+        second,
+        third,
+        fourth,
     })
 }
 

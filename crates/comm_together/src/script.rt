@@ -1,10 +1,9 @@
 //! A script, taken apart by clients.
-ghost use Rattle.std.specs.Prelude.{◌<◌, IfOk};
-
+use crate::limits::CLIENTS;
 use crate::reading::asked_of;
 use comm_json::LineRoom;
 use comm_script::{RunFault, is_blank, split_line};
-use std::alloc::Global;
+use std::alloc::{AllocError, Global};
 use std::io::{ErrorKind, Read};
 
 /// A line that isn't blank, by its number in the script, from 1.
@@ -20,28 +19,25 @@ pub struct Script {
     alloc: Global,
     room: LineRoom,
     count: u64,
-    lines: [Vec<Line>; 4],
+    lines: Vec<Vec<Line>>,
 }
 
 impl Script {
-    fn new(alloc: Global) -> Script {
-        Script {
+    fn new(alloc: Global) -> Result<Script, AllocError> {
+        let mut lines = Vec::new(alloc);
+        for _ in 0..CLIENTS {
+            lines.push(Vec::new(alloc))?;
+        }
+        Ok(Script {
             alloc,
             room: LineRoom::new(alloc),
             count: 0,
-            lines: [
-                Vec::new(alloc),
-                Vec::new(alloc),
-                Vec::new(alloc),
-                Vec::new(alloc),
-            ],
-        }
+            lines,
+        })
     }
 
     // Whose a line is. One that can't be read is client 0's.
-    fn whose(&mut self, text: &[u8]) -> Result<u8, RunFault>
-        ensures { IfOk result (λ client. client < 4) }
-    {
+    fn whose(&mut self, text: &[u8]) -> Result<u8, RunFault> {
         match asked_of(self.alloc, text, &mut self.room)? {
             Ok((client, _asked)) => Ok(client),
             Err(_) => Ok(0),
@@ -57,14 +53,17 @@ impl Script {
         let client = self.whose(text)?;
         let mut copy = Vec::new(self.alloc);
         copy.extend_from_slice(text)?;
-        self.lines[usize::from(client)].push(Line {
+        let Some(lines) = self.lines.get_mut(usize::from(client)) else {
+            return Err(RunFault::NoReader);
+        };
+        lines.push(Line {
             number: self.count,
             text: copy,
         })?;
         Ok(())
     }
 
-    pub(crate) fn into_lines(self) -> [Vec<Line>; 4] {
+    pub(crate) fn into_lines(self) -> Vec<Vec<Line>> {
         self.lines
     }
 }
@@ -84,7 +83,7 @@ fn whole<I: Read>(alloc: Global, reader: &mut I) -> Result<Vec<u8>, RunFault> {
 /// The script that the reader has.
 pub(crate) fn script_of<I: Read>(alloc: Global, reader: &mut I) -> Result<Script, RunFault> {
     let text = whole(alloc, reader)?;
-    let mut script = Script::new(alloc);
+    let mut script = Script::new(alloc)?;
     let mut rest = text.as_slice();
     while let Some((line, more)) = split_line(rest) {
         script.add(line)?;
