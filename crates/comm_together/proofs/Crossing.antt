@@ -8,7 +8,6 @@ use Rattle.comm_manager.proofs.Crossing.{client_send}
 use Rattle.comm_together.specs.contracts.account.Account as account
 use Rattle.comm_together.specs.contracts.script.Line as line
 use Rattle.comm_together.specs.contracts.threads.Part as part
-use Rattle.comm_together.specs.contracts.threads.Parts as parts
 
 pub line_send : IsSend line.the_row
 line_send = search (sendable, crosses) depth 40
@@ -19,6 +18,3 @@ account_send = search (sendable, crosses) depth 40
 module _ (J : RattleType) (n : naming.Ghosts J.Denot) (h : history.Ghosts J.Denot) (sj : IsSend J) (yj : IsSync J) where
   pub part_send : IsSend (part.the_row J n h)
   part_send = let l = client_send J n h sj yj in search (sendable, crosses, line_send) depth 40
-
-  pub parts_send : IsSend (parts.the_row J n h)
-  parts_send = let p = part_send in search (sendable, crosses) depth 40
