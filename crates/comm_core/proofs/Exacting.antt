@@ -6,7 +6,7 @@ use Rattle.comm_value.specs.Tree.{Members}
 use Rattle.comm_targets.specs.Answers.{Answers, Refuses, answer_of}
 use Rattle.comm_targets.specs.Meaning.{notes_after}
 use Rattle.comm_targets.specs.declared.kind.Kind.{Kind}
-use Rattle.comm_targets.specs.declared.kind.Kind.TheVariants.{Echo, Counter, Widget, Free}
+use Rattle.comm_targets.specs.declared.kind.Kind.TheVariants.{Echo, Counter, Widget, WidgetEcho, Free}
 use Rattle.comm_targets.specs.declared.event.Event.{Event}
 use Rattle.comm_targets.specs.declared.event.Event.TheVariants as event
 use Rattle.comm_targets.specs.declared.answer.Answer.{Answer}
@@ -42,12 +42,14 @@ answers_one : (k : Kind) (n : ℕ) (now : Option Members) (e : Event) (a : Answe
 answers_one Echo n now e a h x = x
 answers_one Counter n now e a h x = x
 answers_one Widget n now e a h x = x
+answers_one WidgetEcho n now e a h x = x
 answers_one Free n now e a h x = absurd (true≢false (sym h))
 
 refuses_one : (k : Kind) (n : ℕ) (now : Option Members) (e : Event) (f : TargetFault) → not (is_free k) ≡ true → Refuses k n now e f → answer_of k n now e ≡ Err f
 refuses_one Echo n now e f h x = x
 refuses_one Counter n now e f h x = x
 refuses_one Widget n now e f h x = x
+refuses_one WidgetEcho n now e f h x = x
 refuses_one Free n now e f h x = absurd (true≢false (sym h))
 
 gives_one : (t : Option Registered) (q : Question) (g : Outcome) → ((r : Registered) → t ≡ Some r → not (is_free r.kind) ≡ true) → Gives t q g → Some g ≡ outcome_by t q

@@ -132,7 +132,7 @@ pub record Stepped : Type 0 where
 abbrev pub sent : Name → List Content → List Outgoing
 sent id messages = map (λ body. out.Msg id body) messages
 
--- the body of the message by which the kernel opens a widget's comm ('Jupyter widgets messaging protocol' 2.0.0, "Instantiating a widget object")
+-- the body of the message by which the kernel opens a widget's comm ('Jupyter widgets messaging protocol' 2.1.0, "Instantiating a widget object")
 abbrev pub opening_of : Members → Content
 opening_of s = record {
   content = member (codes "buffer_paths") (paths_tree (member_paths s)) (member (codes "state") (dict (plain_members s)) no_members);
@@ -148,7 +148,7 @@ answered m target (event.Msg id body) a = record {
 }
 answered m target (event.Launch id state) a = record {
   reply = reply.Launched;
-  outgoing = out.Open id target (codes "2.0.0") (opening_of state) ∷ [];
+  outgoing = out.Open id target (codes "2.1.0") (opening_of state) ∷ [];
   next = with_comm m id target a.state;
 }
 answered m target (event.Push id state) a = record {

@@ -53,7 +53,7 @@ is_stateless Echo = true
 is_stateless Counter = true
 is_stateless kind = false
 
--- ---- what a widget is told ('Jupyter widgets messaging protocol' 2.0.0)
+-- ---- what a widget is told ('Jupyter widgets messaging protocol' 2.1.0)
 
 abbrev pub when_ok : Result Members TargetFault → Option Members
 when_ok (Ok s) = Some s

@@ -211,5 +211,5 @@ fn place_in<T: Target>(all: &[Named<T>], name: &Text) -> Option<usize>
 fn is_widget(kind: Kind) -> bool
     ensures { result ≡ is_widget kind }
 {
-    matches!(kind, Kind::Widget)
+    matches!(kind, Kind::Widget | Kind::WidgetEcho)
 }
