@@ -52,12 +52,18 @@ pub fn make<T: Target>(
         }
         Plan::Register { name, .. } => {
             drop(outcome);
-            boxes.push(name, Held::new(boxed?));
+            let Some(target) = boxed else {
+                return None;
+            };
+            boxes.push(name, Held::new(target));
             None
         }
         Plan::Replace { name, .. } => {
             drop(outcome);
-            Some(replace(boxes, comms, &name, Held::new(boxed?)))
+            let Some(target) = boxed else {
+                return None;
+            };
+            Some(replace(boxes, comms, &name, Held::new(target)))
         }
         Plan::Unregister { name } => {
             drop((outcome, boxed));
@@ -70,10 +76,20 @@ pub fn make<T: Target>(
         }
         Plan::Commit(question) => {
             drop(boxed);
-            if let Some(Ok(answer)) = outcome {
-                commit(boxes, comms, question, answer);
+            match outcome {
+                Some(Ok(answer)) => {
+                    commit(boxes, comms, question, answer);
+                    None
+                }
+                Some(Err(_)) => {
+                    drop(question);
+                    None
+                }
+                None => {
+                    drop(question);
+                    None
+                }
             }
-            None
         }
     }
 }

@@ -216,26 +216,29 @@ pub fn judge_register<T: Target>(
     boxes: &Boxes<T>,
     comms: &Comms,
     alloc: Global,
-    name: Text,
+    name: &Text,
     kind: Kind,
     notes: u64,
 ) -> Result<(Reply, Vec<Outgoing>, Plan), AllocError>
-    ensures verdict { (limit : ℕ) → IfOk result (λ r. Done r.0 r.1.items (planned (machine_of boxes.now.all comms.now.all) r.2 None) ≡ judged limit (machine_of boxes.now.all comms.now.all) (call.Register name kind notes)) }
-    ensures plan { IfOk result (λ r. r.2 ≡ registering boxes.now.all name kind notes) }
+    ensures verdict { IfOk result (λ r. (limit : ℕ) → Done r.0 r.1.items (planned (machine_of boxes.now.all comms.now.all) r.2 None) ≡ judged limit (machine_of boxes.now.all comms.now.all) (call.Register name.now kind notes)) }
+    ensures plan { IfOk result (λ r. r.2 ≡ registering boxes.now.all name.now kind notes) }
 {
-    if !boxes.contains(&name) {
-        return Ok((
-            Reply::Registered,
-            Vec::new(alloc),
-            Plan::Register { name, kind, notes },
-        ));
+    let key = name.copy()?;
+    if !boxes.contains(name) {
+        let plan = Plan::Register {
+            name: key,
+            kind,
+            notes,
+        };
+        return Ok((Reply::Registered, Vec::new(alloc), plan));
     }
-    let (ids, outgoing) = ended(comms, alloc, &name)?;
-    Ok((
-        Reply::Replaced(ids),
-        outgoing,
-        Plan::Replace { name, kind, notes },
-    ))
+    let (ids, outgoing) = ended(comms, alloc, name)?;
+    let plan = Plan::Replace {
+        name: key,
+        kind,
+        notes,
+    };
+    Ok((Reply::Replaced(ids), outgoing, plan))
 }
 
 /// The comm's id, and the target's name, which shares the memory of the target's own.
