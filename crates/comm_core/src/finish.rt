@@ -63,7 +63,7 @@ pub fn make<T: Target>(
             let Some(target) = boxed else {
                 return None;
             };
-            Some(replace(boxes, comms, &name, Held::new(target)))
+            replace(boxes, comms, &name, Held::new(target))
         }
         Plan::Unregister { name } => {
             drop((outcome, boxed));
@@ -184,25 +184,25 @@ fn unregister<T: Target>(boxes: &mut Boxes<T>, comms: &mut Comms, name: &Text) -
     taken
 }
 
-/// Puts a target in the place of another, whose comms are closed in it and taken out.
+/// Puts a target in the place of the one of this name, whose comms are closed in it and taken out.
 fn replace<T: Target>(
     boxes: &mut Boxes<T>,
     comms: &mut Comms,
     name: &Text,
     held: Held<T>,
-) -> Held<T>
+) -> Option<Held<T>>
     requires agrees { Agrees (unstaged boxes.old.all) comms.old.all }
     requires none { HaveStaged boxes.old.all (λ _. None) }
     requires here { IsSome (at boxes.old.all name.now) }
     requires idle { IsIdle held }
     ensures tables { Carried boxes.new.all comms.new.all (with_another (machine_of boxes.old.all comms.old.all) name.now held.kind held.notes) }
-    ensures ended { Some result ≡ option_map emptied (at boxes.old.all name.now) }
-    ensures idle { IsIdle result }
+    ensures ended { result ≡ option_map emptied (at boxes.old.all name.now) }
+    ensures idle { IdleWhere result }
 {
     let mut replaced = boxes.replace(name, held);
     comms.close_those_of(name, &mut replaced);
-    comms.remove_those_of(name);
-    replaced
+    comms.remove_those_of(name); // The new target has none of them.
+    Some(replaced)
 }
 
 /// Takes back what the plan's target staged.
