@@ -81,10 +81,7 @@ fn registers<T: Target>(
         return Err(Wrong);
     }
     match core.register(name, target) {
-        Ok((reply, back)) => {
-            drop(back);
-            Ok((reply, Vec::new(alloc)))
-        }
+        Ok(answered) => Ok(answered),
         Err((_, target)) => {
             drop(target);
             Err(Wrong)
