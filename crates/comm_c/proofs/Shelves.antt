@@ -89,7 +89,7 @@ fresh_append : (rs ts : List Registered) → AreFresh rs → AreFresh ts → Are
 fresh_append [] ts new more = more
 fresh_append (r ∷ rs) ts new more = (new.0, fresh_append rs ts new.1 more)
 
--- ---- one is taken, and may come back
+-- ---- one is taken
 
 fewer : (v w : StockKind) (l : Left) → left_of (kind_of v) (without_one (kind_of w) l) ≡ left_of (kind_of v) l - one_if (has_kind v (kind_of w))
 fewer Echo Echo l = refl
@@ -111,17 +111,6 @@ taken w l rs some has = record {
       let h : count v rs ≡ left_of (kind_of v) l = has.counts v in
       let f : left_of (kind_of v) (without_one (kind_of w) l) ≡ left_of (kind_of v) l - one_if (has_kind v (kind_of w)) = fewer v w l in
       omega (arith, c, h, f);
-}
-
-pub restored : (w : StockKind) (l : Left) (rs : List Registered) → 0 < left_of (kind_of w) l → HasLeft l rs → HasLeft l (rest_of w rs ++ fresh (kind_of w) ∷ [])
-restored w l rs some has = record {
-  fresh = fresh_append (rest_of w rs) (fresh (kind_of w) ∷ []) (fresh_rest w rs has.fresh) (refl, tt);
-  counts = λ v.
-      let there : 0 < count w rs = subst (λ (n : ℕ). 0 < n) (sym (has.counts w)) some in
-      let c : count v rs ≡ one_if (has_kind v (kind_of w)) + count v (rest_of w rs) = count_rest v w rs there in
-      let h : count v rs ≡ left_of (kind_of v) l = has.counts v in
-      let a : count v (rest_of w rs ++ fresh (kind_of w) ∷ []) ≡ count v (rest_of w rs) + (one_if (has_kind v (kind_of w)) + 0) = count_append v (rest_of w rs) (fresh (kind_of w) ∷ []) in
-      omega (arith, c, h, a);
 }
 
 -- ---- the stock that a manager is opened with

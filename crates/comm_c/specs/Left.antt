@@ -1,11 +1,9 @@
 -- How many targets of each kind are left to register.
-use Rattle.std.specs.Prelude.{ℕ, ◌-◌, Bool, true, false, if◌then◌else◌}
+use Rattle.std.specs.Prelude.{ℕ, ◌-◌}
 use Rattle.comm_targets.specs.declared.kind.Kind.{Kind}
 use Rattle.comm_targets.specs.declared.kind.Kind.TheVariants.{Echo, Counter, Widget, Free}
 use Rattle.comm_core.specs.declared.call.Call.{Call}
 use Rattle.comm_core.specs.declared.call.Call.TheVariants.{Register}
-use Rattle.comm_core.specs.declared.reply.Reply.{Reply}
-use Rattle.comm_core.specs.declared.reply.Reply.TheVariants.{Registered}
 use Rattle.comm_script.specs.declared.stock.StockKind.{StockKind}
 use Rattle.comm_script.specs.declared.stock.StockKind.TheVariants as stock_kind
 use Rattle.comm_c.specs.declared.left.Left.{Left}
@@ -29,11 +27,7 @@ kind_of stock_kind.Echo = Echo
 kind_of stock_kind.Counter = Counter
 kind_of stock_kind.Widget = Widget
 
-abbrev pub is_registered : Reply → Bool
-is_registered Registered = true
-is_registered reply = false
-
 -- what a change leaves: a target that is registered is gone
-abbrev pub left_after : Call → Reply → Left → Left
-left_after (Register name kind notes) reply l = if is_registered reply then without_one kind l else l
-left_after call reply l = l
+abbrev pub left_after : Call → Left → Left
+left_after (Register name kind notes) l = without_one kind l
+left_after call l = l

@@ -26,7 +26,7 @@ use Rattle.comm_core.specs.declared.question.Question.{Question}
 use Rattle.comm_core.specs.declared.reply.Reply.{Reply}
 use Rattle.comm_core.specs.declared.plan.Judged.{Judged}
 use Rattle.comm_core.specs.declared.plan.Plan.{Plan}
-use Rattle.comm_core.specs.declared.plan.Plan.TheVariants.{Nothing, Register, Unregister, Close, Commit}
+use Rattle.comm_core.specs.declared.plan.Plan.TheVariants.{Nothing, Register, Replace, Unregister, Close, Commit}
 use Rattle.comm_core.proofs.Keys.{text_itself}
 use Rattle.comm_core.proofs.Names.{target_at, has_target}
 use Rattle.comm_core.proofs.Staging.{none_of, unstaged-at, unstaged-there, unstaged-staged, one-staged}
@@ -134,6 +134,7 @@ module _ (b : Targets) (c : Opens) (q : Question) (can : CanAsk b c q) (none : H
 pub nothing_staged : (plan : Plan) (name : Name) → staged_by plan None name ≡ None
 nothing_staged Nothing name = refl
 nothing_staged (Register n kind notes) name = refl
+nothing_staged (Replace n kind notes) name = refl
 nothing_staged (Unregister n) name = refl
 nothing_staged (Close id) name = refl
 nothing_staged (Commit q) name = refl

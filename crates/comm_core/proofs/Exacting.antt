@@ -104,7 +104,7 @@ keeps_of m (Some c) f h = h c
 
 judged_keeps : (limit : ℕ) (m : Machine) (c : Call) → registers_free c ≡ false → Keeps m (judged limit m c)
 judged_keeps limit m (Register name kind notes) free =
-    keeps_if m (has m.targets name) _ _ (λ e. e) (λ e. all_append m.targets (name, record { kind = kind; notes = notes }) e (ap not free))
+    keeps_if m (has m.targets name) _ _ (λ e. all_with_at m.targets name (record { kind = kind; notes = notes }) e (ap not free)) (λ e. all_append m.targets (name, record { kind = kind; notes = notes }) e (ap not free))
 judged_keeps limit m (Open id target version body) free =
     keeps_if m (has m.comms id) _ _ (λ e. e) (keeps_if m (not (has m.targets target)) _ _ (λ e. e) (keeps_if m (is_full limit m) _ _ (λ e. e) tt))
 judged_keeps limit m (Msg id body) free = keeps_of m (at m.comms id) _ (λ x. tt)

@@ -297,6 +297,7 @@ module _ (limit : ℕ) where
     where
       opening_leaves : (c : Call) (r : Reply) (i t : Name) → opening c r ≡ some_pair i t → unregistering c r t ≡ false
       opening_leaves (Unregister name) r i t h = none_opens i t h
+      opening_leaves (Register name kind notes) r i t h = none_opens i t h
       opening_leaves c r i t h = refl
 
   pub widget_state : (clients : ℕ) (h before : List Entry) (opener : Entry) (after : List Entry) (id target : Name) (k : Kind) → IsLegal clients limit h

@@ -37,7 +37,7 @@ fn work<J: Naming, T: Target, R: Wait>(
     }
     fill(rt, alloc, manager, zero, target, trial.more)?;
     match trial.of {
-        Of::Register => register(rt, alloc, manager, zero, other, trial),
+        Of::Register | Of::Replace => register(rt, alloc, manager, zero, other, trial),
         Of::Change(asked) => change(rt, alloc, manager, zero, asked, trial),
         Of::Infos | Of::InfosOfTarget | Of::State => read(alloc, one, trial),
         Of::Opening | Of::Shutdown | Of::Thrice => Ok(true),
@@ -178,7 +178,7 @@ fn end<J: Naming, T: Target, R: Wait>(
 fn changes_of(trial: Trial) -> usize {
     let before = trial.more.saturating_add(2);
     match trial.of {
-        Of::Register | Of::Change(_) | Of::Spared => before.saturating_add(1),
+        Of::Register | Of::Replace | Of::Change(_) | Of::Spared => before.saturating_add(1),
         _ => before,
     }
 }
@@ -264,6 +264,14 @@ fn refused_changes(rt: HostRuntime) -> Result<(), Fail> {
 #[test]
 fn refused_register(rt: HostRuntime) -> Result<(), Fail> {
     try_each(&rt, rt.alloc(), Of::Register, 2)
+}
+
+#[test]
+fn refused_replacement(rt: HostRuntime) -> Result<(), Fail> {
+    for more in [0, 5] {
+        try_each(&rt, rt.alloc(), Of::Replace, more)?;
+    }
+    Ok(())
 }
 
 #[test]

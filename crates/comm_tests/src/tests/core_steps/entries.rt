@@ -16,7 +16,7 @@ use widget_target::WidgetTarget;
 
 mod words;
 
-/// Calls in turn, each with its entry. The widget `w` is registered before them, then the free target `t`.
+/// Calls in turn, each with its entry. The widget `w` is registered before them, then the free target `t`, which takes the first call and is replaced.
 const CALLED: [(Asked, &str); 11] = [
     (
         Asked::OpenWith {
@@ -81,6 +81,10 @@ const CALLED: [(Asked, &str); 11] = [
     ),
 ];
 
+/// The entry of the register that replaces a free target with the comm `a`.
+const REPLACED: &str = r#"2 9 register t Free 0; nobody was asked; replaced a
+{"buffers":[],"call":7,"client":0,"content":{"comm_id":"a","data":{}},"header":{"msg_type":"comm_close"},"metadata":{}}"#;
+
 // The entry's text, and the change is made.
 fn entry_of<T: Target>(alloc: Global, core: &mut Core<T>, ready: Ready<T>) -> Result<String, Fail>
     requires ready { IsReady core.old ready }
@@ -144,29 +148,34 @@ fn conversation<T: Target>(
     alloc: Global,
     core: &mut Core<T>,
     widget: T,
+    first: T,
     free: T,
 ) -> Result<(), Fail>
     requires settled { core.old.settled ≡ true }
     requires widget { IsIdle (T.means widget) }
+    requires first { IsIdle (T.means first) }
     requires free { IsIdle (T.means free) }
     ensures { core.new.settled ≡ true }
 {
     let widget_is = "2 9 register w Widget 0; nobody was asked; registered";
     registered(alloc, core, "w", widget, widget_is)?;
     let free_is = "2 9 register t Free 0; nobody was asked; registered";
-    registered(alloc, core, "t", free, free_is)?;
+    registered(alloc, core, "t", first, free_is)?;
+    has_entry(alloc, core, &CALLED[0].0, CALLED[0].1)?;
+    registered(alloc, core, "t", free, REPLACED)?;
     called(alloc, core)
 }
 
-fn in_a_manager<T: Target>(alloc: Global, widget: T, free: T) -> Result<(), Fail>
+fn in_a_manager<T: Target>(alloc: Global, widget: T, first: T, free: T) -> Result<(), Fail>
     requires widget { IsIdle (T.means widget) }
+    requires first { IsIdle (T.means first) }
     requires free { IsIdle (T.means free) }
 {
     let mut core = match Core::new(alloc, limits(4_096)) {
         Ok(core) => core,
         Err(_) => return Err(Fail::new("no core")),
     };
-    let done = conversation(alloc, &mut core, widget, free);
+    let done = conversation(alloc, &mut core, widget, first, free);
     core.stop_all();
     done
 }
@@ -175,6 +184,7 @@ fn in_a_manager<T: Target>(alloc: Global, widget: T, free: T) -> Result<(), Fail
 fn what_stands_ready_gives_its_entry(rt: HostRuntime) -> Result<(), Fail> {
     let alloc = rt.alloc();
     let widget: Box<dyn Target> = Box::new(alloc, WidgetTarget::new(alloc))?;
+    let first: Box<dyn Target> = Box::new(alloc, Giving::new(alloc))?;
     let free: Box<dyn Target> = Box::new(alloc, Giving::new(alloc))?;
-    in_a_manager(alloc, widget, free)
+    in_a_manager(alloc, widget, first, free)
 }
