@@ -45,13 +45,14 @@ enum {
   COMM_ECHO = 0,    /* sends each message back */
   COMM_COUNTER = 1, /* answers each message with how many came */
   COMM_WIDGET = 2,  /* keeps the state of Jupyter widgets; its name is "jupyter.widget" by rights */
+  COMM_WIDGET_ECHO = 4, /* the same, and repeats to the frontends what a frontend's update brought (`echo_update`) */
   COMM_PLAIN = 3    /* takes every open and message, and answers nothing. A message comes to the kernel as its reply's
                        'custom {"buffers":[..],"content":..}', and the kernel answers by the command `send` */
 };
 
 /* Makes a manager that has played nothing, with so many targets of each kind to register. At most `comms` comms are open at a time.
  * The number of targets takes no memory. */
-uint32_t comm_open(comm_handle *handle, uint32_t echo, uint32_t counter, uint32_t widget, uint32_t plain, size_t comms);
+uint32_t comm_open(comm_handle *handle, uint32_t echo, uint32_t counter, uint32_t widget, uint32_t widget_echo, uint32_t plain, size_t comms);
 
 /* Registers a target of a kind under a name, which is UTF-8 and not ended by a zero. The answer is 'reply <number> registered' or
  * 'reply <number> name_taken', with a line feed. The command `register` of a line does the same for the kinds but COMM_PLAIN. */

@@ -70,7 +70,7 @@ static const char *played(long at) {
   heap_count = 0;
   told_size = 0;
   do {
-    status = comm_open(&handle, 1, 0, 1, 1, 9);
+    status = comm_open(&handle, 1, 0, 1, 0, 1, 9);
   } while (may_again(status));
   int went = status == COMM_OK && registered(COMM_ECHO, "echo") && registered(COMM_PLAIN, "mine") && registered(COMM_WIDGET, "widget")
       && message("comm_open", "{\"comm_id\":\"e\",\"target_name\":\"echo\"}", "", 0, 0)

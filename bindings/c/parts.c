@@ -77,7 +77,7 @@ static void nothing_there(const char *when) {
 }
 
 static void opened(comm_handle *at) {
-  check(comm_open(at, 1, 1, 1, 1, 4) == COMM_OK, "open");
+  check(comm_open(at, 1, 1, 1, 1, 1, 4) == COMM_OK, "open");
   check(comm_register(at, COMM_ECHO, bytes("echo"), 4, out, sizeof out, &size) == COMM_OK, "register");
   check(comm_register(at, COMM_PLAIN, bytes("mine"), 4, out, sizeof out, &size) == COMM_OK, "register");
   check(comm_register(at, COMM_WIDGET, bytes("jupyter.widget"), 14, out, sizeof out, &size) == COMM_OK, "register");

@@ -44,10 +44,10 @@ static void closed_handles(const char *when) {
 }
 
 static void opening(void) {
-  check(comm_open(&handle, 1, 1, 1, 1, 0) == COMM_BAD_LIMIT, "no comm");
-  check(comm_open(&handle, 1, 1, 1, 1, 4097) == COMM_BAD_LIMIT, "too many comms");
-  check(comm_open(&handle, 0, 4294967295u, 1, 1, 2) == COMM_OK, "open");
-  check(comm_open(&handle, 1, 1, 1, 1, 2) == COMM_BUSY, "open again");
+  check(comm_open(&handle, 1, 1, 1, 1, 1, 0) == COMM_BAD_LIMIT, "no comm");
+  check(comm_open(&handle, 1, 1, 1, 1, 1, 4097) == COMM_BAD_LIMIT, "too many comms");
+  check(comm_open(&handle, 0, 4294967295u, 1, 0, 1, 2) == COMM_OK, "open");
+  check(comm_open(&handle, 1, 1, 1, 1, 1, 2) == COMM_BUSY, "open again");
 }
 
 static void registering(void) {

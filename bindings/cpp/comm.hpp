@@ -1,6 +1,6 @@
 // The proved comm manager in C++17: one header over bindings/c/comm.h, to be copied beside it.
 //
-//     comm::manager manager({.widget = 1, .plain = 1});   // C++20; in C++17 comm::stock{0, 0, 1, 1}
+//     comm::manager manager({.widget = 1, .plain = 1});   // C++20; in C++17 comm::stock{0, 0, 1, 0, 1}
 //     manager.register_target(comm::kind::widget, "jupyter.widget");
 //     comm::outcome came = manager.message(header, metadata, content, frames);
 //     for (const comm::sent &sent : came.sent) ..
@@ -23,7 +23,7 @@
 
 namespace comm {
 
-enum class kind : std::uint32_t { echo = COMM_ECHO, counter = COMM_COUNTER, widget = COMM_WIDGET, plain = COMM_PLAIN };
+enum class kind : std::uint32_t { echo = COMM_ECHO, counter = COMM_COUNTER, widget = COMM_WIDGET, plain = COMM_PLAIN, widget_echo = COMM_WIDGET_ECHO };
 
 /// What a call answers. After any but ok and too_short the manager is as it was before the call.
 enum class status : std::uint32_t {
@@ -171,6 +171,7 @@ struct stock {
   std::uint32_t echo = 0;
   std::uint32_t counter = 0;
   std::uint32_t widget = 1;
+  std::uint32_t widget_echo = 0;
   std::uint32_t plain = 0;
   std::size_t comms = 4096;
 };
@@ -179,7 +180,7 @@ struct stock {
 class manager {
 public:
   explicit manager(const stock &has = {}) : handle_(new comm_handle{}), out_(4096) {
-    checked(comm_open(handle_.get(), has.echo, has.counter, has.widget, has.plain, has.comms));
+    checked(comm_open(handle_.get(), has.echo, has.counter, has.widget, has.widget_echo, has.plain, has.comms));
   }
   manager(manager &&) noexcept = default;
   manager &operator=(manager &&) noexcept = default;

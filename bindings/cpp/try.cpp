@@ -97,7 +97,7 @@ static void moves(comm::manager manager) {
 
 int main() {
   opening();
-  comm::manager manager(comm::stock{0, 0, 1, 1});
+  comm::manager manager(comm::stock{0, 0, 1, 0, 1});
   registering(manager);
   frames(manager);
   answers(manager);

@@ -42,12 +42,14 @@ class Status(enum.IntEnum):
 
 
 class Kind(enum.IntEnum):
-    """The kinds of targets. PLAIN takes every open and message, and hands a message to the kernel in its reply."""
+    """The kinds of targets. PLAIN takes every open and message, and hands a message to the kernel in its reply; WIDGET_ECHO repeats
+    to the frontends what a frontend's update of a widget brought."""
 
     ECHO = 0
     COUNTER = 1
     WIDGET = 2
     PLAIN = 3
+    WIDGET_ECHO = 4
 
 
 class Reply(enum.IntEnum):
@@ -125,7 +127,7 @@ def load(path: str | pathlib.Path | None = None) -> ctypes.CDLL:
     handle, size = ctypes.POINTER(_Handle), ctypes.POINTER(ctypes.c_size_t)
     number, length, text = ctypes.c_uint32, ctypes.c_size_t, ctypes.c_char_p
     answer = [text, length, size]
-    lib.comm_open.argtypes = [handle, number, number, number, number, length]
+    lib.comm_open.argtypes = [handle, *[number] * 5, length]
     lib.comm_register.argtypes = [handle, number, text, length, *answer]
     lib.comm_line.argtypes = [handle, text, length, *answer]
     lib.comm_text.argtypes = [handle, *answer]
@@ -158,16 +160,18 @@ class Manager:
         echo: int = 0,
         counter: int = 0,
         widget: int = 1,
+        widget_echo: int = 0,
         plain: int = 0,
         comms: int = 4096,
         library: ctypes.CDLL | None = None,
     ) -> None:
-        if min(echo, counter, widget, plain, comms) < 0 or max(echo, counter, widget, plain) >= 2**32:
+        counts = (echo, counter, widget, widget_echo, plain)
+        if min(*counts, comms) < 0 or max(counts) >= 2**32:
             raise ValueError("a count of targets is a whole number of 32 bits, and the limit of comms isn't below 0")
         self._handle, self._size, self._reply = _Handle(), ctypes.c_size_t(), ctypes.c_uint32()
         self._out = ctypes.create_string_buffer(4096)
         self._lib = library or load()
-        _checked(self._lib.comm_open(self._handle, echo, counter, widget, plain, comms))
+        _checked(self._lib.comm_open(self._handle, *counts, comms))
 
     def register(self, kind: Kind, name: str) -> bytes:
         """Registers a target under a name. Gives b'reply <number> registered' or b'reply <number> name_taken', with a line feed."""

@@ -24,7 +24,7 @@ mod ffi {
     }
 
     unsafe extern "C" {
-        pub fn comm_open(handle: *mut Handle, echo: u32, counter: u32, widget: u32, plain: u32, comms: usize) -> u32;
+        pub fn comm_open(handle: *mut Handle, echo: u32, counter: u32, widget: u32, widget_echo: u32, plain: u32, comms: usize) -> u32;
         pub fn comm_register(handle: *mut Handle, kind: u32, name: *const u8, name_size: usize, out: *mut u8, out_size: usize, size: *mut usize) -> u32;
         pub fn comm_line(handle: *mut Handle, line: *const u8, line_size: usize, out: *mut u8, out_size: usize, size: *mut usize) -> u32;
         pub fn comm_message(
@@ -119,6 +119,8 @@ pub enum Kind {
     Counter = 1,
     Widget = 2,
     Plain = 3,
+    /// Repeats to the frontends what a frontend's update brought.
+    WidgetEcho = 4,
 }
 
 /// What a call came to. At `Bad`, `Refused` and `Fault` `Manager::text` has the reason.
@@ -193,13 +195,14 @@ pub struct Stock {
     pub echo: u32,
     pub counter: u32,
     pub widget: u32,
+    pub widget_echo: u32,
     pub plain: u32,
     pub comms: usize,
 }
 
 impl Default for Stock {
     fn default() -> Stock {
-        Stock { echo: 0, counter: 0, widget: 1, plain: 0, comms: 4096 }
+        Stock { echo: 0, counter: 0, widget: 1, widget_echo: 0, plain: 0, comms: 4096 }
     }
 }
 
@@ -220,7 +223,7 @@ impl Manager {
     pub fn open(stock: Stock) -> Result<Manager, Error> {
         let mut handle = Box::new(ffi::Handle { manager: std::ptr::null_mut() });
         // SAFETY: the handle is zeroed, and the library's alone from here on.
-        let status = unsafe { ffi::comm_open(&mut *handle, stock.echo, stock.counter, stock.widget, stock.plain, stock.comms) };
+        let status = unsafe { ffi::comm_open(&mut *handle, stock.echo, stock.counter, stock.widget, stock.widget_echo, stock.plain, stock.comms) };
         match status {
             OK => Ok(Manager { handle, out: vec![0; 4096] }),
             status => Err(Error::numbered(status)),

@@ -132,6 +132,7 @@ kind_exact : (w : StockKind) → is_free (kind_of w) ≡ false
 kind_exact stock_kind.Echo = refl
 kind_exact stock_kind.Counter = refl
 kind_exact stock_kind.Widget = refl
+kind_exact stock_kind.WidgetEcho = refl
 
 register_turn : NoChoice → KeepsExact → Grows → (comms : ℕ) (now : Standing) (d : Desk) (number client : ℕ) (w : StockKind) (name : Name) (after : Desk) (said : List ℕ) → StandsAt comms now d
     → (b : Bool) → (left_of (kind_of w) d.left == 0) ≡ b → RegistersFrom b d number client (kind_of w) name after said → Turned comms (registered (limits_of comms) now number client w name (first_of w now.stock)) after said

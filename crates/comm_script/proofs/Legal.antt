@@ -9,7 +9,7 @@ use Rattle.comm_targets.specs.Answers.{answer_of, IsFreeAnswer}
 use Rattle.comm_targets.specs.Widget.{nothing}
 use Rattle.comm_targets.specs.declared.answer.Answer.{Answer}
 use Rattle.comm_targets.specs.declared.kind.Kind.{Kind}
-use Rattle.comm_targets.specs.declared.kind.Kind.TheVariants.{Echo, Counter, Widget, Free}
+use Rattle.comm_targets.specs.declared.kind.Kind.TheVariants.{Echo, Counter, Widget, WidgetEcho, Free}
 use Rattle.comm_targets.specs.declared.event.Event.{Event}
 use Rattle.comm_targets.specs.declared.event.Event.TheVariants as event
 use Rattle.comm_messages.specs.Gives as message
@@ -115,6 +115,8 @@ outcome_given Counter notes q (Ok a) is = is
 outcome_given Counter notes q (Err f) is = is
 outcome_given Widget notes q (Ok a) is = is
 outcome_given Widget notes q (Err f) is = is
+outcome_given WidgetEcho notes q (Ok a) is = is
+outcome_given WidgetEcho notes q (Err f) is = is
 outcome_given Free notes q (Ok a) is = free_given q.event a is
 outcome_given Free notes q (Err f) is = cc
 

@@ -131,9 +131,11 @@ kind_fits : (w : StockKind) (k : Kind) → has_kind w k ≡ true → is_free k �
 kind_fits w kind.Echo h = refl
 kind_fits w kind.Counter h = refl
 kind_fits w kind.Widget h = refl
+kind_fits w kind.WidgetEcho h = refl
 kind_fits stock_kind.Echo kind.Free h = cc
 kind_fits stock_kind.Counter kind.Free h = cc
 kind_fits stock_kind.Widget kind.Free h = cc
+kind_fits stock_kind.WidgetEcho kind.Free h = cc
 
 first_case : (w : StockKind) (x : Registered) (rs : List Registered) (r : Registered) → (first_of w rs ≡ Some r → is_free r.kind ≡ false) → (b : Bool) → has_kind w x.kind ≡ b → first_of w (x ∷ rs) ≡ Some r → is_free r.kind ≡ false
 first_case w x rs r more true h is = let found : Some x ≡ Some r = rw h at is in let same : x ≡ r = cc in subst (λ (q : Registered). is_free q.kind ≡ false) same (kind_fits w x.kind h)

@@ -13,6 +13,7 @@ pub enum StockKind {
     Echo,
     Counter,
     Widget,
+    WidgetEcho,
 }
 
 fn has_kind(wanted: StockKind, kind: Kind) -> bool
@@ -22,6 +23,7 @@ fn has_kind(wanted: StockKind, kind: Kind) -> bool
         (StockKind::Echo, Kind::Echo) => true,
         (StockKind::Counter, Kind::Counter) => true,
         (StockKind::Widget, Kind::Widget) => true,
+        (StockKind::WidgetEcho, Kind::WidgetEcho) => true,
         _ => false,
     }
 }
