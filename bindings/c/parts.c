@@ -124,7 +124,7 @@ static void a_widget(void) {
   check(comm_answer(&handle, &reply, &sent) == COMM_OK && reply == COMM_REPLY_LAUNCHED && sent == 1, "launched");
   check_part(0, COMM_PART_TYPE, "comm_open", 9, "an open goes out");
   check_part(0, COMM_PART_ID, "00000000-0000-0000-0000-000000000001", 36, "its id");
-  check_part(0, COMM_PART_METADATA, "{\"version\":\"2.0.0\"}", 19, "its version");
+  check_part(0, COMM_PART_METADATA, "{\"version\":\"2.1.0\"}", 19, "its version");
   check(plainly("comm_msg", "{\"comm_id\":\"00000000-0000-0000-0000-000000000001\",\"data\":{\"method\":\"request_state\"}}") == COMM_OK, "request");
   check(reply == COMM_REPLY_DELIVERED && sent == 1, "the state goes out");
   check(plainly("comm_msg", "{\"comm_id\":\"00000000-0000-0000-0000-000000000001\",\"data\":{}}") == COMM_OK && reply == COMM_REPLY_FAULT, "a fault");

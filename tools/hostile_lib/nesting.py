@@ -113,7 +113,7 @@ def in_commands(kind):
                 script.bad(line, "not_json")
             continue
         script.change(launch, "launched")
-        script.sends("comm_open", uuid, f'{{"buffer_paths":{path},"state":{bare}}}', '["AQI="]', more=',"target_name":"jupyter.widget"', metadata='{"version":"2.0.0"}')
+        script.sends("comm_open", uuid, f'{{"buffer_paths":{path},"state":{bare}}}', '["AQI="]', more=',"target_name":"jupyter.widget"', metadata='{"version":"2.1.0"}')
         script.change(push, "delivered")
         script.sends("comm_msg", "a", of_update(bare, path), '["AQI="]')
         script.change(send, "delivered")

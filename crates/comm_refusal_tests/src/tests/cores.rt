@@ -69,6 +69,12 @@ fn try_once(alloc: Global, trial: Trial) -> Result<bool, Wrong> {
             WidgetTarget::new(alloc),
             WidgetTarget::new(alloc),
         ),
+        Kind::WidgetEcho => tried(
+            alloc,
+            trial,
+            WidgetTarget::with_echo(alloc),
+            WidgetTarget::with_echo(alloc),
+        ),
         Kind::Counter => tried(alloc, trial, Counter::new(alloc), Counter::new(alloc)),
         _ => tried(alloc, trial, Echo::new(alloc), Echo::new(alloc)),
     }
@@ -107,8 +113,10 @@ fn try_sizes(rt: &impl Abort, alloc: Global, of: Of, kind: Kind, asked: Asked) -
 }
 
 fn try_all(rt: &impl Abort, alloc: Global, of: Of) -> Result<(), Fail> {
-    for asked in ALL {
-        try_sizes(rt, alloc, of, Kind::Widget, asked)?;
+    for kind in [Kind::Widget, Kind::WidgetEcho] {
+        for asked in ALL {
+            try_sizes(rt, alloc, of, kind, asked)?;
+        }
     }
     Ok(())
 }

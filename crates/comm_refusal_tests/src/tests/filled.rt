@@ -77,7 +77,7 @@ pub fn fill<T: Target>(
 /// What the manager has of a comm that was opened towards a target of this kind.
 pub fn is_kept(kind: Kind, state: &StateAnswer) -> bool {
     match kind {
-        Kind::Widget => is_one(state),
+        Kind::Widget | Kind::WidgetEcho => is_one(state),
         _ => matches!(state, StateAnswer::NoState),
     }
 }

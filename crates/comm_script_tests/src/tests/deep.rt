@@ -49,7 +49,7 @@ const COMMANDS: Deep = Deep {
 "#,
     answers: br#"reply 1 registered
 reply 2 launched
-out {"buffers":["AQI="],"call":2,"client":0,"content":{"comm_id":"67e55044-10b1-426f-9247-bb680e5fe0c8","data":{"buffer_paths":[["s"@,0]],"state":{"s":<[null]>}},"target_name":"w"},"header":{"msg_type":"comm_open"},"metadata":{"version":"2.0.0"}}
+out {"buffers":["AQI="],"call":2,"client":0,"content":{"comm_id":"67e55044-10b1-426f-9247-bb680e5fe0c8","data":{"buffer_paths":[["s"@,0]],"state":{"s":<[null]>}},"target_name":"w"},"header":{"msg_type":"comm_open"},"metadata":{"version":"2.1.0"}}
 reply 3 delivered
 out {"buffers":["/w=="],"call":3,"client":0,"content":{"comm_id":"67e55044-10b1-426f-9247-bb680e5fe0c8","data":{"buffer_paths":[["s"@,0]],"method":"update","state":{"s":<[null]>,"t":1}}},"header":{"msg_type":"comm_msg"},"metadata":{}}
 state 3 {"buffer_paths":[["s"@,0]],"buffers":["/w=="],"state":{"s":<[null]>,"t":1}}

@@ -91,7 +91,7 @@ out {"buffers":[],"call":4,"client":0,"content":{"comm_id":"a","data":{"n":1}},"
 "#,
         answers: br#"reply 1 registered
 reply 2 launched
-out {"buffers":[],"call":2,"client":0,"content":{"comm_id":"67e55044-10b1-426f-9247-bb680e5fe0c8","data":{"buffer_paths":[],"state":{"value":1}},"target_name":"jupyter.widget"},"header":{"msg_type":"comm_open"},"metadata":{"version":"2.0.0"}}
+out {"buffers":[],"call":2,"client":0,"content":{"comm_id":"67e55044-10b1-426f-9247-bb680e5fe0c8","data":{"buffer_paths":[],"state":{"value":1}},"target_name":"jupyter.widget"},"header":{"msg_type":"comm_open"},"metadata":{"version":"2.1.0"}}
 reply 3 delivered
 out {"buffers":[],"call":3,"client":0,"content":{"comm_id":"67e55044-10b1-426f-9247-bb680e5fe0c8","data":{"buffer_paths":[],"method":"update","state":{"value":5}}},"header":{"msg_type":"comm_msg"},"metadata":{}}
 reply 4 closed

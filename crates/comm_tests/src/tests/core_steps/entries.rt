@@ -52,7 +52,7 @@ const CALLED: [(Asked, &str); 11] = [
     (
         Asked::Launch("w"),
         r#"2 9 launch 67e55044-10b1-426f-9247-bb680e5fe0c8 w {}; state {}; launched
-{"buffers":[],"call":7,"client":0,"content":{"comm_id":"67e55044-10b1-426f-9247-bb680e5fe0c8","data":{"buffer_paths":[],"state":{}},"target_name":"w"},"header":{"msg_type":"comm_open"},"metadata":{"version":"2.0.0"}}"#,
+{"buffers":[],"call":7,"client":0,"content":{"comm_id":"67e55044-10b1-426f-9247-bb680e5fe0c8","data":{"buffer_paths":[],"state":{}},"target_name":"w"},"header":{"msg_type":"comm_open"},"metadata":{"version":"2.1.0"}}"#,
     ),
     (
         Asked::Push("67e55044-10b1-426f-9247-bb680e5fe0c8"),
