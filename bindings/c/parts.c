@@ -143,6 +143,17 @@ static void lists_and_ends(void) {
   check_part(0, COMM_PART_CONTENT, "{\"comm_id\":\"e\",\"data\":{}}", 25, "its content");
 }
 
+static void a_replacement(void) {
+  check(plainly("comm_open", "{\"comm_id\":\"k\",\"target_name\":\"mine\"}") == COMM_OK && reply == COMM_REPLY_OPENED, "one more comm");
+  check(comm_register(&handle, COMM_COUNTER, bytes("mine"), 4, out, sizeof out, &size) == COMM_OK, "a register of a taken name");
+  check(comm_answer(&handle, &reply, &sent) == COMM_OK && reply == COMM_REPLY_REPLACED && sent == 2, "replaced");
+  check_reply_part(COMM_PART_CONTENT, "[\"m\",\"k\"]", 9, "the ids that were closed");
+  check_part(0, COMM_PART_TYPE, "comm_close", 10, "a close goes out");
+  check_part(0, COMM_PART_CONTENT, "{\"comm_id\":\"m\",\"data\":{}}", 25, "of the comm that was opened first");
+  check_part(1, COMM_PART_CONTENT, "{\"comm_id\":\"k\",\"data\":{}}", 25, "and of the other");
+  check(plainly("comm_open", "{\"comm_id\":\"m\",\"target_name\":\"mine\"}") == COMM_OK && reply == COMM_REPLY_OPENED, "a comm of the new target");
+}
+
 static void refusals(void) {
   const size_t few[] = {1, 1}, many[] = {1, 3}, vast[] = {SIZE_MAX, 4};
   uint8_t kept[4096];
@@ -171,6 +182,7 @@ int main(void) {
   for_the_kernel();
   a_widget();
   lists_and_ends();
+  a_replacement();
   refusals();
   check(comm_end(&handle) == COMM_OK && comm_end(&other) == COMM_OK, "the end");
   nothing_there("after the end");

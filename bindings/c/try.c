@@ -54,9 +54,9 @@ static void registering(void) {
   check(named(4, "x") == COMM_BAD_KIND, "a kind that isn't");
   check(named(COMM_ECHO, "x") == COMM_NO_STOCK, "no echo in stock");
   check(named(COMM_PLAIN, "\xff") == COMM_BAD_NAME, "a name that isn't UTF-8");
-  check(named(COMM_PLAIN, "mine") == COMM_OK && said("reply 1 registered\n"), "a plain target");
+  check(named(COMM_COUNTER, "mine") == COMM_OK && said("reply 1 registered\n"), "a counter");
+  check(named(COMM_PLAIN, "mine") == COMM_OK && said("reply 2 replaced []\n"), "a plain target in its place");
   check(named(COMM_PLAIN, "other") == COMM_NO_STOCK && size == 0, "no second plain target");
-  check(named(COMM_COUNTER, "mine") == COMM_OK && said("reply 2 name_taken\n"), "a taken name");
   check(named(COMM_WIDGET, "jupyter.widget") == COMM_OK && said("reply 3 registered\n"), "widgets");
   check_line("{\"call\":\"register\",\"kind\":\"widget\",\"name\":\"w\"}", "bad 4 no_stock\n");
 }

@@ -48,7 +48,6 @@ enum class reply : std::uint32_t {
   bad = COMM_REPLY_BAD,
   read = COMM_REPLY_READ,
   registered = COMM_REPLY_REGISTERED,
-  name_taken = COMM_REPLY_NAME_TAKEN,
   opened = COMM_REPLY_OPENED,
   id_in_use = COMM_REPLY_ID_IN_USE,
   refused = COMM_REPLY_REFUSED,
@@ -60,7 +59,8 @@ enum class reply : std::uint32_t {
   unregistered = COMM_REPLY_UNREGISTERED,
   no_target = COMM_REPLY_NO_TARGET,
   launched = COMM_REPLY_LAUNCHED,
-  not_widget = COMM_REPLY_NOT_WIDGET
+  not_widget = COMM_REPLY_NOT_WIDGET,
+  replaced = COMM_REPLY_REPLACED
 };
 
 inline const char *name_of(status found) noexcept {
@@ -185,7 +185,8 @@ public:
   manager(manager &&) noexcept = default;
   manager &operator=(manager &&) noexcept = default;
 
-  /// Registers a target under a name. Gives "reply <number> registered" or "reply <number> name_taken", with a line feed.
+  /// Registers a target under a name. Gives "reply <number> registered", with a line feed; or "reply <number> replaced [..]" with the ids of the
+  /// comms that were closed, where a target had the name, and a line for the close of each.
   std::string_view register_target(kind kind, std::string_view name) {
     const bytes text(name);
     return told([&](std::size_t &size) {
@@ -226,8 +227,8 @@ public:
     return came(reply, count);
   }
 
-  /// What the last reply carries for the kernel: `custom` its content and frames, `unregistered` the JSON list of the ids that were closed. Others
-  /// carry nothing, and this throws `no_part`.
+  /// What the last reply carries for the kernel: `custom` its content and frames, `unregistered` and `replaced` the JSON list of the ids that were
+  /// closed. Others carry nothing, and this throws `no_part`.
   carried own() {
     const auto part = [&](std::size_t part, std::size_t &size) { return comm_reply_part(handle(), part, out_.data(), out_.size(), &size); };
     return {text_of(part, COMM_PART_CONTENT), frames_of(part)};

@@ -38,8 +38,8 @@ static void opening() {
 }
 
 static void registering(comm::manager &manager) {
-  check(manager.register_target(comm::kind::plain, "mine é") == "reply 1 registered\n", "a plain target");
-  check(manager.register_target(comm::kind::widget, "mine é") == "reply 2 name_taken\n", "a taken name");
+  check(manager.register_target(comm::kind::echo, "mine é") == "reply 1 registered\n", "an echo");
+  check(manager.register_target(comm::kind::plain, "mine é") == "reply 2 replaced []\n", "a plain target in its place");
   check(status_of([&] { manager.register_target(comm::kind::plain, "x"); }) == comm::status::no_stock, "no second plain target");
   check(status_of([&] { manager.register_target(static_cast<comm::kind>(4), "x"); }) == comm::status::bad_kind, "a kind that isn't");
   check(status_of([&] { manager.register_target(comm::kind::widget, "\xff"); }) == comm::status::bad_name, "a name that isn't UTF-8");
@@ -97,7 +97,7 @@ static void moves(comm::manager manager) {
 
 int main() {
   opening();
-  comm::manager manager(comm::stock{0, 0, 1, 0, 1});
+  comm::manager manager(comm::stock{1, 0, 1, 0, 1});
   registering(manager);
   frames(manager);
   answers(manager);

@@ -59,7 +59,6 @@ class Reply(enum.IntEnum):
     BAD = 1
     READ = 2
     REGISTERED = 3
-    NAME_TAKEN = 4
     OPENED = 5
     ID_IN_USE = 6
     REFUSED = 7
@@ -72,6 +71,7 @@ class Reply(enum.IntEnum):
     NO_TARGET = 14
     LAUNCHED = 15
     NOT_WIDGET = 16
+    REPLACED = 17
 
 
 class Sent(NamedTuple):
@@ -174,7 +174,8 @@ class Manager:
         _checked(self._lib.comm_open(self._handle, *counts, comms))
 
     def register(self, kind: Kind, name: str) -> bytes:
-        """Registers a target under a name. Gives b'reply <number> registered' or b'reply <number> name_taken', with a line feed."""
+        """Registers a target under a name. Gives b'reply <number> registered', with a line feed; or b'reply <number> replaced [..]' with the ids of the
+        comms that were closed, where a target had the name, and a line for the close of each."""
         text = name.encode()
         return self._answer(self._lib.comm_register(self._handle, kind, text, len(text), self._out, len(self._out), self._size))
 
@@ -200,7 +201,7 @@ class Manager:
         return self._own_part(_Part.CONTENT), self._frames(self._own_part)
 
     def closed(self) -> bytes:
-        """The JSON list of the ids of the comms that the last line closed, where its reply is UNREGISTERED."""
+        """The JSON list of the ids of the comms that the last line or register closed, where its reply is UNREGISTERED or REPLACED."""
         return self._own_part(_Part.CONTENT)
 
     def text(self) -> bytes:

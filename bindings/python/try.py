@@ -59,7 +59,7 @@ OPEN, MSG, CLOSE = (b'{"msg_type":"comm_%s"}' % word for word in (b"open", b"msg
 
 
 def parts(library) -> None:
-    manager = Manager(echo=1, plain=1, library=library)
+    manager = Manager(echo=2, widget=1, plain=1, library=library)
     manager.register(Kind.ECHO, "e")
     manager.register(Kind.PLAIN, "p")
     for comm_id in (b"e", b"p"):
@@ -73,9 +73,13 @@ def parts(library) -> None:
     check("for the kernel", custom == Answer(Reply.CUSTOM, []) and manager.custom() == (b'{"x":[1]}', frames))
     check("no JSON", status_of(lambda: manager.message(MSG, b"{", b"{}")) == Status.NOT_JSON)
     check("no such client", manager.message(MSG, b"{}", b'{"comm_id":"e"}', client=4).reply == Reply.BAD and b" bad_client\n" in manager.text())
+    close = Sent("comm_close", "e", b'{"comm_id":"e","data":{}}', b"{}", [])
+    manager.register(Kind.WIDGET, "e")
+    check("a register's answer by parts", manager.answer() == Answer(Reply.REPLACED, [close]) and manager.closed() == b'["e"]')
+    manager.register(Kind.ECHO, "e")
+    manager.message(OPEN, b"{}", b'{"comm_id":"e","target_name":"e"}')
     manager.line(b'{"call":"unregister","name":"e"}')
-    ended = Answer(Reply.UNREGISTERED, [Sent("comm_close", "e", b'{"comm_id":"e","data":{}}', b"{}", [])])
-    check("a line's answer by parts", manager.answer() == ended and manager.closed() == b'["e"]')
+    check("a line's answer by parts", manager.answer() == Answer(Reply.UNREGISTERED, [close]) and manager.closed() == b'["e"]')
     check("no part", status_of(Manager(library=library).closed) == Status.NO_PART)
     check("closed by parts", manager.message(CLOSE, b"{}", b'{"comm_id":"p"}') == Answer(Reply.CLOSED, []))
 

@@ -130,7 +130,6 @@ pub enum Reply {
     Bad,
     Read,
     Registered,
-    NameTaken,
     Opened,
     IdInUse,
     Refused,
@@ -143,6 +142,7 @@ pub enum Reply {
     NoTarget,
     Launched,
     NotWidget,
+    Replaced,
     /// A number that the library shouldn't give.
     Other(u32),
 }
@@ -154,7 +154,6 @@ impl Reply {
             1 => Reply::Bad,
             2 => Reply::Read,
             3 => Reply::Registered,
-            4 => Reply::NameTaken,
             5 => Reply::Opened,
             6 => Reply::IdInUse,
             7 => Reply::Refused,
@@ -167,6 +166,7 @@ impl Reply {
             14 => Reply::NoTarget,
             15 => Reply::Launched,
             16 => Reply::NotWidget,
+            17 => Reply::Replaced,
             other => Reply::Other(other),
         }
     }
@@ -230,7 +230,8 @@ impl Manager {
         }
     }
 
-    /// Registers a target under a name. Gives `reply <number> registered` or `reply <number> name_taken`, with a line feed.
+    /// Registers a target under a name. Gives `reply <number> registered`, with a line feed; or `reply <number> replaced [..]` with the ids of the
+    /// comms that were closed, where a target had the name, and a line for the close of each.
     pub fn register(&mut self, kind: Kind, name: &str) -> Result<&[u8], Error> {
         self.told(|handle, out, size| {
             // SAFETY: the name is readable and the buffer writable for its length, they don't overlap, and none is null, not even where it is empty.
@@ -281,8 +282,8 @@ impl Manager {
         self.came(status, reply, count)
     }
 
-    /// What the last reply carries for the kernel: `Custom` its content, which is JSON, and its frames; `Unregistered` the JSON list of the ids that
-    /// were closed. Any other is `NoPart`.
+    /// What the last reply carries for the kernel: `Custom` its content, which is JSON, and its frames; `Unregistered` and `Replaced` the JSON
+    /// list of the ids that were closed. Any other is `NoPart`.
     pub fn own(&mut self) -> Result<(Vec<u8>, Vec<Vec<u8>>), Error> {
         // SAFETY: the buffer is writable for its length, and not null.
         let mut part = |part, out: &mut [u8], size: &mut usize| unsafe { ffi::comm_reply_part(&mut *self.handle, part, out.as_mut_ptr(), out.len(), size) };

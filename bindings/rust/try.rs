@@ -31,8 +31,9 @@ fn opening(checks: &mut Checks) {
 }
 
 fn registering(checks: &mut Checks, manager: &mut Manager) {
-    checks.check("a plain target", manager.register(Kind::Plain, "mine é") == Ok(b"reply 1 registered\n"));
-    checks.check("a taken name", manager.register(Kind::Widget, "mine é") == Ok(b"reply 2 name_taken\n"));
+    checks.check("an echo", manager.register(Kind::Echo, "mine é") == Ok(b"reply 1 registered\n"));
+    checks.check("a plain target in its place", manager.register(Kind::Plain, "mine é") == Ok(b"reply 2 replaced []\n"));
+    checks.check("what was closed", manager.own() == Ok((b"[]".to_vec(), vec![])));
     checks.check("no second plain target", manager.register(Kind::Plain, "x") == Err(Error::NoStock));
     for kind in [Kind::Echo, Kind::Counter] {
         checks.check("no stock", manager.register(kind, "x") == Err(Error::NoStock));
@@ -92,7 +93,7 @@ fn main() -> ExitCode {
     opening(&mut checks);
     let parted = parts(&mut checks);
     checks.check("each call by parts is made", parted == Ok(()));
-    match Manager::open(Stock { plain: 1, ..Stock::default() }) {
+    match Manager::open(Stock { echo: 1, plain: 1, ..Stock::default() }) {
         Err(error) => checks.check(&format!("an open: {error}"), false),
         Ok(mut manager) => {
             registering(&mut checks, &mut manager);

@@ -6,7 +6,7 @@ from together_lib.lines import CLIENTS
 
 FIRST = [{"kind": "widget", "name": "jupyter.widget"}, {"kind": "echo", "name": "t"}, {"kind": "counter", "name": "u"}]
 FEW_IDS = ["a", "b", "é"]
-# How many of these lines stay, of those that tools/random_scripts makes. A target that was unregistered doesn't come back.
+# How many of these lines stay, of those that tools/random_scripts makes. A target that was unregistered or replaced doesn't come back.
 KEPT = {"register": 0.3, "unregister": 0.12, "comm_close": 0.5, "hang_up": 0.5}
 
 
