@@ -1,4 +1,4 @@
-//! Whole scripts: `frontends`, `kernels` and `widgets` have rows that both managers answer alike, `shared` what the shared one alone says.
+//! Whole scripts: `frontends`, `kernels`, `widgets` and `echoes` have rows that both managers answer alike, `shared` what the shared one alone says.
 //! `cuts` has the rows cut after each byte, `deep` what nests as deep as a line may, with a small stack.
 ghost use Rattle.std.specs.Prelude.{IfOk, map};
 ghost use Rattle.comm_script.specs.Stock.{AreIdle};

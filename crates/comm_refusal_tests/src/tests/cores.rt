@@ -112,11 +112,17 @@ fn try_sizes(rt: &impl Abort, alloc: Global, of: Of, kind: Kind, asked: Asked) -
     Ok(())
 }
 
-fn try_all(rt: &impl Abort, alloc: Global, of: Of) -> Result<(), Fail> {
+// Of a widget, and of one that echoes.
+fn of_both(rt: &impl Abort, alloc: Global, of: Of, asked: Asked) -> Result<(), Fail> {
     for kind in [Kind::Widget, Kind::WidgetEcho] {
-        for asked in ALL {
-            try_sizes(rt, alloc, of, kind, asked)?;
-        }
+        try_sizes(rt, alloc, of, kind, asked)?;
+    }
+    Ok(())
+}
+
+fn try_all(rt: &impl Abort, alloc: Global, of: Of) -> Result<(), Fail> {
+    for asked in ALL {
+        of_both(rt, alloc, of, asked)?;
     }
     Ok(())
 }
@@ -154,24 +160,18 @@ fn refused_row(rt: HostRuntime) -> Result<(), Fail> {
 
 #[test]
 fn refused_register(rt: HostRuntime) -> Result<(), Fail> {
-    try_sizes(&rt, rt.alloc(), Of::Register, Kind::Widget, Asked::Open)
+    of_both(&rt, rt.alloc(), Of::Register, Asked::Open)
 }
 
 #[test]
 fn refused_replacement(rt: HostRuntime) -> Result<(), Fail> {
-    try_sizes(
-        &rt,
-        rt.alloc(),
-        Of::Replace,
-        Kind::Widget,
-        Asked::Unregister,
-    )
+    of_both(&rt, rt.alloc(), Of::Replace, Asked::Unregister)
 }
 
 #[test]
 fn refused_reads(rt: HostRuntime) -> Result<(), Fail> {
     for of in [Of::Infos, Of::InfosOfTarget, Of::Listing] {
-        try_sizes(&rt, rt.alloc(), of, Kind::Widget, Asked::Close)?;
+        of_both(&rt, rt.alloc(), of, Asked::Close)?;
     }
     Ok(())
 }
@@ -182,7 +182,7 @@ fn spared_ends(rt: HostRuntime) -> Result<(), Fail> {
         try_all(&rt, rt.alloc(), of)?;
     }
     for of in [Of::FinishReplace, Of::WithdrawReplace] {
-        try_sizes(&rt, rt.alloc(), of, Kind::Widget, Asked::Unregister)?;
+        of_both(&rt, rt.alloc(), of, Asked::Unregister)?;
     }
     Ok(())
 }

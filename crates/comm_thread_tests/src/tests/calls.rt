@@ -1,4 +1,4 @@
-//! Each call of a client once, with a widget.
+//! Each call of a client once, with a widget, and with one that echoes.
 ghost use Rattle.comm_targets.specs.Meaning.{IsIdle};
 
 use crate::tests::named::{Play, named};
@@ -129,5 +129,10 @@ fn each_call_once(rt: HostRuntime) -> Result<(), Fail> {
     let other = WidgetTarget::new(alloc);
     named(&rt, alloc, limits(2, 100, 64), Play::Tour, target, other).map_err(|_| Fail::new(
         "each call once",
+    ))?;
+    let target = WidgetTarget::with_echo(alloc);
+    let other = WidgetTarget::with_echo(alloc);
+    named(&rt, alloc, limits(2, 100, 64), Play::Tour, target, other).map_err(|_| Fail::new(
+        "each call once, of a widget that echoes",
     ))
 }

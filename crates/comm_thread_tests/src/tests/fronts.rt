@@ -128,6 +128,11 @@ fn what_is_heard_is_read(rt: HostRuntime) -> Result<(), Fail> {
     let other = WidgetTarget::new(alloc);
     named(&rt, alloc, limits(3, 100, 64), Play::Hearing, target, other).map_err(|_| Fail::new(
         "what is heard is read",
+    ))?;
+    let target = WidgetTarget::with_echo(alloc);
+    let other = WidgetTarget::with_echo(alloc);
+    named(&rt, alloc, limits(3, 100, 64), Play::Hearing, target, other).map_err(|_| Fail::new(
+        "what is heard of a widget that echoes is read",
     ))
 }
 
