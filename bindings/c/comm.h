@@ -45,9 +45,9 @@ enum {
   COMM_ECHO = 0,    /* sends each message back */
   COMM_COUNTER = 1, /* answers each message with how many came */
   COMM_WIDGET = 2,  /* keeps the state of Jupyter widgets; its name is "jupyter.widget" by rights */
-  COMM_WIDGET_ECHO = 4, /* the same, and repeats to the frontends what a frontend's update brought (`echo_update`) */
-  COMM_PLAIN = 3    /* takes every open and message, and answers nothing. A message comes to the kernel as its reply's
+  COMM_PLAIN = 3,   /* takes every open and message, and answers nothing. A message comes to the kernel as its reply's
                        'custom {"buffers":[..],"content":..}', and the kernel answers by the command `send` */
+  COMM_WIDGET_ECHO = 4 /* as COMM_WIDGET, and repeats to the frontends what a frontend's update brought (`echo_update`) */
 };
 
 /* Makes a manager that has played nothing, with so many targets of each kind to register. At most `comms` comms are open at a time.

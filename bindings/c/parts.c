@@ -130,6 +130,25 @@ static void a_widget(void) {
   check(plainly("comm_msg", "{\"comm_id\":\"00000000-0000-0000-0000-000000000001\",\"data\":{}}") == COMM_OK && reply == COMM_REPLY_FAULT, "a fault");
 }
 
+static void a_widget_that_echoes(void) {
+  const size_t sizes[] = {3};
+  const char *open = "{\"comm_id\":\"x\",\"target_name\":\"echoing\",\"data\":{\"state\":{\"v\":1}}}";
+  const char *update = "{\"comm_id\":\"x\",\"data\":{\"method\":\"update\",\"state\":{\"v\":2},\"buffer_paths\":[[\"b\"]]}}";
+  const char *echo = "{\"comm_id\":\"x\",\"data\":{\"buffer_paths\":[[\"b\"]],\"method\":\"echo_update\",\"state\":{\"v\":2}}}";
+  check(comm_register(&handle, COMM_WIDGET_ECHO, bytes("echoing"), 7, out, sizeof out, &size) == COMM_OK, "widgets that echo");
+  check(message(0, "{\"msg_type\":\"comm_open\"}", "{\"version\":\"2.0.0\"}", open, "", 0, no_sizes, 0) == COMM_OK, "an open of one");
+  check(reply == COMM_REPLY_OPENED && sent == 0, "it is opened, and nothing is echoed");
+  check(message(1, "{\"msg_type\":\"comm_msg\"}", "{}", update, "xyz", 3, sizes, 1) == COMM_OK, "an update of it");
+  check(reply == COMM_REPLY_DELIVERED && sent == 1, "it is echoed");
+  check_part(0, COMM_PART_TYPE, "comm_msg", 8, "by a message");
+  check_part(0, COMM_PART_CONTENT, echo, strlen(echo), "with what it brought");
+  check_part(0, COMM_PART_FRAMES, "xyz", 3, "and its frame");
+  check_no_part(0, COMM_PART_FRAMES + 1, "and no other");
+  check(plainly("comm_msg", "{\"comm_id\":\"x\",\"data\":{\"method\":\"update\",\"state\":{}}}") == COMM_OK, "an update of no key");
+  check(reply == COMM_REPLY_DELIVERED && sent == 0, "isn't echoed");
+  check(plainly("comm_close", "{\"comm_id\":\"x\"}") == COMM_OK && reply == COMM_REPLY_CLOSED, "its close");
+}
+
 static void lists_and_ends(void) {
   check(plainly("comm_info_request", "{\"target_name\":\"echo\"}") == COMM_OK && reply == COMM_REPLY_READ && sent == 1, "which are open");
   check_part(0, COMM_PART_TYPE, "comm_info_reply", 15, "an info reply");
@@ -181,6 +200,7 @@ int main(void) {
   frames_there_and_back();
   for_the_kernel();
   a_widget();
+  a_widget_that_echoes();
   lists_and_ends();
   a_replacement();
   refusals();

@@ -51,8 +51,9 @@ static void opening(void) {
 }
 
 static void registering(void) {
-  check(named(4, "x") == COMM_BAD_KIND, "a kind that isn't");
+  check(named(5, "x") == COMM_BAD_KIND, "a kind that isn't");
   check(named(COMM_ECHO, "x") == COMM_NO_STOCK, "no echo in stock");
+  check(named(COMM_WIDGET_ECHO, "x") == COMM_NO_STOCK, "no widgets that echo in stock");
   check(named(COMM_PLAIN, "\xff") == COMM_BAD_NAME, "a name that isn't UTF-8");
   check(named(COMM_COUNTER, "mine") == COMM_OK && said("reply 1 registered\n"), "a counter");
   check(named(COMM_PLAIN, "mine") == COMM_OK && said("reply 2 replaced []\n"), "a plain target in its place");

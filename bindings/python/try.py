@@ -84,6 +84,20 @@ def parts(library) -> None:
     check("closed by parts", manager.message(CLOSE, b"{}", b'{"comm_id":"p"}') == Answer(Reply.CLOSED, []))
 
 
+def echoes(library) -> None:
+    manager = Manager(widget=0, widget_echo=1, library=library)
+    check("widgets that echo", manager.register(Kind.WIDGET_ECHO, "w") == b"reply 1 registered\n")
+    check("no others", status_of(lambda: manager.register(Kind.WIDGET, "x")) == Status.NO_STOCK)
+    opened = manager.message(OPEN, b'{"version":"2.1.0"}', b'{"comm_id":"a","target_name":"w","data":{"state":{"v":1}}}')
+    check("an open isn't echoed", opened == Answer(Reply.OPENED, []))
+    update = b'{"comm_id":"a","data":{"method":"update","state":{"v":2},"buffer_paths":[["b"]]}}'
+    echo = b'{"comm_id":"a","data":{"buffer_paths":[["b"]],"method":"echo_update","state":{"v":2}}}'
+    echoed = manager.message(MSG, b"{}", update, [b"\x01\x02"], client=1)
+    check("an update is echoed", echoed == Answer(Reply.DELIVERED, [Sent("comm_msg", "a", echo, b"{}", [b"\x01\x02"])]))
+    manager.line(b'{"call":"push","id":"a","state":{"v":3}}')
+    check("a push isn't", [b'"method":"update"' in it.content for it in manager.answer().sent] == [True])
+
+
 def threads(library) -> None:
     with Manager(library=library) as manager:
         answers: list[bytes] = []
@@ -100,6 +114,7 @@ def main(path: str) -> int:
     opening(library)
     plain(library)
     parts(library)
+    echoes(library)
     threads(library)
     print(f"{passed} passed, {failed} failed")
     return failed != 0

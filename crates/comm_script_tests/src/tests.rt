@@ -152,5 +152,6 @@ fn widgets_are_answered(rt: HostRuntime) -> Result<(), Fail> {
 
 #[test]
 fn widgets_that_echo_are_answered(rt: HostRuntime) -> Result<(), Fail> {
-    all_give(&rt, rt.alloc(), &echoes::ROWS)
+    all_give(&rt, rt.alloc(), &echoes::ROWS)?;
+    all_give(&rt, rt.alloc(), &echoes::AS_OTHERS)
 }

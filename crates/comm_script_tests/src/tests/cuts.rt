@@ -163,3 +163,10 @@ fn cut_scripts_of_widgets_give_their_whole_lines(rt: HostRuntime) -> Result<(), 
 fn cut_scripts_of_widgets_that_echo_give_their_whole_lines(rt: HostRuntime) -> Result<(), Fail> {
     all_are_cut(&rt, rt.alloc(), &echoes::ROWS)
 }
+
+#[test]
+fn cut_scripts_of_widgets_that_echo_as_others_give_their_whole_lines(
+    rt: HostRuntime,
+) -> Result<(), Fail> {
+    all_are_cut(&rt, rt.alloc(), &echoes::AS_OTHERS)
+}

@@ -1,7 +1,7 @@
 // Widgets that echo.
 use super::{MOST, Row};
 
-pub const ROWS: [Row; 12] = [
+pub const ROWS: [Row; 4] = [
     Row {
         name: "an update that brings some keys is echoed",
         comms: MOST,
@@ -87,6 +87,10 @@ reply 4 fault no_method
 state 4 {"buffer_paths":[],"buffers":[],"state":{"k":1}}
 "#,
     },
+];
+
+/// What other widgets are asked, with what is echoed of it.
+pub const AS_OTHERS: [Row; 8] = [
     Row {
         name: "an update is merged and echoed, and shown where it is asked for",
         comms: MOST,
