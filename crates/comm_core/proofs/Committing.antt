@@ -1,5 +1,5 @@
 -- The tables after a target's change is made, and after a target is registered.
-use Rattle.std.proofs.Common.{◌≡◌, ℕ, true, [], ◌∷◌, ◌++◌, Option, None, Some, is_some, Ok, Err, ap, sym, ◌∙◌, subst}
+use Rattle.std.proofs.Common.{◌≡◌, ℕ, true, [], ◌∷◌, ◌++◌, Option, None, Some, is_some, IsSome, Ok, Err, ap, sym, ◌∙◌, subst}
 use Rattle.comm_value.specs.Tree.{Members}
 use Rattle.comm_messages.specs.Content.{Content}
 use Rattle.comm_targets.specs.Meaning.{Meaning, IsIdle, after_commit, ids_after, notes_after}
@@ -18,7 +18,7 @@ use Rattle.comm_core.specs.declared.question.Question.{Question}
 use Rattle.comm_core.specs.declared.plan.Plan.{Plan}
 use Rattle.comm_core.specs.declared.plan.Plan.TheVariants.{Register, Replace, Commit}
 use Rattle.comm_core.proofs.Agreeing.{some-at}
-use Rattle.comm_core.proofs.Staging.{unstaged-there, none_of}
+use Rattle.comm_core.proofs.Staging.{unstaged-there, none_of, some-is}
 use Rattle.comm_core.proofs.Carried.{is_stage, opened_carried, told_carried, registered_carried, open_notes, launch_notes}
 
 module _ (b : Targets) (c : Opens) (h : Agrees (unstaged b) c) (q : Question) (a : Answer) (staged : HaveStaged b (staged_by (Commit q) (Some (Ok a))))
@@ -98,8 +98,8 @@ module _ (b : Targets) (c : Opens) (plan : Plan) (o : Option Outcome) (name : Na
     abbrev successor : Suits (unstaged b) c boxed (Replace name kind notes) o
     successor = subst (λ p. Suits (unstaged b) c boxed p o) is suits
 
-    pub replace_here : is_some (at b name) ≡ true
-    replace_here = sym (unstaged-there b name) ∙ successor.1.1
+    pub replace_here : IsSome (at b name)
+    replace_here = some-is (at b name) (sym (unstaged-there b name) ∙ successor.1.1)
 
     -- it hands a target in
     pub replace_hands : {P : Type 0} → boxed ≡ None → P

@@ -104,14 +104,14 @@ module _ (l : ℕ) (b : Targets) (c : Opens) (name : Name) (k : Kind) (n : ℕ) 
   ends true e = refl
   ends false e = sym (nobody_ends b name e)
 
-  pub register_ready : (r : Reply) (out : List Outgoing) (plan : Plan) → Done r out (planned (machine_of b c) plan None) ≡ judged l (machine_of b c) (call.Register name k n)
-      → plan ≡ registering b name k n → IsReady (state l b c false) (readied (call.Register name k n) None r out plan (Some m))
+  pub register_ready : (r : Reply) (out : List Outgoing) (plan : Plan)
+      → ((limit : ℕ) → Done r out (planned (machine_of b c) plan None) ≡ judged limit (machine_of b c) (call.Register name k n)) → plan ≡ registering b name k n → IsReady (state l b c false) (readied (call.Register name k n) None r out plan (Some m))
   register_ready r out plan e ep =
       record {
         begun = refl;
-        allowed = subst (λ v. Allowed (machine_of b c) (question_of v) None) e tt;
+        allowed = subst (λ v. Allowed (machine_of b c) (question_of v) None) (e l) tt;
         staged = none;
-        step_is = ap (λ v. stepped (machine_of b c) v None) (sym e);
+        step_is = ap (λ v. stepped (machine_of b c) v None) (sym (e l));
         stages = λ name m there. none name m there ∙ sym (nothing_staged plan name);
         suits = subst (λ p. Suits (unstaged b) c (Some m) p None) (sym ep) (suited (has (targets_of b) name) refl);
         ended = ap (ended_by b) ep ∙ ends (has (targets_of b) name) refl;

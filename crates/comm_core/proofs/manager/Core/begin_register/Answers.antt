@@ -16,7 +16,7 @@ pub returns-clause-ready : goal.returns-clause-ready
 returns-clause-ready g c =
     rw c.of.ensures (
     register_ready _ _ _ _ _ _ _ (rw c.make_room.ensures.boxes (c.self.invariant.nothing_staged (ap (λ (s : CoreValue). s.settled) c.self.view_is ∙ c.requires.settled))) (sym c.kind-kind.ensures) (sym c.notes-notes.ensures) c.requires.idle
-    _ _ _ (c.in-Ok.ensures.verdict _) c.in-Ok.ensures.plan
+    _ _ _ c.in-Ok.ensures.verdict c.in-Ok.ensures.plan
     )
 
 pub returns-clause-machine : goal.returns-clause-machine
