@@ -13,14 +13,11 @@ use std::alloc::{AllocError, Global};
 #[derive(Drop)]
 pub struct Template {
     // `{"buffer_paths":[],"method":"update","state":{}}`
-    update: Dict,
-    // `{"buffer_paths":[],"method":"echo_update","state":{}}`
-    echo: Dict,
+    empty: Dict,
     // The keys whose values are a message's own.
     buffer_paths: Text,
     state: Text,
-    ghost is_update: { update ≡ told_data (codes "update") [] no_members },
-    ghost is_echo: { echo ≡ told_data (codes "echo_update") [] no_members },
+    ghost is_empty: { empty ≡ told_data (codes "update") [] no_members },
     ghost is_buffer_paths: { buffer_paths ≡ codes "buffer_paths" },
     ghost is_state: { state ≡ codes "state" },
 }
@@ -29,23 +26,28 @@ impl Template {
     fn new(alloc: Global) -> Result<Template, AllocError> {
         let buffer_paths = Text::copy_of(alloc, "buffer_paths")?;
         let state = Text::copy_of(alloc, "state")?;
-        let update = empty_data(alloc, Telling::Update, &buffer_paths, &state)?;
-        let echo = empty_data(alloc, Telling::EchoUpdate, &buffer_paths, &state)?;
+        let empty = empty_data(alloc, &buffer_paths, &state)?;
         Ok(Template {
-            update,
-            echo,
+            empty,
             buffer_paths,
             state,
         })
     }
 
-    // The data of such a message that tells nothing.
-    fn empty(&self, telling: Telling) -> &Dict
-        ensures { result.now ≡ told_data (method_name telling) [] no_members }
+    // The data of such a message that tells nothing. An echo has its method put in.
+    fn named(&self, alloc: Global, telling: Telling) -> Result<Dict, AllocError>
+        ensures { IfOk result (λ d. d ≡ told_data (method_name telling) [] no_members) }
     {
+        let data = self.empty.copy()?;
         match telling {
-            Telling::Update => &self.update,
-            Telling::EchoUpdate => &self.echo,
+            Telling::Update => Ok(data),
+            Telling::EchoUpdate => {
+                let Ok((key, method)) = method(alloc, telling) else {
+                    drop(data);
+                    return Err(AllocError);
+                };
+                data.insert(alloc, key, Val::Text(method))
+            }
         }
     }
 
@@ -58,7 +60,7 @@ impl Template {
     ) -> Result<Dict, AllocError>
         ensures { IfOk result (λ d. d ≡ told_data (method_name telling) paths.now plain) }
     {
-        let Ok(data) = self.empty(telling).copy() else {
+        let Ok(data) = self.named(alloc, telling) else {
             drop(plain);
             return Err(AllocError);
         };
@@ -77,17 +79,12 @@ impl Template {
 }
 
 // The data of a message that tells nothing, by its keys.
-fn empty_data(
-    alloc: Global,
-    telling: Telling,
-    buffer_paths: &Text,
-    state: &Text,
-) -> Result<Dict, AllocError>
-    ensures { buffer_paths.now ≡ codes "buffer_paths" → state.now ≡ codes "state" → IfOk result (λ d. d ≡ told_data (method_name telling) [] no_members) }
+fn empty_data(alloc: Global, buffer_paths: &Text, state: &Text) -> Result<Dict, AllocError>
+    ensures { buffer_paths.now ≡ codes "buffer_paths" → state.now ≡ codes "state" → IfOk result (λ d. d ≡ told_data (codes "update") [] no_members) }
 {
     let paths = paths_val(alloc, &[])?;
     let data = with(alloc, Dict::new(), buffer_paths, paths)?;
-    let Ok((key, method)) = method(alloc, telling) else {
+    let Ok((key, method)) = method(alloc, Telling::Update) else {
         drop(data);
         return Err(AllocError);
     };
