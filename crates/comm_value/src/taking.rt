@@ -49,7 +49,8 @@ fn take_member(alloc: Global, members: Dict, key: &Text) -> Result<Option<Taken>
         Some(value) => value.copy()?,
         None => return Ok(None),
     };
-    let outer = members.insert(alloc, key.copy()?, Val::Null)?;
+    let place = key.copy()?;
+    let outer = members.insert(alloc, place, Val::Null)?;
     Ok(Some(Taken {
         inner,
         outer: Val::Dict(outer),
