@@ -1,6 +1,6 @@
 // Worked cases of the protocol, played on a widget, and on one that echoes. Buffers are given in base64 and shown by their bytes: AQI= is 1 and 2, /w== is 255.
-ghost use Rattle.std.specs.Prelude.{◌≡◌, [], ◌∷◌, None, OnOk, codes};
-ghost use Rattle.comm_targets.specs.Meaning.{IsAskable};
+ghost use Rattle.std.specs.Prelude.{◌≡◌, true, [], ◌∷◌, None, OnOk, codes};
+ghost use Rattle.comm_targets.specs.Meaning.{IsAskable, is_widget};
 ghost use Rattle.comm_tests.specs.After.{after};
 ghost use Rattle.comm_tests.specs.Fresh.{with_ids};
 
@@ -78,7 +78,8 @@ fn have_done<T: Target>(target: &mut T, event: &Event) -> Result<(), TargetFault
 
 // Opens the comm `a` of a widget that has none.
 fn launch<T: Target>(alloc: Global, widget: &mut T) -> Result<(), TargetFault>
-    requires { T.means widget.old ≡ with_ids (T.means widget.old).kind [] }
+    requires new { T.means widget.old ≡ with_ids (T.means widget.old).kind [] }
+    requires kind { is_widget (T.means widget.old).kind ≡ true }
     ensures { OnOk result (T.means widget.new ≡ with_ids (T.means widget.old).kind (codes "a" ∷ [])) }
 {
     let id = Text::copy_of(alloc, "a")?;
@@ -99,6 +100,7 @@ fn later_answer<T: Target>(
     now: &Dict,
 ) -> Result<Answer, TargetFault>
     requires new { T.means widget ≡ with_ids (T.means widget).kind [] }
+    requires kind { is_widget (T.means widget).kind ≡ true }
     requires askable { IsAskable (with_ids (T.means widget).kind (codes "a" ∷ [])) event.now }
 {
     launch(alloc, &mut widget)?;
