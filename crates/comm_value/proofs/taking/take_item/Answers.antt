@@ -15,12 +15,12 @@ returns-then-n-len-clause-inner c =
 
 pub new-requires : goal.new-requires
 new-requires c =
-    ordered_set c.in_ok-all.all.items c.args.n _ (ap items_ordered c.in_ok-all.ensures.shown ∙ c.into_values.ensures.ordered) (ap (λ v. is_ordered (tree v)) c.replace.ensures.after)
+    ordered_set c.in_ok-all.all.items c.args.n _ (ap items_ordered c.in_ok-all.ensures.shown ∙ c.into_values.ensures.ordered) (ap (λ v. is_ordered (tree v)) c.replace-inner.ensures.after)
 
 pub returns-clause-inner : goal.returns-clause-inner
 returns-clause-inner c =
     let within : c.args.n < length c.in_ok-all.all.items = omega (arith, c.if-n-len.false, c.len.ensures) in
-    ap (λ v. Some (tree v)) c.replace.ensures.value ∙ sym (item_there c.in_ok-all.all.items c.args.n _ within c.index_mut.ensures.value) ∙ ap (get_item c.args.n) c.in_ok-all.ensures.shown
+    ap (λ v. Some (tree v)) c.replace-inner.ensures.value ∙ sym (item_there c.in_ok-all.all.items c.args.n _ within c.index_mut.ensures.value) ∙ ap (get_item c.args.n) c.in_ok-all.ensures.shown
 
 pub returns-clause-outer : goal.returns-clause-outer
 returns-clause-outer c = λ t.
