@@ -69,7 +69,7 @@ int main(int count, char **words) {
   char open[4096] = "{\"comm_id\":\"w\",\"target_name\":\"jupyter.widget\",\"data\":{\"state\":{";
   for (int i = 0; i < 23; i++) sprintf(open + strlen(open), "%s\"key %d\":\"value %d\"", i ? "," : "", i, i);
   strcat(open, "}}}");
-  need(comm_open(&handle, 1, 0, 1, 0, 16) == COMM_OK, "no manager");
+  need(comm_open(&handle, 1, 0, 1, 0, 0, 16) == COMM_OK, "no manager");
   register_one(COMM_WIDGET, "jupyter.widget");
   register_one(COMM_ECHO, "echo");
   play_parts("{\"msg_type\":\"comm_open\"}", "{\"version\":\"2.0.0\"}", open, 0);

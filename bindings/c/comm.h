@@ -45,16 +45,18 @@ enum {
   COMM_ECHO = 0,    /* sends each message back */
   COMM_COUNTER = 1, /* answers each message with how many came */
   COMM_WIDGET = 2,  /* keeps the state of Jupyter widgets; its name is "jupyter.widget" by rights */
-  COMM_PLAIN = 3    /* takes every open and message, and answers nothing. A message comes to the kernel as its reply's
+  COMM_PLAIN = 3,   /* takes every open and message, and answers nothing. A message comes to the kernel as its reply's
                        'custom {"buffers":[..],"content":..}', and the kernel answers by the command `send` */
+  COMM_WIDGET_ECHO = 4 /* as COMM_WIDGET, and repeats to the frontends what a frontend's update brought (`echo_update`) */
 };
 
 /* Makes a manager that has played nothing, with so many targets of each kind to register. At most `comms` comms are open at a time.
  * The number of targets takes no memory. */
-uint32_t comm_open(comm_handle *handle, uint32_t echo, uint32_t counter, uint32_t widget, uint32_t plain, size_t comms);
+uint32_t comm_open(comm_handle *handle, uint32_t echo, uint32_t counter, uint32_t widget, uint32_t widget_echo, uint32_t plain, size_t comms);
 
-/* Registers a target of a kind under a name, which is UTF-8 and not ended by a zero. The answer is 'reply <number> registered' or
- * 'reply <number> name_taken', with a line feed. The command `register` of a line does the same for the kinds but COMM_PLAIN. */
+/* Registers a target of a kind under a name, which is UTF-8 and not ended by a zero. The answer is 'reply <number> registered', with a line feed.
+ * Where a target has the name, it is replaced and its comms are closed: 'reply <number> replaced [..]' with a JSON list of their ids, and a line
+ * 'out ..' for the close of each. The command `register` of a line does the same for the kinds but COMM_PLAIN. */
 uint32_t comm_register(comm_handle *handle, uint32_t kind, const uint8_t *name, size_t name_size, uint8_t *out, size_t out_size, size_t *size);
 
 /* Plays a line, a message of a frontend or a command of the kernel, and writes what is said to it: nothing, or lines 'reply ..', 'out ..',
@@ -67,7 +69,6 @@ enum {
   COMM_REPLY_BAD = 1,           /* it couldn't be read, and counts as no change; comm_text has the reason */
   COMM_REPLY_READ = 2,          /* it reads, and changes nothing: a comm_info_request, which sends one message; or the command `state` */
   COMM_REPLY_REGISTERED = 3,
-  COMM_REPLY_NAME_TAKEN = 4,
   COMM_REPLY_OPENED = 5,
   COMM_REPLY_ID_IN_USE = 6,
   COMM_REPLY_REFUSED = 7,       /* an open; comm_text has the reason */
@@ -79,7 +80,8 @@ enum {
   COMM_REPLY_UNREGISTERED = 13, /* the content of comm_reply_part is a JSON list of the ids of the comms that were closed */
   COMM_REPLY_NO_TARGET = 14,
   COMM_REPLY_LAUNCHED = 15,
-  COMM_REPLY_NOT_WIDGET = 16
+  COMM_REPLY_NOT_WIDGET = 16,
+  COMM_REPLY_REPLACED = 17      /* a register of a name that a target had; the rest as at COMM_REPLY_UNREGISTERED. No reply has 4 any more */
 };
 
 /* The parts of a message that goes out, and of a reply. */
@@ -107,7 +109,8 @@ uint32_t comm_answer(comm_handle *handle, uint32_t *reply, size_t *sent);
  * COMM_SHORT `*size` is the part's size: to ask for it, give an `out_size` of 0. COMM_NO_PART comes behind the last message and the last frame. */
 uint32_t comm_part(comm_handle *handle, size_t message, size_t part, uint8_t *out, size_t out_size, size_t *size);
 
-/* The same of the reply: COMM_REPLY_CUSTOM has COMM_PART_CONTENT and frames, COMM_REPLY_UNREGISTERED has COMM_PART_CONTENT; others have no part. */
+/* The same of the reply: COMM_REPLY_CUSTOM has COMM_PART_CONTENT and frames, COMM_REPLY_UNREGISTERED and COMM_REPLY_REPLACED have COMM_PART_CONTENT; others
+ * have no part. */
 uint32_t comm_reply_part(comm_handle *handle, size_t part, uint8_t *out, size_t out_size, size_t *size);
 
 /* What was said to the last line, message or register, again, as comm_line writes it. */

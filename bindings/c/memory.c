@@ -15,10 +15,10 @@ static const char *played(long at, uint8_t *into, size_t room, size_t *size, lon
   heap_fail_at = at;
   heap_count = 0;
   *size = 0;
-  uint32_t status = comm_open(&handle, 2, 2, 2, 2, 4096);
+  uint32_t status = comm_open(&handle, 2, 2, 2, 2, 2, 4096);
   if (status == COMM_MEMORY) {
     ++*refusals;
-    status = comm_open(&handle, 2, 2, 2, 2, 4096);
+    status = comm_open(&handle, 2, 2, 2, 2, 2, 4096);
   }
   if (status != COMM_OK) return "the open";
   for (size_t from = 0; from < length;) {

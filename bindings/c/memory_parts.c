@@ -70,16 +70,19 @@ static const char *played(long at) {
   heap_count = 0;
   told_size = 0;
   do {
-    status = comm_open(&handle, 1, 0, 1, 1, 9);
+    status = comm_open(&handle, 1, 0, 1, 1, 1, 9);
   } while (may_again(status));
   int went = status == COMM_OK && registered(COMM_ECHO, "echo") && registered(COMM_PLAIN, "mine") && registered(COMM_WIDGET, "widget")
+      && registered(COMM_WIDGET_ECHO, "echoing")
       && message("comm_open", "{\"comm_id\":\"e\",\"target_name\":\"echo\"}", "", 0, 0)
       && message("comm_open", "{\"comm_id\":\"m\",\"target_name\":\"mine\"}", "", 0, 0)
       && message("comm_open", "{\"comm_id\":\"w\",\"target_name\":\"widget\",\"data\":{\"state\":{\"v\":1}}}", "", 0, 0)
+      && message("comm_open", "{\"comm_id\":\"x\",\"target_name\":\"echoing\",\"data\":{\"state\":{\"v\":1}}}", "", 0, 0)
       && message("comm_msg", "{\"comm_id\":\"e\",\"data\":{\"x\":1}}", "abcde", 2, 3)
       && message("comm_msg", "{\"comm_id\":\"m\",\"data\":{\"x\":1}}", "abcde", 2, 3)
       && message("comm_msg", "{\"comm_id\":\"w\",\"data\":{\"method\":\"update\",\"state\":{},\"buffer_paths\":[[\"b\"]]}}", "abcde", 2, 3)
       && message("comm_msg", "{\"comm_id\":\"w\",\"data\":{\"method\":\"request_state\"}}", "", 0, 0)
+      && message("comm_msg", "{\"comm_id\":\"x\",\"data\":{\"method\":\"update\",\"state\":{\"v\":[2]},\"buffer_paths\":[[\"b\"]]}}", "abcde", 2, 3)
       && message("comm_info_request", "{}", "", 0, 0) && message("comm_close", "{\"comm_id\":\"e\"}", "", 0, 0);
   if (comm_end(&handle) != COMM_OK) return "the end";
   if (!went) return "a call";

@@ -77,7 +77,7 @@ static void nothing_there(const char *when) {
 }
 
 static void opened(comm_handle *at) {
-  check(comm_open(at, 1, 1, 1, 1, 4) == COMM_OK, "open");
+  check(comm_open(at, 1, 1, 1, 1, 1, 4) == COMM_OK, "open");
   check(comm_register(at, COMM_ECHO, bytes("echo"), 4, out, sizeof out, &size) == COMM_OK, "register");
   check(comm_register(at, COMM_PLAIN, bytes("mine"), 4, out, sizeof out, &size) == COMM_OK, "register");
   check(comm_register(at, COMM_WIDGET, bytes("jupyter.widget"), 14, out, sizeof out, &size) == COMM_OK, "register");
@@ -124,10 +124,29 @@ static void a_widget(void) {
   check(comm_answer(&handle, &reply, &sent) == COMM_OK && reply == COMM_REPLY_LAUNCHED && sent == 1, "launched");
   check_part(0, COMM_PART_TYPE, "comm_open", 9, "an open goes out");
   check_part(0, COMM_PART_ID, "00000000-0000-0000-0000-000000000001", 36, "its id");
-  check_part(0, COMM_PART_METADATA, "{\"version\":\"2.0.0\"}", 19, "its version");
+  check_part(0, COMM_PART_METADATA, "{\"version\":\"2.1.0\"}", 19, "its version");
   check(plainly("comm_msg", "{\"comm_id\":\"00000000-0000-0000-0000-000000000001\",\"data\":{\"method\":\"request_state\"}}") == COMM_OK, "request");
   check(reply == COMM_REPLY_DELIVERED && sent == 1, "the state goes out");
   check(plainly("comm_msg", "{\"comm_id\":\"00000000-0000-0000-0000-000000000001\",\"data\":{}}") == COMM_OK && reply == COMM_REPLY_FAULT, "a fault");
+}
+
+static void a_widget_that_echoes(void) {
+  const size_t sizes[] = {3};
+  const char *open = "{\"comm_id\":\"x\",\"target_name\":\"echoing\",\"data\":{\"state\":{\"v\":1}}}";
+  const char *update = "{\"comm_id\":\"x\",\"data\":{\"method\":\"update\",\"state\":{\"v\":2},\"buffer_paths\":[[\"b\"]]}}";
+  const char *echo = "{\"comm_id\":\"x\",\"data\":{\"buffer_paths\":[[\"b\"]],\"method\":\"echo_update\",\"state\":{\"v\":2}}}";
+  check(comm_register(&handle, COMM_WIDGET_ECHO, bytes("echoing"), 7, out, sizeof out, &size) == COMM_OK, "widgets that echo");
+  check(message(0, "{\"msg_type\":\"comm_open\"}", "{\"version\":\"2.0.0\"}", open, "", 0, no_sizes, 0) == COMM_OK, "an open of one");
+  check(reply == COMM_REPLY_OPENED && sent == 0, "it is opened, and nothing is echoed");
+  check(message(1, "{\"msg_type\":\"comm_msg\"}", "{}", update, "xyz", 3, sizes, 1) == COMM_OK, "an update of it");
+  check(reply == COMM_REPLY_DELIVERED && sent == 1, "it is echoed");
+  check_part(0, COMM_PART_TYPE, "comm_msg", 8, "by a message");
+  check_part(0, COMM_PART_CONTENT, echo, strlen(echo), "with what it brought");
+  check_part(0, COMM_PART_FRAMES, "xyz", 3, "and its frame");
+  check_no_part(0, COMM_PART_FRAMES + 1, "and no other");
+  check(plainly("comm_msg", "{\"comm_id\":\"x\",\"data\":{\"method\":\"update\",\"state\":{}}}") == COMM_OK, "an update of no key");
+  check(reply == COMM_REPLY_DELIVERED && sent == 0, "isn't echoed");
+  check(plainly("comm_close", "{\"comm_id\":\"x\"}") == COMM_OK && reply == COMM_REPLY_CLOSED, "its close");
 }
 
 static void lists_and_ends(void) {
@@ -141,6 +160,17 @@ static void lists_and_ends(void) {
   check_reply_part(COMM_PART_CONTENT, "[\"e\"]", 5, "the ids that were closed");
   check_part(0, COMM_PART_TYPE, "comm_close", 10, "a close goes out");
   check_part(0, COMM_PART_CONTENT, "{\"comm_id\":\"e\",\"data\":{}}", 25, "its content");
+}
+
+static void a_replacement(void) {
+  check(plainly("comm_open", "{\"comm_id\":\"k\",\"target_name\":\"mine\"}") == COMM_OK && reply == COMM_REPLY_OPENED, "one more comm");
+  check(comm_register(&handle, COMM_COUNTER, bytes("mine"), 4, out, sizeof out, &size) == COMM_OK, "a register of a taken name");
+  check(comm_answer(&handle, &reply, &sent) == COMM_OK && reply == COMM_REPLY_REPLACED && sent == 2, "replaced");
+  check_reply_part(COMM_PART_CONTENT, "[\"m\",\"k\"]", 9, "the ids that were closed");
+  check_part(0, COMM_PART_TYPE, "comm_close", 10, "a close goes out");
+  check_part(0, COMM_PART_CONTENT, "{\"comm_id\":\"m\",\"data\":{}}", 25, "of the comm that was opened first");
+  check_part(1, COMM_PART_CONTENT, "{\"comm_id\":\"k\",\"data\":{}}", 25, "and of the other");
+  check(plainly("comm_open", "{\"comm_id\":\"m\",\"target_name\":\"mine\"}") == COMM_OK && reply == COMM_REPLY_OPENED, "a comm of the new target");
 }
 
 static void refusals(void) {
@@ -170,7 +200,9 @@ int main(void) {
   frames_there_and_back();
   for_the_kernel();
   a_widget();
+  a_widget_that_echoes();
   lists_and_ends();
+  a_replacement();
   refusals();
   check(comm_end(&handle) == COMM_OK && comm_end(&other) == COMM_OK, "the end");
   nothing_there("after the end");

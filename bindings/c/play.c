@@ -56,7 +56,7 @@ int main(int count, char **words) {
   out = malloc(room);
   if (!text || !out) return 1;
   comm_handle handle = {0};
-  if (comm_open(&handle, 2, 2, 2, 0, 4096) != COMM_OK) return 2;
+  if (comm_open(&handle, 2, 2, 2, 2, 0, 4096) != COMM_OK) return 2;
   int status = play(&handle, text, length);
   comm_end(&handle);
   free(out);

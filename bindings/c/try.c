@@ -44,19 +44,20 @@ static void closed_handles(const char *when) {
 }
 
 static void opening(void) {
-  check(comm_open(&handle, 1, 1, 1, 1, 0) == COMM_BAD_LIMIT, "no comm");
-  check(comm_open(&handle, 1, 1, 1, 1, 4097) == COMM_BAD_LIMIT, "too many comms");
-  check(comm_open(&handle, 0, 4294967295u, 1, 1, 2) == COMM_OK, "open");
-  check(comm_open(&handle, 1, 1, 1, 1, 2) == COMM_BUSY, "open again");
+  check(comm_open(&handle, 1, 1, 1, 1, 1, 0) == COMM_BAD_LIMIT, "no comm");
+  check(comm_open(&handle, 1, 1, 1, 1, 1, 4097) == COMM_BAD_LIMIT, "too many comms");
+  check(comm_open(&handle, 0, 4294967295u, 1, 0, 1, 2) == COMM_OK, "open");
+  check(comm_open(&handle, 1, 1, 1, 1, 1, 2) == COMM_BUSY, "open again");
 }
 
 static void registering(void) {
-  check(named(4, "x") == COMM_BAD_KIND, "a kind that isn't");
+  check(named(5, "x") == COMM_BAD_KIND, "a kind that isn't");
   check(named(COMM_ECHO, "x") == COMM_NO_STOCK, "no echo in stock");
+  check(named(COMM_WIDGET_ECHO, "x") == COMM_NO_STOCK, "no widgets that echo in stock");
   check(named(COMM_PLAIN, "\xff") == COMM_BAD_NAME, "a name that isn't UTF-8");
-  check(named(COMM_PLAIN, "mine") == COMM_OK && said("reply 1 registered\n"), "a plain target");
+  check(named(COMM_COUNTER, "mine") == COMM_OK && said("reply 1 registered\n"), "a counter");
+  check(named(COMM_PLAIN, "mine") == COMM_OK && said("reply 2 replaced []\n"), "a plain target in its place");
   check(named(COMM_PLAIN, "other") == COMM_NO_STOCK && size == 0, "no second plain target");
-  check(named(COMM_COUNTER, "mine") == COMM_OK && said("reply 2 name_taken\n"), "a taken name");
   check(named(COMM_WIDGET, "jupyter.widget") == COMM_OK && said("reply 3 registered\n"), "widgets");
   check_line("{\"call\":\"register\",\"kind\":\"widget\",\"name\":\"w\"}", "bad 4 no_stock\n");
 }

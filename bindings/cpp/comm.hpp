@@ -1,6 +1,6 @@
 // The proved comm manager in C++17: one header over bindings/c/comm.h, to be copied beside it.
 //
-//     comm::manager manager({.widget = 1, .plain = 1});   // C++20; in C++17 comm::stock{0, 0, 1, 1}
+//     comm::manager manager({.widget = 1, .plain = 1});   // C++20; in C++17 comm::stock{0, 0, 1, 0, 1}
 //     manager.register_target(comm::kind::widget, "jupyter.widget");
 //     comm::outcome came = manager.message(header, metadata, content, frames);
 //     for (const comm::sent &sent : came.sent) ..
@@ -23,7 +23,7 @@
 
 namespace comm {
 
-enum class kind : std::uint32_t { echo = COMM_ECHO, counter = COMM_COUNTER, widget = COMM_WIDGET, plain = COMM_PLAIN };
+enum class kind : std::uint32_t { echo = COMM_ECHO, counter = COMM_COUNTER, widget = COMM_WIDGET, plain = COMM_PLAIN, widget_echo = COMM_WIDGET_ECHO };
 
 /// What a call answers. After any but ok and too_short the manager is as it was before the call.
 enum class status : std::uint32_t {
@@ -48,7 +48,6 @@ enum class reply : std::uint32_t {
   bad = COMM_REPLY_BAD,
   read = COMM_REPLY_READ,
   registered = COMM_REPLY_REGISTERED,
-  name_taken = COMM_REPLY_NAME_TAKEN,
   opened = COMM_REPLY_OPENED,
   id_in_use = COMM_REPLY_ID_IN_USE,
   refused = COMM_REPLY_REFUSED,
@@ -60,7 +59,8 @@ enum class reply : std::uint32_t {
   unregistered = COMM_REPLY_UNREGISTERED,
   no_target = COMM_REPLY_NO_TARGET,
   launched = COMM_REPLY_LAUNCHED,
-  not_widget = COMM_REPLY_NOT_WIDGET
+  not_widget = COMM_REPLY_NOT_WIDGET,
+  replaced = COMM_REPLY_REPLACED
 };
 
 inline const char *name_of(status found) noexcept {
@@ -171,6 +171,7 @@ struct stock {
   std::uint32_t echo = 0;
   std::uint32_t counter = 0;
   std::uint32_t widget = 1;
+  std::uint32_t widget_echo = 0;
   std::uint32_t plain = 0;
   std::size_t comms = 4096;
 };
@@ -179,12 +180,13 @@ struct stock {
 class manager {
 public:
   explicit manager(const stock &has = {}) : handle_(new comm_handle{}), out_(4096) {
-    checked(comm_open(handle_.get(), has.echo, has.counter, has.widget, has.plain, has.comms));
+    checked(comm_open(handle_.get(), has.echo, has.counter, has.widget, has.widget_echo, has.plain, has.comms));
   }
   manager(manager &&) noexcept = default;
   manager &operator=(manager &&) noexcept = default;
 
-  /// Registers a target under a name. Gives "reply <number> registered" or "reply <number> name_taken", with a line feed.
+  /// Registers a target under a name. Gives "reply <number> registered", with a line feed; or "reply <number> replaced [..]" with the ids of the
+  /// comms that were closed, where a target had the name, and a line for the close of each.
   std::string_view register_target(kind kind, std::string_view name) {
     const bytes text(name);
     return told([&](std::size_t &size) {
@@ -225,8 +227,8 @@ public:
     return came(reply, count);
   }
 
-  /// What the last reply carries for the kernel: `custom` its content and frames, `unregistered` the JSON list of the ids that were closed. Others
-  /// carry nothing, and this throws `no_part`.
+  /// What the last reply carries for the kernel: `custom` its content and frames, `unregistered` and `replaced` the JSON list of the ids that were
+  /// closed. Others carry nothing, and this throws `no_part`.
   carried own() {
     const auto part = [&](std::size_t part, std::size_t &size) { return comm_reply_part(handle(), part, out_.data(), out_.size(), &size); };
     return {text_of(part, COMM_PART_CONTENT), frames_of(part)};

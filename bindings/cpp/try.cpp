@@ -38,10 +38,10 @@ static void opening() {
 }
 
 static void registering(comm::manager &manager) {
-  check(manager.register_target(comm::kind::plain, "mine é") == "reply 1 registered\n", "a plain target");
-  check(manager.register_target(comm::kind::widget, "mine é") == "reply 2 name_taken\n", "a taken name");
+  check(manager.register_target(comm::kind::echo, "mine é") == "reply 1 registered\n", "an echo");
+  check(manager.register_target(comm::kind::plain, "mine é") == "reply 2 replaced []\n", "a plain target in its place");
   check(status_of([&] { manager.register_target(comm::kind::plain, "x"); }) == comm::status::no_stock, "no second plain target");
-  check(status_of([&] { manager.register_target(static_cast<comm::kind>(4), "x"); }) == comm::status::bad_kind, "a kind that isn't");
+  check(status_of([&] { manager.register_target(static_cast<comm::kind>(5), "x"); }) == comm::status::bad_kind, "a kind that isn't");
   check(status_of([&] { manager.register_target(comm::kind::widget, "\xff"); }) == comm::status::bad_name, "a name that isn't UTF-8");
   check(manager.register_target(comm::kind::widget, {}) == "reply 3 registered\n", "an empty name");
 }
@@ -59,6 +59,22 @@ static void frames(comm::manager &manager) {
   const std::vector<comm::frame> wanted{{1, 2}, {}, comm::frame(6000, 'p'), {255, 255, 255, 255}};
   check(own.content == R"({"x":1})" && own.frames == wanted, "what the kernel gets");
   check(status_of([&] { manager.message("{", "{}", "{}"); }) == comm::status::not_json, "no JSON");
+}
+
+static void echoes() {
+  comm::manager manager(comm::stock{0, 0, 0, 1, 0});
+  check(manager.register_target(comm::kind::widget_echo, "w") == "reply 1 registered\n", "widgets that echo");
+  check(status_of([&] { manager.register_target(comm::kind::widget, "x"); }) == comm::status::no_stock, "no others");
+  const comm::outcome opened = manager.message(R"({"msg_type":"comm_open"})", R"({"version":"2.1.0"})", R"({"comm_id":"a","target_name":"w","data":{"state":{"v":1}}})");
+  check(opened.reply == comm::reply::opened && opened.sent.empty(), "an open isn't echoed");
+  const std::array<std::uint8_t, 2> two{1, 2};
+  const comm::outcome told = manager.message(R"({"msg_type":"comm_msg"})", "{}", R"({"comm_id":"a","data":{"method":"update","state":{"v":2},"buffer_paths":[["b"]]}})", {two, {}});
+  check(told.reply == comm::reply::delivered && told.sent.size() == 1, "an update is echoed");
+  if (told.sent.size() == 1) {
+    const std::vector<comm::frame> wanted{{1, 2}};
+    check(told.sent[0].content == R"({"comm_id":"a","data":{"buffer_paths":[["b"]],"method":"echo_update","state":{"v":2}}})", "with what it brought");
+    check(told.sent[0].frames == wanted, "and its buffer");
+  }
 }
 
 static void answers(comm::manager &manager) {
@@ -97,7 +113,8 @@ static void moves(comm::manager manager) {
 
 int main() {
   opening();
-  comm::manager manager(comm::stock{0, 0, 1, 1});
+  echoes();
+  comm::manager manager(comm::stock{1, 0, 1, 0, 1});
   registering(manager);
   frames(manager);
   answers(manager);

@@ -42,12 +42,14 @@ class Status(enum.IntEnum):
 
 
 class Kind(enum.IntEnum):
-    """The kinds of targets. PLAIN takes every open and message, and hands a message to the kernel in its reply."""
+    """The kinds of targets. PLAIN takes every open and message, and hands a message to the kernel in its reply; WIDGET_ECHO repeats
+    to the frontends what a frontend's update of a widget brought."""
 
     ECHO = 0
     COUNTER = 1
     WIDGET = 2
     PLAIN = 3
+    WIDGET_ECHO = 4
 
 
 class Reply(enum.IntEnum):
@@ -57,7 +59,6 @@ class Reply(enum.IntEnum):
     BAD = 1
     READ = 2
     REGISTERED = 3
-    NAME_TAKEN = 4
     OPENED = 5
     ID_IN_USE = 6
     REFUSED = 7
@@ -70,6 +71,7 @@ class Reply(enum.IntEnum):
     NO_TARGET = 14
     LAUNCHED = 15
     NOT_WIDGET = 16
+    REPLACED = 17
 
 
 class Sent(NamedTuple):
@@ -125,7 +127,7 @@ def load(path: str | pathlib.Path | None = None) -> ctypes.CDLL:
     handle, size = ctypes.POINTER(_Handle), ctypes.POINTER(ctypes.c_size_t)
     number, length, text = ctypes.c_uint32, ctypes.c_size_t, ctypes.c_char_p
     answer = [text, length, size]
-    lib.comm_open.argtypes = [handle, number, number, number, number, length]
+    lib.comm_open.argtypes = [handle, *[number] * 5, length]
     lib.comm_register.argtypes = [handle, number, text, length, *answer]
     lib.comm_line.argtypes = [handle, text, length, *answer]
     lib.comm_text.argtypes = [handle, *answer]
@@ -158,19 +160,22 @@ class Manager:
         echo: int = 0,
         counter: int = 0,
         widget: int = 1,
+        widget_echo: int = 0,
         plain: int = 0,
         comms: int = 4096,
         library: ctypes.CDLL | None = None,
     ) -> None:
-        if min(echo, counter, widget, plain, comms) < 0 or max(echo, counter, widget, plain) >= 2**32:
+        counts = (echo, counter, widget, widget_echo, plain)
+        if min(*counts, comms) < 0 or max(counts) >= 2**32:
             raise ValueError("a count of targets is a whole number of 32 bits, and the limit of comms isn't below 0")
         self._handle, self._size, self._reply = _Handle(), ctypes.c_size_t(), ctypes.c_uint32()
         self._out = ctypes.create_string_buffer(4096)
         self._lib = library or load()
-        _checked(self._lib.comm_open(self._handle, echo, counter, widget, plain, comms))
+        _checked(self._lib.comm_open(self._handle, *counts, comms))
 
     def register(self, kind: Kind, name: str) -> bytes:
-        """Registers a target under a name. Gives b'reply <number> registered' or b'reply <number> name_taken', with a line feed."""
+        """Registers a target under a name. Gives b'reply <number> registered', with a line feed; or b'reply <number> replaced [..]' with the ids of the
+        comms that were closed, where a target had the name, and a line for the close of each."""
         text = name.encode()
         return self._answer(self._lib.comm_register(self._handle, kind, text, len(text), self._out, len(self._out), self._size))
 
@@ -196,7 +201,7 @@ class Manager:
         return self._own_part(_Part.CONTENT), self._frames(self._own_part)
 
     def closed(self) -> bytes:
-        """The JSON list of the ids of the comms that the last line closed, where its reply is UNREGISTERED."""
+        """The JSON list of the ids of the comms that the last line or register closed, where its reply is UNREGISTERED or REPLACED."""
         return self._own_part(_Part.CONTENT)
 
     def text(self) -> bytes:

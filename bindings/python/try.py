@@ -59,7 +59,7 @@ OPEN, MSG, CLOSE = (b'{"msg_type":"comm_%s"}' % word for word in (b"open", b"msg
 
 
 def parts(library) -> None:
-    manager = Manager(echo=1, plain=1, library=library)
+    manager = Manager(echo=2, widget=1, plain=1, library=library)
     manager.register(Kind.ECHO, "e")
     manager.register(Kind.PLAIN, "p")
     for comm_id in (b"e", b"p"):
@@ -73,11 +73,29 @@ def parts(library) -> None:
     check("for the kernel", custom == Answer(Reply.CUSTOM, []) and manager.custom() == (b'{"x":[1]}', frames))
     check("no JSON", status_of(lambda: manager.message(MSG, b"{", b"{}")) == Status.NOT_JSON)
     check("no such client", manager.message(MSG, b"{}", b'{"comm_id":"e"}', client=4).reply == Reply.BAD and b" bad_client\n" in manager.text())
+    close = Sent("comm_close", "e", b'{"comm_id":"e","data":{}}', b"{}", [])
+    manager.register(Kind.WIDGET, "e")
+    check("a register's answer by parts", manager.answer() == Answer(Reply.REPLACED, [close]) and manager.closed() == b'["e"]')
+    manager.register(Kind.ECHO, "e")
+    manager.message(OPEN, b"{}", b'{"comm_id":"e","target_name":"e"}')
     manager.line(b'{"call":"unregister","name":"e"}')
-    ended = Answer(Reply.UNREGISTERED, [Sent("comm_close", "e", b'{"comm_id":"e","data":{}}', b"{}", [])])
-    check("a line's answer by parts", manager.answer() == ended and manager.closed() == b'["e"]')
+    check("a line's answer by parts", manager.answer() == Answer(Reply.UNREGISTERED, [close]) and manager.closed() == b'["e"]')
     check("no part", status_of(Manager(library=library).closed) == Status.NO_PART)
     check("closed by parts", manager.message(CLOSE, b"{}", b'{"comm_id":"p"}') == Answer(Reply.CLOSED, []))
+
+
+def echoes(library) -> None:
+    manager = Manager(widget=0, widget_echo=1, library=library)
+    check("widgets that echo", manager.register(Kind.WIDGET_ECHO, "w") == b"reply 1 registered\n")
+    check("no others", status_of(lambda: manager.register(Kind.WIDGET, "x")) == Status.NO_STOCK)
+    opened = manager.message(OPEN, b'{"version":"2.1.0"}', b'{"comm_id":"a","target_name":"w","data":{"state":{"v":1}}}')
+    check("an open isn't echoed", opened == Answer(Reply.OPENED, []))
+    update = b'{"comm_id":"a","data":{"method":"update","state":{"v":2},"buffer_paths":[["b"]]}}'
+    echo = b'{"comm_id":"a","data":{"buffer_paths":[["b"]],"method":"echo_update","state":{"v":2}}}'
+    echoed = manager.message(MSG, b"{}", update, [b"\x01\x02"], client=1)
+    check("an update is echoed", echoed == Answer(Reply.DELIVERED, [Sent("comm_msg", "a", echo, b"{}", [b"\x01\x02"])]))
+    manager.line(b'{"call":"push","id":"a","state":{"v":3}}')
+    check("a push isn't", [b'"method":"update"' in it.content for it in manager.answer().sent] == [True])
 
 
 def threads(library) -> None:
@@ -96,6 +114,7 @@ def main(path: str) -> int:
     opening(library)
     plain(library)
     parts(library)
+    echoes(library)
     threads(library)
     print(f"{passed} passed, {failed} failed")
     return failed != 0

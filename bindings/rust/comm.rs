@@ -24,7 +24,7 @@ mod ffi {
     }
 
     unsafe extern "C" {
-        pub fn comm_open(handle: *mut Handle, echo: u32, counter: u32, widget: u32, plain: u32, comms: usize) -> u32;
+        pub fn comm_open(handle: *mut Handle, echo: u32, counter: u32, widget: u32, widget_echo: u32, plain: u32, comms: usize) -> u32;
         pub fn comm_register(handle: *mut Handle, kind: u32, name: *const u8, name_size: usize, out: *mut u8, out_size: usize, size: *mut usize) -> u32;
         pub fn comm_line(handle: *mut Handle, line: *const u8, line_size: usize, out: *mut u8, out_size: usize, size: *mut usize) -> u32;
         pub fn comm_message(
@@ -119,6 +119,8 @@ pub enum Kind {
     Counter = 1,
     Widget = 2,
     Plain = 3,
+    /// Repeats to the frontends what a frontend's update brought.
+    WidgetEcho = 4,
 }
 
 /// What a call came to. At `Bad`, `Refused` and `Fault` `Manager::text` has the reason.
@@ -128,7 +130,6 @@ pub enum Reply {
     Bad,
     Read,
     Registered,
-    NameTaken,
     Opened,
     IdInUse,
     Refused,
@@ -141,6 +142,7 @@ pub enum Reply {
     NoTarget,
     Launched,
     NotWidget,
+    Replaced,
     /// A number that the library shouldn't give.
     Other(u32),
 }
@@ -152,7 +154,6 @@ impl Reply {
             1 => Reply::Bad,
             2 => Reply::Read,
             3 => Reply::Registered,
-            4 => Reply::NameTaken,
             5 => Reply::Opened,
             6 => Reply::IdInUse,
             7 => Reply::Refused,
@@ -165,6 +166,7 @@ impl Reply {
             14 => Reply::NoTarget,
             15 => Reply::Launched,
             16 => Reply::NotWidget,
+            17 => Reply::Replaced,
             other => Reply::Other(other),
         }
     }
@@ -193,13 +195,14 @@ pub struct Stock {
     pub echo: u32,
     pub counter: u32,
     pub widget: u32,
+    pub widget_echo: u32,
     pub plain: u32,
     pub comms: usize,
 }
 
 impl Default for Stock {
     fn default() -> Stock {
-        Stock { echo: 0, counter: 0, widget: 1, plain: 0, comms: 4096 }
+        Stock { echo: 0, counter: 0, widget: 1, widget_echo: 0, plain: 0, comms: 4096 }
     }
 }
 
@@ -220,14 +223,15 @@ impl Manager {
     pub fn open(stock: Stock) -> Result<Manager, Error> {
         let mut handle = Box::new(ffi::Handle { manager: std::ptr::null_mut() });
         // SAFETY: the handle is zeroed, and the library's alone from here on.
-        let status = unsafe { ffi::comm_open(&mut *handle, stock.echo, stock.counter, stock.widget, stock.plain, stock.comms) };
+        let status = unsafe { ffi::comm_open(&mut *handle, stock.echo, stock.counter, stock.widget, stock.widget_echo, stock.plain, stock.comms) };
         match status {
             OK => Ok(Manager { handle, out: vec![0; 4096] }),
             status => Err(Error::numbered(status)),
         }
     }
 
-    /// Registers a target under a name. Gives `reply <number> registered` or `reply <number> name_taken`, with a line feed.
+    /// Registers a target under a name. Gives `reply <number> registered`, with a line feed; or `reply <number> replaced [..]` with the ids of the
+    /// comms that were closed, where a target had the name, and a line for the close of each.
     pub fn register(&mut self, kind: Kind, name: &str) -> Result<&[u8], Error> {
         self.told(|handle, out, size| {
             // SAFETY: the name is readable and the buffer writable for its length, they don't overlap, and none is null, not even where it is empty.
@@ -278,8 +282,8 @@ impl Manager {
         self.came(status, reply, count)
     }
 
-    /// What the last reply carries for the kernel: `Custom` its content, which is JSON, and its frames; `Unregistered` the JSON list of the ids that
-    /// were closed. Any other is `NoPart`.
+    /// What the last reply carries for the kernel: `Custom` its content, which is JSON, and its frames; `Unregistered` and `Replaced` the JSON
+    /// list of the ids that were closed. Any other is `NoPart`.
     pub fn own(&mut self) -> Result<(Vec<u8>, Vec<Vec<u8>>), Error> {
         // SAFETY: the buffer is writable for its length, and not null.
         let mut part = |part, out: &mut [u8], size: &mut usize| unsafe { ffi::comm_reply_part(&mut *self.handle, part, out.as_mut_ptr(), out.len(), size) };

@@ -31,8 +31,9 @@ fn opening(checks: &mut Checks) {
 }
 
 fn registering(checks: &mut Checks, manager: &mut Manager) {
-    checks.check("a plain target", manager.register(Kind::Plain, "mine é") == Ok(b"reply 1 registered\n"));
-    checks.check("a taken name", manager.register(Kind::Widget, "mine é") == Ok(b"reply 2 name_taken\n"));
+    checks.check("an echo", manager.register(Kind::Echo, "mine é") == Ok(b"reply 1 registered\n"));
+    checks.check("a plain target in its place", manager.register(Kind::Plain, "mine é") == Ok(b"reply 2 replaced []\n"));
+    checks.check("what was closed", manager.own() == Ok((b"[]".to_vec(), vec![])));
     checks.check("no second plain target", manager.register(Kind::Plain, "x") == Err(Error::NoStock));
     for kind in [Kind::Echo, Kind::Counter] {
         checks.check("no stock", manager.register(kind, "x") == Err(Error::NoStock));
@@ -87,12 +88,33 @@ fn parts(checks: &mut Checks) -> Result<(), Error> {
     Ok(())
 }
 
+fn echoes(checks: &mut Checks) -> Result<(), Error> {
+    let mut manager = Manager::open(Stock { widget: 0, widget_echo: 1, ..Stock::default() })?;
+    checks.check("widgets that echo", manager.register(Kind::WidgetEcho, "w") == Ok(b"reply 1 registered\n"));
+    checks.check("no others", manager.register(Kind::Widget, "x") == Err(Error::NoStock));
+    let opened = manager.message(0, br#"{"msg_type":"comm_open"}"#, br#"{"version":"2.1.0"}"#, br#"{"comm_id":"a","target_name":"w","data":{"state":{"v":1}}}"#, &[])?;
+    checks.check("an open isn't echoed", opened == Outcome { reply: Reply::Opened, sent: vec![] });
+    let update = br#"{"comm_id":"a","data":{"method":"update","state":{"v":2},"buffer_paths":[["b"]]}}"#;
+    let told = manager.message(1, br#"{"msg_type":"comm_msg"}"#, b"{}", update, &[&[1, 2]])?;
+    let sent = Sent {
+        kind: b"comm_msg".to_vec(),
+        id: b"a".to_vec(),
+        content: br#"{"comm_id":"a","data":{"buffer_paths":[["b"]],"method":"echo_update","state":{"v":2}}}"#.to_vec(),
+        metadata: b"{}".to_vec(),
+        frames: vec![vec![1, 2]],
+    };
+    checks.check("an update is echoed", told == Outcome { reply: Reply::Delivered, sent: vec![sent] });
+    Ok(())
+}
+
 fn main() -> ExitCode {
     let mut checks = Checks::default();
     opening(&mut checks);
     let parted = parts(&mut checks);
     checks.check("each call by parts is made", parted == Ok(()));
-    match Manager::open(Stock { plain: 1, ..Stock::default() }) {
+    let echoed = echoes(&mut checks);
+    checks.check("each call of widgets that echo is made", echoed == Ok(()));
+    match Manager::open(Stock { echo: 1, plain: 1, ..Stock::default() }) {
         Err(error) => checks.check(&format!("an open: {error}"), false),
         Ok(mut manager) => {
             registering(&mut checks, &mut manager);

@@ -33,7 +33,7 @@ def a_slider(front):
     check("layout, style and slider open", kinds(came), ["comm_open"] * 3)
     opened = came[-1]
     check("the last is the slider", (opened.content["comm_id"], opened.content["target_name"]), (slider, "jupyter.widget"))
-    check("its state and version", (opened.content["data"]["state"]["value"], opened.metadata), (3, {"version": "2.0.0"}))
+    check("its state and version", (opened.content["data"]["state"]["value"], opened.metadata), (3, {"version": "2.1.0"}))
     check("its layout is the first", opened.content["data"]["state"]["layout"], "IPY_MODEL_" + came[0].content["comm_id"])
     check("comm_info has all three", front.info(), {got.content["comm_id"]: "jupyter.widget" for got in came})
     front.run("seen = []; s.observe(lambda change: seen.append(change['new']), 'value')")

@@ -1,7 +1,7 @@
 """Buffers and their paths: base64 that is none, every byte, very many buffers, and paths that are long or lead nowhere."""
 import base64
 
-from .script import msg, of_state, update, with_echo, with_widget
+from .script import WIDGETS, msg, of_state, update, with_echo, with_widget
 
 MANY = 10_000
 STEPS = 100_000
@@ -35,32 +35,33 @@ def bases():
     return script.case("base64")
 
 
-def many():
+def many(widgets):
     """So many buffers, each at a path of its own, in a list and in dicts; one too few; and one that doesn't decode, last."""
     given = [encoded(it.to_bytes(3, "big")) for it in range(MANY)]
-    script = with_widget()
+    script = with_widget(kind=widgets)
     in_list = listed(f'["l",{it}]' for it in range(MANY))
     nulls = listed(["null"] * MANY)
-    script.change(update(f'{{"l":{nulls}}}', in_list, listed(given)), "delivered")
+    script.updates(f'{{"l":{nulls}}}', in_list, listed(given))
     script.state(of_state(f'{{"k":1,"l":{nulls}}}', in_list, listed(given)))
     script.change(update(f'{{"l":{nulls}}}', in_list, listed(given[:-1])), f"fault buffer_missing {MANY - 1}")
     script.bad(update(f'{{"l":{nulls}}}', in_list, listed([*given[:-1], '"A"'])), f"bad_buffer {MANY - 1}")
-    script.change(update(f'{{"l":{nulls}}}', in_list[:-1] + ',["l"]]', listed([*given, '""'])), "delivered")
+    script.updates(f'{{"l":{nulls}}}', in_list[:-1] + ',["l"]]', listed([*given, '""']), told=("{}", '[["l"]]', '[""]'))
     script.state(of_state('{"k":1}', '[["l"]]', '[""]'))
-    script.change(update('{"l":[],"k":{}}'), "delivered")
+    script.updates('{"l":[],"k":{}}', told=('{"k":{},"l":[]}', "[]", "[]"))
     keys = sorted((f"{it}" for it in range(MANY)), key=lambda it: it.encode())
     paths = listed(f'["k","{it}"]' for it in reversed(keys))
-    script.change(update('{"k":{}}', paths, listed(given)), "delivered")
-    script.requested('{"k":{},"l":[]}', listed(f'["k","{it}"]' for it in keys), listed(reversed(given)))
-    script.change(update("{}", listed(['["x"]'] * MANY), listed(given)), "delivered")
-    script.change(update('{"k":0}'), "delivered")
+    in_order = listed(f'["k","{it}"]' for it in keys)
+    script.updates('{"k":{}}', paths, listed(given), told=('{"k":{}}', in_order, listed(reversed(given))))
+    script.requested('{"k":{},"l":[]}', in_order, listed(reversed(given)))
+    script.updates("{}", listed(['["x"]'] * MANY), listed(given), told=("{}", '[["x"]]', f"[{given[-1]}]"))
+    script.updates('{"k":0}')
     script.state(of_state('{"k":0,"l":[]}', '[["x"]]', f"[{given[-1]}]"))
     return script.case("many buffers")
 
 
-def paths():
+def paths(widgets):
     """Paths that are very long, very many, or lead nowhere: nothing is placed."""
-    script = with_widget('{"state":{"k":1,"d":{"d":{}},"l":[[]],"t":"x"}}')
+    script = with_widget('{"state":{"k":1,"d":{"d":{}},"l":[[]],"t":"x"}}', kind=widgets)
     one = '["AQI="]'
     for step in ('"d"', "0", '""', "18446744073709551615"):
         script.change(update("{}", f"[[{','.join([step] * STEPS)}]]", one), "fault bad_path 0")
@@ -77,10 +78,10 @@ def paths():
         script.change(update("{}", it, one), "fault bad_path 0")
     script.change(msg('{"method":"update","state":{},"buffer_paths":null}', f',"buffers":{one}'), "delivered")
     script.state(of_state('{"d":{"d":{}},"k":1,"l":[[]],"t":"x"}'))
-    script.change(update("{}", '[["x"],["x"],["y"],["x"]]', '["AQ==","Ag==","Aw==","BA=="]'), "delivered")
+    script.updates("{}", '[["x"],["x"],["y"],["x"]]', '["AQ==","Ag==","Aw==","BA=="]', told=("{}", '[["x"],["y"]]', '["BA==","Aw=="]'))
     script.requested('{"d":{"d":{}},"k":1,"l":[[]],"t":"x"}', '[["x"],["y"]]', '["BA==","Aw=="]')
     return script.case("paths")
 
 
 def cases():
-    return [bases(), many(), paths()]
+    return [bases()] + [make(widgets) for make in (many, paths) for widgets in WIDGETS]

@@ -1,7 +1,7 @@
 """Keys that stand twice at every level, of which the last counts; very long ones, and very many."""
 import random
 
-from .script import Script, close, message, msg, of_state, of_update, update, widget_open, with_echo, with_widget, written
+from .script import WIDGETS, Script, close, message, msg, of_state, of_update, widget_open, with_echo, with_widget, written
 
 MANY = 100_000
 LONG = 1_000_000
@@ -59,10 +59,10 @@ def twice():
     return script.case("keys of a line twice")
 
 
-def at_every_level():
+def at_every_level(widgets):
     """Keys that stand twice at each level of what is echoed and kept."""
-    script = with_echo()
-    script.change('{"call":"register","kind":"widget","name":"jupyter.widget"}', "registered")
+    script = with_echo(widgets)
+    script.registers_widgets()
     for levels in (1, 2, 3, 64, 122, 123):
         given = wanted = "7"
         for level in range(levels):
@@ -86,30 +86,30 @@ def members(keys, value):
     return "{" + ",".join(f'"{it}":{value(it)}' for it in keys) + "}"
 
 
-def many():
+def many(widgets):
     """So many keys, each twice, in an order of no sense: echoed, kept, merged, read and written."""
     keys, order = shuffled(MANY, 1)
     again, _ = shuffled(MANY, 2)
     place = {key: number for number, key in enumerate(order)}
     doubled = members(keys, lambda _: 0)[:-1] + "," + members(again, place.get)[1:]
     wanted = members(order, place.get)
-    script = with_echo()
-    script.change('{"call":"register","kind":"widget","name":"jupyter.widget"}', "registered")
+    script = with_echo(widgets)
+    script.registers_widgets()
     script.echoes(doubled, wanted)
     script.change(widget_open(f'{{"state":{doubled}}}', comm="w"), "opened")
     script.state(of_state(wanted), comm="w")
     half = [it for it in order if place[it] % 2]
-    script.change(update(members(reversed(half), lambda _: '"new"'), comm="w"), "delivered")
+    script.updates(members(reversed(half), lambda _: '"new"'), comm="w", told=(members(half, lambda _: '"new"'), "[]", "[]"))
     script.change(msg('{"method":"request_state"}', comm="w"), "delivered")
     script.sends("comm_msg", "w", of_update(members(order, lambda it: '"new"' if place[it] % 2 else place[it])))
     return script.case("many keys, each twice")
 
 
-def long():
+def long(widgets):
     """A key, an id, a name and a word of a megabyte."""
     key = "k" * LONG
-    script = with_echo()
-    script.change('{"call":"register","kind":"widget","name":"jupyter.widget"}', "registered")
+    script = with_echo(widgets)
+    script.registers_widgets()
     script.echoes(f'{{"{key}b":1,"{key}a":2,"{key}":3}}', f'{{"{key}":3,"{key}a":2,"{key}b":1}}')
     text = "é\n" * (LONG // 4)
     script.echoes(f"{{{written(text)}:{written(text)}}}", f"{{{written(text)}:{written(text)}}}")
@@ -118,7 +118,7 @@ def long():
     script.bad(f'{{"call":"{key}"}}', "unknown_call")
     script.change(close(key), "no_comm")
     script.change(widget_open('{"state":{}}', comm=key), "opened")
-    script.change(update(f'{{"{key}":1}}', f'[["{key}"]]', '["AQI="]', comm=key), "delivered")
+    script.updates(f'{{"{key}":1}}', f'[["{key}"]]', '["AQI="]', comm=key, told=("{}", f'[["{key}"]]', '["AQI="]'))
     script.state(of_state("{}", f'[["{key}"]]', '["AQI="]'), comm=key)
     script.change(msg(f'{{"method":"{key}"}}', comm=key), "fault unknown_method")
     script.add(f'{{"call":"state","id":"{key}k"}}', f"state {script.changes} no_comm")
@@ -128,14 +128,14 @@ def long():
     return script.case("keys of a megabyte")
 
 
-def plain_widget():
+def plain_widget(widgets):
     """What stands in a state is replaced whole, key by key."""
-    script = with_widget('{"state":{"a":{"x":1,"y":2},"a":{"z":3}}}')
+    script = with_widget('{"state":{"a":{"x":1,"y":2},"a":{"z":3}}}', kind=widgets)
     script.state(of_state('{"a":{"z":3}}'))
-    script.change(update('{"a":{"x":1},"a":{"y":2}}'), "delivered")
+    script.updates('{"a":{"x":1},"a":{"y":2}}', told=('{"a":{"y":2}}', "[]", "[]"))
     script.state(of_state('{"a":{"y":2}}'))
     return script.case("keys of a state twice")
 
 
 def cases():
-    return [twice(), at_every_level(), plain_widget(), many(), long()]
+    return [twice()] + [make(widgets) for make in (at_every_level, plain_widget, many, long) for widgets in WIDGETS]

@@ -1,7 +1,7 @@
 """Lines of 64 MB of each kind, a state of a million values, and a million lines."""
 import base64
 
-from .script import Script, close, message, msg, of_state, of_update, update, widget_open, with_echo
+from .script import WIDGETS, Script, close, message, msg, of_state, of_update, widget_open, with_echo
 
 LINE = 64 << 20
 VALUES = 1_000_000
@@ -65,30 +65,31 @@ def refused(size):
     return script.case(f"lines of {size >> 20} MB that are refused or not read")
 
 
-def list_of_values():
-    script = with_echo()
-    script.change('{"call":"register","kind":"widget","name":"jupyter.widget"}', "registered")
+def list_of_values(widgets):
+    script = with_echo(widgets)
+    script.registers_widgets()
     items = ",".join(str(it) for it in range(VALUES))
     script.change(widget_open(f'{{"state":{{"l":[{items}]}}}}', comm="w"), "opened")
-    script.change(update('{"k":1}', '[["b"]]', '["AQI="]', comm="w"), "delivered")
+    script.updates('{"k":1}', '[["b"]]', '["AQI="]', comm="w")
     script.change(msg('{"method":"request_state"}', comm="w"), "delivered")
     script.sends("comm_msg", "w", of_update(f'{{"k":1,"l":[{items}]}}', '[["b"]]'), '["AQI="]')
-    script.change(update(f'{{"l":[{items}]}}', f'[["l",{VALUES - 1}]]', '["AQI="]', comm="w"), "delivered")
-    script.state(of_state(f'{{"k":1,"l":[{items.rpartition(",")[0]},null]}}', f'[["b"],["l",{VALUES - 1}]]', '["AQI=","AQI="]'), comm="w")
+    last, placed = f'["l",{VALUES - 1}]', f'"l":[{items.rpartition(",")[0]},null]'
+    script.updates(f'{{"l":[{items}]}}', f"[{last}]", '["AQI="]', comm="w", told=(f"{{{placed}}}", f"[{last}]", '["AQI="]'))
+    script.state(of_state(f'{{"k":1,{placed}}}', f'[["b"],{last}]', '["AQI=","AQI="]'), comm="w")
     script.change(close("w"), "closed")
     return script.case("a state of a million values in a list")
 
 
-def dict_of_values():
-    script = with_echo()
-    script.change('{"call":"register","kind":"widget","name":"jupyter.widget"}', "registered")
+def dict_of_values(widgets):
+    script = with_echo(widgets)
+    script.registers_widgets()
 
     def state(more=""):
         return "{" + ",".join(f'"k{it:07}":{it}' for it in range(VALUES)) + more + "}"
 
     script.change(widget_open(f'{{"state":{state()}}}', comm="w"), "opened")
     for it in range(100):
-        script.change(update(f'{{"z":{it}}}', comm="w"), "delivered")
+        script.updates(f'{{"z":{it}}}', comm="w")
     script.state(of_state(state(',"z":99')), comm="w")
     script.change('{"call":"push","id":"w","state":{"z":[]}}', "delivered")
     script.sends("comm_msg", "w", of_update('{"z":[]}'))
@@ -114,6 +115,7 @@ def cases():
     """One after the other, since each takes much memory."""
     yield from echoed(LINE)
     yield refused(LINE // 4)
-    yield list_of_values()
-    yield dict_of_values()
+    for widgets in WIDGETS:
+        yield list_of_values(widgets)
+        yield dict_of_values(widgets)
     yield lines()

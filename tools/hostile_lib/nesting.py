@@ -1,5 +1,5 @@
 """Objects and lists inside one another: 126, 127 and 128 deep of each kind and at each place, deeper, and not closed."""
-from .script import close, message, msg, of_state, of_update, update, widget_open, with_echo, with_widget
+from .script import WIDGETS, close, message, msg, of_state, of_update, update, widget_open, with_echo, with_widget
 
 DEEPEST = 127
 KINDS = {"lists": "[", "dicts": "{", "lists in dicts": "{[", "dicts in lists": "[{"}
@@ -59,9 +59,9 @@ def in_messages(kind):
     return script.case(f"{kind} in messages", is_deep=True)
 
 
-def in_widgets(kind):
+def in_widgets(kind, widgets):
     """What a widget keeps, merges, tells apart and writes, with a buffer at the deepest place."""
-    script = with_widget()
+    script = with_widget(kind=widgets)
     for depth in (126, 127, 128):
         inside = depth - 4
         state = f'{{"s":{nested(kind, inside, "null")}}}'
@@ -75,14 +75,14 @@ def in_widgets(kind):
             continue
         script.change(line, "opened")
         script.state(of_state(f'{{"s":{bare}}}', path, '["AQI="]'), comm="d")
-        script.change(update('{"t":1}', comm="d"), "delivered")
+        script.updates('{"t":1}', comm="d")
         script.change(msg('{"method":"request_state"}', comm="d"), "delivered")
         script.sends("comm_msg", "d", of_update(f'{{"s":{bare},"t":1}}', path), '["AQI="]')
-        script.change(update(state, path, '["AQI="]'), "delivered")
-        script.change(update(state), "delivered")
+        script.updates(state, path, '["AQI="]', told=(f'{{"s":{bare}}}', path, '["AQI="]'))
+        script.updates(state)
         script.requested(f'{{"k":1,"s":{nested(kind, inside, "null")}}}')
         script.change(msg(f'{{"method":"custom","content":{nested(kind, depth - 3)}}}'), f'custom {{"buffers":[],"content":{nested(kind, depth - 3)}}}')
-        script.change(update('{"s":[]}', comm="d"), "delivered")
+        script.updates('{"s":[]}', comm="d")
         script.state(of_state('{"s":[],"t":1}'), comm="d")
         script.change(close("d"), "closed")
     return script.case(f"{kind} in widgets", is_deep=True)
@@ -95,9 +95,9 @@ def without(kind, levels):
     return opening(kind, levels)[: -len('"k":')] + closing(kind, levels)
 
 
-def in_commands(kind):
+def in_commands(kind, widgets):
     """A command's state stands higher in its line than a message's, so what goes out nests deeper than what any line has."""
-    script = with_widget()
+    script = with_widget(kind=widgets)
     script.change('{"call":"register","kind":"echo","name":"t"}', "registered")
     script.change(message("comm_open", '"comm_id":"e","target_name":"t"'), "opened")
     uuid = "67e55044-10b1-426f-9247-bb680e5fe0c8"
@@ -113,7 +113,7 @@ def in_commands(kind):
                 script.bad(line, "not_json")
             continue
         script.change(launch, "launched")
-        script.sends("comm_open", uuid, f'{{"buffer_paths":{path},"state":{bare}}}', '["AQI="]', more=',"target_name":"jupyter.widget"', metadata='{"version":"2.0.0"}')
+        script.sends("comm_open", uuid, f'{{"buffer_paths":{path},"state":{bare}}}', '["AQI="]', more=',"target_name":"jupyter.widget"', metadata='{"version":"2.1.0"}')
         script.change(push, "delivered")
         script.sends("comm_msg", "a", of_update(bare, path), '["AQI="]')
         script.change(send, "delivered")
@@ -146,4 +146,5 @@ def unclosed():
 
 
 def cases():
-    return [make(kind) for kind in KINDS for make in (in_messages, in_widgets, in_commands)] + [unclosed()]
+    of_widgets = [make(kind, widgets) for kind in KINDS for make in (in_widgets, in_commands) for widgets in WIDGETS]
+    return [in_messages(kind) for kind in KINDS] + of_widgets + [unclosed()]

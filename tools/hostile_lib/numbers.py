@@ -1,6 +1,6 @@
 """Numbers at every bound: whole ones, others that a float can hold, and what is no number or none that a float can hold. A number that lies
 nearer to the greatest float than to what would come next is held by it: 1.7976931348623158e308, and not 1.7976931348623159e308."""
-from .script import Script, close, message, msg, of_state, update, with_echo, with_widget
+from .script import WIDGETS, Script, close, message, msg, of_state, update, with_echo, with_widget
 
 MOST = 2**64 - 1
 LEAST = -(2**63)
@@ -40,10 +40,10 @@ def in_data():
     return script.case("numbers in data")
 
 
-def in_states():
-    script = with_widget()
+def in_states(widgets):
+    script = with_widget(kind=widgets)
     for it in whole():
-        script.change(update(f'{{"k":{it}}}'), "delivered")
+        script.updates(f'{{"k":{it}}}')
         script.state(of_state(f'{{"k":{it}}}'))
         script.change(f'{{"call":"push","id":"a","state":{{"k":[{it}]}}}}', "delivered")
         script.sends("comm_msg", "a", f'{{"buffer_paths":[],"method":"update","state":{{"k":[{it}]}}}}')
@@ -85,12 +85,16 @@ def of_clients():
     return script.case("numbers of clients")
 
 
-def of_steps():
+def of_steps(widgets):
     """An index of a path: whole numbers from 0 up are steps, and only those below the list's length lead anywhere."""
-    script = with_widget()
+    script = with_widget(kind=widgets)
+    placed = {"0": '{"l":[null,5]}', "1": '{"l":[null,null]}'}
     for it in whole():
-        words = "delivered" if it in ("0", "1") else "fault bad_path 0"
-        script.change(update('{"l":[null,5]}', f'[["l",{it}]]', '["AQI="]'), words)
+        path, buffer = f'[["l",{it}]]', '["AQI="]'
+        if it in placed:
+            script.updates('{"l":[null,5]}', path, buffer, told=(placed[it], path, buffer))
+        else:
+            script.change(update('{"l":[null,5]}', path, buffer), "fault bad_path 0")
     for it in FLOATS:
         script.bad(update('{"l":[null,5]}', f'[["l",{it}]]', '["AQI="]'), "not_whole")
     script.state(of_state('{"k":1,"l":[null,null]}', '[["l",1]]', '["AQI="]'))
@@ -98,4 +102,4 @@ def of_steps():
 
 
 def cases():
-    return [in_data(), in_states(), elsewhere(), of_clients(), of_steps()]
+    return [in_data(), elsewhere(), of_clients()] + [make(widgets) for make in (in_states, of_steps) for widgets in WIDGETS]

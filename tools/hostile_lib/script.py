@@ -5,6 +5,9 @@ ESCAPES = {'"': '\\"', "\\": "\\\\", "\b": "\\b", "\f": "\\f", "\n": "\\n", "\r"
 ESCAPES |= {chr(n): f"\\u{n:04x}" for n in range(0x20) if chr(n) not in ESCAPES}
 TABLE = str.maketrans(ESCAPES)
 
+# The kinds of widgets: of those that echo, each update that brings a key is repeated.
+WIDGETS = ("widget", "widget_echo")
+
 
 @dataclass(frozen=True)
 class Case:
@@ -48,6 +51,11 @@ def of_update(state, paths="[]"):
     return f'{{"buffer_paths":{paths},"method":"update","state":{state}}}'
 
 
+def of_echo(state, paths="[]"):
+    """The data by which a widget that echoes repeats an update."""
+    return f'{{"buffer_paths":{paths},"method":"echo_update","state":{state}}}'
+
+
 def of_state(state, paths="[]", buffers="[]"):
     """The words of a state."""
     return f'{{"buffer_paths":{paths},"buffers":{buffers},"state":{state}}}'
@@ -56,7 +64,8 @@ def of_state(state, paths="[]", buffers="[]"):
 class Script:
     """Lines and their answers, of client 0 where no other is named."""
 
-    def __init__(self):
+    def __init__(self, kind="widget"):
+        self.kind = kind
         self.given = []
         self.wanted = []
         self.changes = 0
@@ -83,6 +92,16 @@ class Script:
     def state(self, words, comm="a"):
         self.add(f'{{"call":"state","id":"{comm}"}}', f"state {self.changes} {words}")
 
+    def registers_widgets(self):
+        self.change(f'{{"call":"register","kind":"{self.kind}","name":"jupyter.widget"}}', "registered")
+
+    def updates(self, state, paths="[]", buffers="[]", comm="a", told=None):
+        """A widget takes an update. `told` is the state that it brings, its paths and buffers as the answers have them, where they aren't as given."""
+        self.change(update(state, paths, buffers, comm), "delivered")
+        plain, places, placed = told or (state, paths, buffers)
+        if self.kind == "widget_echo" and (plain, places) != ("{}", "[]"):
+            self.sends("comm_msg", comm, of_echo(plain, places), placed)
+
     def echoes(self, data, wanted, rest="", buffers="[]"):
         """The comm `a` of an echo gives back the data as the answers have it."""
         self.change(msg(data, rest), "delivered")
@@ -94,20 +113,21 @@ class Script:
         self.sends("comm_msg", "a", of_update(state, paths), buffers)
 
     def case(self, name, is_deep=False, end=b"\n"):
+        name += ", where widgets echo" if self.kind == "widget_echo" else ""
         return Case(name, b"\n".join(self.given) + end, b"".join(it + b"\n" for it in self.wanted), is_deep)
 
 
-def with_echo():
-    """A script that begins with an echo and its comm `a`."""
-    script = Script()
+def with_echo(kind="widget"):
+    """A script that begins with an echo and its comm `a`. Its widgets are of this kind."""
+    script = Script(kind)
     script.change('{"call":"register","kind":"echo","name":"t"}', "registered")
     script.change(message("comm_open", '"comm_id":"a","target_name":"t","data":{}'), "opened")
     return script
 
 
-def with_widget(data='{"state":{"k":1}}', rest=""):
+def with_widget(data='{"state":{"k":1}}', rest="", kind="widget"):
     """A script that begins with the widgets' target and a widget `a`."""
-    script = Script()
-    script.change('{"call":"register","kind":"widget","name":"jupyter.widget"}', "registered")
+    script = Script(kind)
+    script.registers_widgets()
     script.change(widget_open(data, rest), "opened")
     return script

@@ -3,7 +3,7 @@ from copy import deepcopy
 
 from together_lib.answers import written
 from together_lib.edits import answer_of, comm_of, read_at, renumber, see, unmake
-from together_lib.rules import READS, STOCK
+from together_lib.rules import READS
 
 
 def one(chance, among):
@@ -76,9 +76,8 @@ def change_told_unavailable(run, asked, chance):
 
 
 def stock_told_empty(run, asked, chance):
-    """A register whose kind has a target left for it."""
-    kinds = [asked[it.line].registers for it in run.entries if it.words == b"registered"]
-    entry = one(chance, (it for it in run.entries if asked[it.line].registers and kinds.count(asked[it.line].registers) - (it.words == b"registered") < STOCK))
+    """A register, whose target is left then."""
+    entry = one(chance, (it for it in run.entries if asked[it.line].registers))
     if entry is None:
         return False
     unmake(run, entry, "bad", b"no_stock")

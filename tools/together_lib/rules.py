@@ -92,7 +92,7 @@ def room_is_out(asked, run):
 
 def stock_is_out(asked, run):
     """Where no target is left for a line, all of its kind were registered before its client's next change."""
-    taken = [it for it in run.entries if it.words == b"registered"]
+    taken = [it for it in run.entries if asked[it.line].registers is not None]
     for client in {it.client for it in run.answers}:
         next_number = float("inf")
         for it in reversed(run.of_client(client)):

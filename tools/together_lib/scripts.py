@@ -4,9 +4,9 @@ import json
 from fuzz_lib.mutants import random_scripts
 from together_lib.lines import CLIENTS
 
-FIRST = [{"kind": "widget", "name": "jupyter.widget"}, {"kind": "echo", "name": "t"}, {"kind": "counter", "name": "u"}]
+FIRST = ((("widget", "widget_echo"), "jupyter.widget"), (("echo",), "t"), (("counter",), "u"))
 FEW_IDS = ["a", "b", "é"]
-# How many of these lines stay, of those that tools/random_scripts makes. A target that was unregistered doesn't come back.
+# How many of these lines stay, of those that tools/random_scripts makes. A target that was unregistered or replaced doesn't come back.
 KEPT = {"register": 0.3, "unregister": 0.12, "comm_close": 0.5, "hang_up": 0.5}
 
 
@@ -58,7 +58,7 @@ def maker(root):
             """So many lines of each client, in an order of chance. The first ones register targets, whoever comes first."""
             whose = [client for client in range(clients) for _ in range(lines)]
             self.random.shuffle(whose)
-            first = [{"call": "register", **it} for it in FIRST if self.random.random() < 0.9]
+            first = [{"call": "register", "kind": self.random.choice(kinds), "name": name} for kinds, name in FIRST if self.random.random() < 0.9]
             texts = [self.of_client(first.pop(0) if first else self.asked(), client, clients) for client in whose]
             return ("\n".join(texts) + self.random.choice(["", "\n"])).encode("utf-8", "surrogatepass")
 

@@ -64,7 +64,7 @@ widget_field_send = widget_sends
 plain_field_send : IsSend (as_row plain.the_field)
 plain_field_send = plain_sends
 
-stocked_send : IsSend stocked.the_row
+pub stocked_send : IsSend stocked.the_row
 stocked_send = variants_send stocked.enum (search (sendable, crosses, echo_field_send, counter_field_send, widget_field_send, plain_field_send) depth 40)
 
 desk_send : IsSend desk.the_row

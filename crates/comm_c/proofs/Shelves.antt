@@ -5,7 +5,7 @@ use Rattle.comm_targets.specs.declared.kind.Kind.{Kind}
 use Rattle.comm_targets.specs.declared.kind.Kind.TheVariants as kind
 use Rattle.comm_script.specs.Stock.{has_kind, first_of, rest_of}
 use Rattle.comm_script.specs.declared.stock.StockKind.{StockKind}
-use Rattle.comm_script.specs.declared.stock.StockKind.TheVariants.{Echo, Counter, Widget}
+use Rattle.comm_script.specs.declared.stock.StockKind.TheVariants.{Echo, Counter, Widget, WidgetEcho}
 use Rattle.comm_c.specs.Left.{kind_of, left_of, without_one}
 use Rattle.comm_c.specs.Since.{fresh, stock_of}
 use Rattle.comm_c.specs.declared.left.Left.{Left}
@@ -31,15 +31,23 @@ kind_is : (w : StockKind) (k : Kind) → has_kind w k ≡ true → k ≡ kind_of
 kind_is Echo kind.Echo h = refl
 kind_is Echo kind.Counter h = cc
 kind_is Echo kind.Widget h = cc
+kind_is Echo kind.WidgetEcho h = cc
 kind_is Echo kind.Free h = cc
 kind_is Counter kind.Echo h = cc
 kind_is Counter kind.Counter h = refl
 kind_is Counter kind.Widget h = cc
+kind_is Counter kind.WidgetEcho h = cc
 kind_is Counter kind.Free h = cc
 kind_is Widget kind.Echo h = cc
 kind_is Widget kind.Counter h = cc
 kind_is Widget kind.Widget h = refl
+kind_is Widget kind.WidgetEcho h = cc
 kind_is Widget kind.Free h = cc
+kind_is WidgetEcho kind.Echo h = cc
+kind_is WidgetEcho kind.Counter h = cc
+kind_is WidgetEcho kind.Widget h = cc
+kind_is WidgetEcho kind.WidgetEcho h = refl
+kind_is WidgetEcho kind.Free h = cc
 
 -- ---- the first of a kind
 
@@ -89,18 +97,25 @@ fresh_append : (rs ts : List Registered) → AreFresh rs → AreFresh ts → Are
 fresh_append [] ts new more = more
 fresh_append (r ∷ rs) ts new more = (new.0, fresh_append rs ts new.1 more)
 
--- ---- one is taken, and may come back
+-- ---- one is taken
 
 fewer : (v w : StockKind) (l : Left) → left_of (kind_of v) (without_one (kind_of w) l) ≡ left_of (kind_of v) l - one_if (has_kind v (kind_of w))
 fewer Echo Echo l = refl
 fewer Echo Counter l = omega arith
 fewer Echo Widget l = omega arith
+fewer Echo WidgetEcho l = omega arith
 fewer Counter Echo l = omega arith
 fewer Counter Counter l = refl
 fewer Counter Widget l = omega arith
+fewer Counter WidgetEcho l = omega arith
 fewer Widget Echo l = omega arith
 fewer Widget Counter l = omega arith
 fewer Widget Widget l = refl
+fewer Widget WidgetEcho l = omega arith
+fewer WidgetEcho Echo l = omega arith
+fewer WidgetEcho Counter l = omega arith
+fewer WidgetEcho Widget l = omega arith
+fewer WidgetEcho WidgetEcho l = refl
 
 pub taken : (w : StockKind) (l : Left) (rs : List Registered) → 0 < left_of (kind_of w) l → HasLeft l rs → HasLeft (without_one (kind_of w) l) (rest_of w rs)
 taken w l rs some has = record {
@@ -111,17 +126,6 @@ taken w l rs some has = record {
       let h : count v rs ≡ left_of (kind_of v) l = has.counts v in
       let f : left_of (kind_of v) (without_one (kind_of w) l) ≡ left_of (kind_of v) l - one_if (has_kind v (kind_of w)) = fewer v w l in
       omega (arith, c, h, f);
-}
-
-pub restored : (w : StockKind) (l : Left) (rs : List Registered) → 0 < left_of (kind_of w) l → HasLeft l rs → HasLeft l (rest_of w rs ++ fresh (kind_of w) ∷ [])
-restored w l rs some has = record {
-  fresh = fresh_append (rest_of w rs) (fresh (kind_of w) ∷ []) (fresh_rest w rs has.fresh) (refl, tt);
-  counts = λ v.
-      let there : 0 < count w rs = subst (λ (n : ℕ). 0 < n) (sym (has.counts w)) some in
-      let c : count v rs ≡ one_if (has_kind v (kind_of w)) + count v (rest_of w rs) = count_rest v w rs there in
-      let h : count v rs ≡ left_of (kind_of v) l = has.counts v in
-      let a : count v (rest_of w rs ++ fresh (kind_of w) ∷ []) ≡ count v (rest_of w rs) + (one_if (has_kind v (kind_of w)) + 0) = count_append v (rest_of w rs) (fresh (kind_of w) ∷ []) in
-      omega (arith, c, h, a);
 }
 
 -- ---- the stock that a manager is opened with
@@ -137,13 +141,20 @@ fresh_copies w (suc n) = (refl, fresh_copies w n)
 pub full : (l : Left) → HasLeft l (stock_of l)
 full l = record {
   fresh = fresh_append (replicate l.echo (fresh kind.Echo)) _ (fresh_copies Echo l.echo)
-      (fresh_append (replicate l.counter (fresh kind.Counter)) (replicate l.widget (fresh kind.Widget)) (fresh_copies Counter l.counter) (fresh_copies Widget l.widget));
+      (fresh_append (replicate l.counter (fresh kind.Counter)) _ (fresh_copies Counter l.counter)
+      (fresh_append (replicate l.widget (fresh kind.Widget)) (replicate l.widget_echo (fresh kind.WidgetEcho)) (fresh_copies Widget l.widget) (fresh_copies WidgetEcho l.widget_echo)));
   counts = λ v.
-      let es = replicate l.echo (fresh kind.Echo) in let cs = replicate l.counter (fresh kind.Counter) in let ws = replicate l.widget (fresh kind.Widget) in
-      count_append v es (cs ++ ws) ∙ ap (λ n. count v es + n) (count_append v cs ws) ∙ parts v;
+      let es = replicate l.echo (fresh kind.Echo) in
+      let cs = replicate l.counter (fresh kind.Counter) in
+      let ws = replicate l.widget (fresh kind.Widget) in
+      let rs = replicate l.widget_echo (fresh kind.WidgetEcho) in
+      count_append v es (cs ++ (ws ++ rs)) ∙ ap (λ n. count v es + n) (count_append v cs (ws ++ rs) ∙ ap (λ n. count v cs + n) (count_append v ws rs)) ∙ parts v;
 }
   where
-    parts : (v : StockKind) → count v (replicate l.echo (fresh kind.Echo)) + (count v (replicate l.counter (fresh kind.Counter)) + count v (replicate l.widget (fresh kind.Widget))) ≡ left_of (kind_of v) l
-    parts Echo = omega (arith, count_copies Echo Echo l.echo, count_copies Echo Counter l.counter, count_copies Echo Widget l.widget)
-    parts Counter = omega (arith, count_copies Counter Echo l.echo, count_copies Counter Counter l.counter, count_copies Counter Widget l.widget)
-    parts Widget = omega (arith, count_copies Widget Echo l.echo, count_copies Widget Counter l.counter, count_copies Widget Widget l.widget)
+    parts : (v : StockKind)
+        → count v (replicate l.echo (fresh kind.Echo)) + (count v (replicate l.counter (fresh kind.Counter)) + (count v (replicate l.widget (fresh kind.Widget)) + count v (replicate l.widget_echo (fresh kind.WidgetEcho))))
+        ≡ left_of (kind_of v) l
+    parts Echo = omega (arith, count_copies Echo Echo l.echo, count_copies Echo Counter l.counter, count_copies Echo Widget l.widget, count_copies Echo WidgetEcho l.widget_echo)
+    parts Counter = omega (arith, count_copies Counter Echo l.echo, count_copies Counter Counter l.counter, count_copies Counter Widget l.widget, count_copies Counter WidgetEcho l.widget_echo)
+    parts Widget = omega (arith, count_copies Widget Echo l.echo, count_copies Widget Counter l.counter, count_copies Widget Widget l.widget, count_copies Widget WidgetEcho l.widget_echo)
+    parts WidgetEcho = omega (arith, count_copies WidgetEcho Echo l.echo, count_copies WidgetEcho Counter l.counter, count_copies WidgetEcho Widget l.widget, count_copies WidgetEcho WidgetEcho l.widget_echo)

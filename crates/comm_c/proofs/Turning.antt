@@ -6,8 +6,6 @@ use Rattle.comm_messages.specs.declared.outgoing.Outgoing.TheVariants as out
 use Rattle.comm_messages.specs.declared.outgoing.Parent.TheVariants as parent
 use Rattle.comm_core.specs.declared.call.Call.{Call}
 use Rattle.comm_core.specs.declared.call.Call.TheVariants.{Register, Open, Msg, Close, Unregister, Launch, Push, Send, HangUp}
-use Rattle.comm_core.specs.declared.reply.Reply.{Reply}
-use Rattle.comm_core.specs.declared.reply.Reply.TheVariants as reply
 use Rattle.comm_core.specs.Exact.{exact_outcome, is_exact, is_free, registers_free}
 use Rattle.comm_core.specs.History.{mine, next_of, replay}
 use Rattle.comm_core.specs.Machine.{Machine, Registered, Name}
@@ -19,7 +17,7 @@ use Rattle.comm_core.specs.declared.entry.Entry.TheVariants.{Change}
 use Rattle.comm_script.specs.Command.{asked}
 use Rattle.comm_script.specs.Line.{Reading}
 use Rattle.comm_script.specs.Lines.{lines_of, is_blank}
-use Rattle.comm_script.specs.Played.{Standing, Turn, says, called, changed, restocked, registered, obeyed, answered, turn, played_from, played}
+use Rattle.comm_script.specs.Played.{Standing, Turn, says, called, changed, registered, obeyed, answered, turn, played_from, played}
 use Rattle.comm_script.specs.Stock.{first_of, rest_of}
 use Rattle.comm_script.specs.Words.{reply_line, out_line, out_lines, state_line}
 use Rattle.comm_script.specs.declared.asked.Asked.{Asked}
@@ -29,12 +27,12 @@ use Rattle.comm_script.specs.declared.stock.StockKind.TheVariants as stock_kind
 use Rattle.comm_c.specs.Desk.{Changes, fresh_desk}
 use Rattle.comm_c.specs.Kept.{Kept, limits_of, opened}
 use Rattle.comm_c.specs.Left.{kind_of, left_of, left_after}
-use Rattle.comm_c.specs.Since.{Played, Runs, lines_in, said_in, fresh, stock_of}
+use Rattle.comm_c.specs.Since.{Played, Runs, lines_in, said_in, stock_of}
 use Rattle.comm_c.specs.Turns.{Says, RegistersFrom, Obeys, Answers, TurnsIf, Turns}
 use Rattle.comm_c.specs.declared.desk.Desk.{Desk}
 use Rattle.comm_c.specs.declared.left.Left.{Left}
 use Rattle.comm_c.proofs.Counting.{Grows, own_made, other_made, zeros}
-use Rattle.comm_c.proofs.Shelves.{HasLeft, none_first, some_first, taken, restored, full}
+use Rattle.comm_c.proofs.Shelves.{HasLeft, none_first, some_first, taken, full}
 
 -- it stands so
 pub record StandsAt (comms : ℕ) (now : Standing) (d : Desk) : Type 0 where
@@ -69,16 +67,16 @@ handless_free (Push id state) h = refl
 handless_free (Send id body) h = refl
 handless_free (HangUp id) h = refl
 
-handless_left : (c : Call) (r : Reply) (l : Left) → HandsNothingIn c → left_after c r l ≡ l
-handless_left (Register name kind notes) r l h = absurd h
-handless_left (Open id target version body) r l h = refl
-handless_left (Msg id body) r l h = refl
-handless_left (Close id) r l h = refl
-handless_left (Unregister name) r l h = refl
-handless_left (Launch uuid target state) r l h = refl
-handless_left (Push id state) r l h = refl
-handless_left (Send id body) r l h = refl
-handless_left (HangUp id) r l h = refl
+handless_left : (c : Call) (l : Left) → HandsNothingIn c → left_after c l ≡ l
+handless_left (Register name kind notes) l h = absurd h
+handless_left (Open id target version body) l h = refl
+handless_left (Msg id body) l h = refl
+handless_left (Close id) l h = refl
+handless_left (Unregister name) l h = refl
+handless_left (Launch uuid target state) l h = refl
+handless_left (Push id state) l h = refl
+handless_left (Send id body) l h = refl
+handless_left (HangUp id) l h = refl
 
 -- ---- a change
 
@@ -96,7 +94,7 @@ exact_step law comms now d client c after said stands ch =
     (subst (λ (l : ℕ). step l (machine d.core) c (exact_outcome l (machine d.core) c) ≡ Some S) stands.limit exact)
 
 grown : NoChoice → KeepsExact → Grows → (comms : ℕ) (now : Standing) (d : Desk) (client : ℕ) (c : Call) (after : Desk) (said : List ℕ) (stock : List Registered) → StandsAt comms now d
-    → registers_free c ≡ false → (ch : Changes d client c after said) → HasLeft (left_after c ch.reply d.left) stock
+    → registers_free c ≡ false → (ch : Changes d client c after said) → HasLeft (left_after c d.left) stock
     → StandsAt comms (record { history = now.history ++ entry comms now client c (record { reply = ch.reply; outgoing = ch.outgoing; next = machine after.core }) ∷ []; stock = stock }) after
 grown law keeps grows comms now d client c after said stock stands kept ch shelf =
     let S : Stepped = record { reply = ch.reply; outgoing = ch.outgoing; next = machine after.core } in
@@ -115,15 +113,15 @@ grown law keeps grows comms now d client c after said stock stands kept ch shelf
       few = ap (λ (m : List ℕ). length m) ch.made ∙ length-set d.made client (get_or d.made client 0 + 1) ∙ stands.few;
     }
 
-change_turn : NoChoice → KeepsExact → Grows → (comms : ℕ) (now : Standing) (d : Desk) (client : ℕ) (c : Call) (after : Desk) (said : List ℕ) (left : Reply → List Registered) → StandsAt comms now d
-    → registers_free c ≡ false → Changes d client c after said → ((r : Reply) → HasLeft (left_after c r d.left) (left r)) → Turned comms (called (limits_of comms) now client c left) after said
+change_turn : NoChoice → KeepsExact → Grows → (comms : ℕ) (now : Standing) (d : Desk) (client : ℕ) (c : Call) (after : Desk) (said : List ℕ) (left : List Registered) → StandsAt comms now d
+    → registers_free c ≡ false → Changes d client c after said → HasLeft (left_after c d.left) left → Turned comms (called (limits_of comms) now client c left) after said
 change_turn law keeps grows comms now d client c after said left stands kept ch shelf =
     let S : Stepped = record { reply = ch.reply; outgoing = ch.outgoing; next = machine after.core } in
     let is : called (limits_of comms) now client c left ≡ changed (limits_of comms) now client c left (Some S) = ap (changed (limits_of comms) now client c left) (exact_step law comms now d client c after said stands ch) in
     let text : said ≡ reply_line (length now.history + 1) S.reply ++ out_lines S.outgoing (parent.Call client (length (mine now.history client) + 1)) =
     ch.said_is ∙ ap (λ (n : ℕ). reply_line (n + 1) S.reply ++ out_lines S.outgoing (parent.Call client (get_or d.made client 0 + 1))) stands.changes
     ∙ ap (λ (n : ℕ). reply_line (length now.history + 1) S.reply ++ out_lines S.outgoing (parent.Call client (n + 1))) (stands.made client ch.below) in
-    subst (λ (t : Turn). Turned comms t after said) (sym is) (text, grown law keeps grows comms now d client c after said (left S.reply) stands kept ch (shelf S.reply))
+    subst (λ (t : Turn). Turned comms t after said) (sym is) (text, grown law keeps grows comms now d client c after said left stands kept ch shelf)
 
 -- ---- what a line asks for
 
@@ -134,22 +132,7 @@ kind_exact : (w : StockKind) → is_free (kind_of w) ≡ false
 kind_exact stock_kind.Echo = refl
 kind_exact stock_kind.Counter = refl
 kind_exact stock_kind.Widget = refl
-
-shelf_after : (w : StockKind) (name : Name) (l : Left) (rs : List Registered) → 0 < left_of (kind_of w) l → HasLeft l rs → (r : Reply)
-    → HasLeft (left_after (Register name (kind_of w) 0) r l) (restocked (fresh (kind_of w)) (rest_of w rs) r)
-shelf_after w name l rs some has reply.Registered = taken w l rs some has
-shelf_after w name l rs some has reply.NameTaken = restored w l rs some has
-shelf_after w name l rs some has reply.Opened = restored w l rs some has
-shelf_after w name l rs some has reply.IdInUse = restored w l rs some has
-shelf_after w name l rs some has (reply.OpenRefused why) = restored w l rs some has
-shelf_after w name l rs some has (reply.Delivered custom) = restored w l rs some has
-shelf_after w name l rs some has (reply.Fault fault) = restored w l rs some has
-shelf_after w name l rs some has reply.NoComm = restored w l rs some has
-shelf_after w name l rs some has reply.Closed = restored w l rs some has
-shelf_after w name l rs some has (reply.Unregistered ids) = restored w l rs some has
-shelf_after w name l rs some has reply.NoTarget = restored w l rs some has
-shelf_after w name l rs some has reply.Launched = restored w l rs some has
-shelf_after w name l rs some has reply.NotWidget = restored w l rs some has
+kind_exact stock_kind.WidgetEcho = refl
 
 register_turn : NoChoice → KeepsExact → Grows → (comms : ℕ) (now : Standing) (d : Desk) (number client : ℕ) (w : StockKind) (name : Name) (after : Desk) (said : List ℕ) → StandsAt comms now d
     → (b : Bool) → (left_of (kind_of w) d.left == 0) ≡ b → RegistersFrom b d number client (kind_of w) name after said → Turned comms (registered (limits_of comms) now number client w name (first_of w now.stock)) after said
@@ -159,12 +142,12 @@ register_turn law keeps grows comms now d number client w name after said stands
 register_turn law keeps grows comms now d number client w name after said stands false is ch =
     let some : 0 < left_of (kind_of w) d.left = elim (eqb_tells (left_of (kind_of w) d.left) 0) [ inl e ↦ cc | inr e ↦ let n = e.1 in omega (arith, n) ] in
     rw (some_first w now.stock stands.shelf.fresh (subst (λ (n : ℕ). 0 < n) (sym (stands.shelf.counts w)) some))
-    (change_turn law keeps grows comms now d client (Register name (kind_of w) 0) after said (restocked (fresh (kind_of w)) (rest_of w now.stock)) stands (kind_exact w) ch (shelf_after w name d.left now.stock some stands.shelf))
+    (change_turn law keeps grows comms now d client (Register name (kind_of w) 0) after said (rest_of w now.stock) stands (kind_exact w) ch (taken w d.left now.stock some stands.shelf))
 
 obey_turn : NoChoice → KeepsExact → Grows → (comms : ℕ) (now : Standing) (d : Desk) (number client : ℕ) (a : Asked) (after : Desk) (said : List ℕ) → StandsAt comms now d
     → Obeys d number client a after said → Turned comms (obeyed (limits_of comms) now number client a) after said
 obey_turn law keeps grows comms now d number client (asks_for.Change c) after said stands o =
-    change_turn law keeps grows comms now d client c after said (λ r. now.stock) stands (handless_free c o.0) o.1 (λ r. subst (λ (l : Left). HasLeft l now.stock) (sym (handless_left c r d.left o.0)) stands.shelf)
+    change_turn law keeps grows comms now d client c after said now.stock stands (handless_free c o.0) o.1 (subst (λ (l : Left). HasLeft l now.stock) (sym (handless_left c d.left o.0)) stands.shelf)
 obey_turn law keeps grows comms now d number client (asks_for.Register kind name) after said stands o =
     register_turn law keeps grows comms now d number client kind name after said stands (left_of (kind_of kind) d.left == 0) refl o
 obey_turn law keeps grows comms now d number client (asks_for.Infos target) after said stands o =

@@ -1,7 +1,7 @@
 -- What a call from C answers: a number with a name. `comm.h` has the same.
 use Rattle.std.specs.Prelude.{ℕ, ◌==◌, Option, Some, None, if◌then◌else◌}
 use Rattle.comm_targets.specs.declared.kind.Kind.{Kind}
-use Rattle.comm_targets.specs.declared.kind.Kind.TheVariants.{Echo, Counter, Widget, Free}
+use Rattle.comm_targets.specs.declared.kind.Kind.TheVariants.{Echo, Counter, Widget, WidgetEcho, Free}
 
 -- all went well
 abbrev pub ok : ℕ
@@ -62,4 +62,5 @@ kind_numbered n =
     else if n == 1 then Some Counter
     else if n == 2 then Some Widget
     else if n == 3 then Some Free
+    else if n == 4 then Some WidgetEcho
     else None

@@ -31,7 +31,7 @@ pub record Changes (before : Desk) (client : ℕ) (call : Call) (after : Desk) (
   pub allowed : Allowed (machine before.core) (asks before.core.limit (machine before.core) call) outcome
   pub step_is : step before.core.limit (machine before.core) call outcome ≡ Some (record { reply = reply; outgoing = outgoing; next = machine after.core })
   pub limit : after.core.limit ≡ before.core.limit
-  pub left : after.left ≡ left_after call reply before.left
+  pub left : after.left ≡ left_after call before.left
   pub changes : after.changes ≡ before.changes + 1
   pub made : after.made ≡ slice_set before.made client (slice_index before.made client + 1)
   pub said_is : said ≡ change_text before client reply outgoing

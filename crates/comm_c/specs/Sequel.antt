@@ -39,7 +39,6 @@ delivered_number (Some custom) = 9
 
 abbrev pub reply_number : Reply → ℕ
 reply_number reply.Registered = 3
-reply_number reply.NameTaken = 4
 reply_number reply.Opened = 5
 reply_number reply.IdInUse = 6
 reply_number (reply.OpenRefused why) = 7
@@ -51,6 +50,7 @@ reply_number (reply.Unregistered ids) = 13
 reply_number reply.NoTarget = 14
 reply_number reply.Launched = 15
 reply_number reply.NotWidget = 16
+reply_number (reply.Replaced ids) = 17
 
 abbrev pub sequel_number : Sequel → ℕ
 sequel_number Nothing = 0
@@ -98,7 +98,7 @@ delivered_part (Some custom) n = custom_part custom n
 
 abbrev pub reply_part : Reply → ℕ → Option (List ℕ)
 reply_part reply.Registered n = None
-reply_part reply.NameTaken n = None
+reply_part (reply.Replaced ids) n = ids_part ids n
 reply_part reply.Opened n = None
 reply_part reply.IdInUse n = None
 reply_part (reply.OpenRefused why) n = None

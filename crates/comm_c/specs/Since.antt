@@ -1,7 +1,7 @@
 -- What a manager was asked by lines and has said since it was opened: a script, and what `played` gives for it.
 use Rattle.std.specs.Prelude.{◌≡◌, ℕ, List, [], ◌∷◌, ◌++◌, map, replicate}
 use Rattle.comm_targets.specs.declared.kind.Kind.{Kind}
-use Rattle.comm_targets.specs.declared.kind.Kind.TheVariants.{Echo, Counter, Widget}
+use Rattle.comm_targets.specs.declared.kind.Kind.TheVariants.{Echo, Counter, Widget, WidgetEcho}
 use Rattle.comm_core.specs.Machine.{Registered}
 use Rattle.comm_script.specs.Lines.{lines_of}
 use Rattle.comm_script.specs.Played.{played}
@@ -31,7 +31,7 @@ fresh kind = record { kind = kind; notes = 0 }
 
 -- what lines can register: a plain target isn't among it
 abbrev pub stock_of : Left → List Registered
-stock_of l = replicate l.echo (fresh Echo) ++ (replicate l.counter (fresh Counter) ++ replicate l.widget (fresh Widget))
+stock_of l = replicate l.echo (fresh Echo) ++ (replicate l.counter (fresh Counter) ++ (replicate l.widget (fresh Widget) ++ replicate l.widget_echo (fresh WidgetEcho)))
 
 -- Lines that were played since the open are a script's, and what was said is what that script gives.
 abbrev pub LinesPlayScripts : Type 0

@@ -55,6 +55,8 @@ pub fn kind_numbered(number: u32) -> Option<Kind>
         Some(Kind::Widget)
     } else if number == 3 {
         Some(Kind::Free)
+    } else if number == 4 {
+        Some(Kind::WidgetEcho)
     } else {
         None
     }

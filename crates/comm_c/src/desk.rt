@@ -8,7 +8,7 @@ ghost use Rattle.comm_core.specs.Ready.{HandsNothingIn, IsReady, machine, undone
 ghost use Rattle.comm_core.specs.Step.{step};
 ghost use Rattle.comm_script.specs.Words.{reply_line, out_lines};
 ghost use Rattle.comm_c.specs.Desk.{Changes, IsWithin, change_text};
-ghost use Rattle.comm_c.specs.Left.{is_registered, left_of};
+ghost use Rattle.comm_c.specs.Left.{left_of};
 ghost use Rattle.comm_c.specs.Sequel.{sequel_text};
 ghost use Rattle.comm_c.specs.Turns.{Registers};
 ghost use Rattle.comm_c.specs.declared.sequel.Sequel.TheVariants as sequel;
@@ -16,7 +16,7 @@ ghost use Rattle.comm_c.specs.declared.sequel.Sequel.TheVariants as sequel;
 use crate::left::Left;
 use crate::sequel::{Made, Sequel};
 use crate::stocked::Stocked;
-use comm_core::{Call, Core, Entry, Finished, Outgoings, Ready, Reply};
+use comm_core::{Call, Core, Entry, Finished, Outgoings, Ready};
 use comm_messages::Parent;
 use comm_script::{append_outs, append_reply};
 use comm_targets::Kind;
@@ -62,12 +62,6 @@ fn append_ready(
     }
 }
 
-fn is_registered(reply: &Reply) -> bool
-    ensures { result ≡ is_registered reply.now }
-{
-    matches!(reply, Reply::Registered)
-}
-
 impl Desk {
     // Says what stands ready and makes it, or takes it back.
     fn conclude(
@@ -103,7 +97,6 @@ impl Desk {
             reply,
             outgoing,
             ended,
-            back: _back,
         } = self.core.finish(ready);
         if let Some(held) = ended {
             held.end();
@@ -166,9 +159,7 @@ impl Desk {
         match self.core.begin_register(name, target) {
             Ok(ready) => {
                 let made = self.conclude(alloc, client, ready, text)?;
-                if is_registered(&made.reply) {
-                    self.left.take(kind);
-                }
+                self.left.take(kind);
                 Ok(Sequel::Change(made))
             }
             Err((_, _target)) => Err(AllocError),

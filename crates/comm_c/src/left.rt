@@ -11,6 +11,7 @@ pub struct Left {
     pub echo: u32,
     pub counter: u32,
     pub widget: u32,
+    pub widget_echo: u32,
     pub plain: u32,
 }
 
@@ -23,6 +24,7 @@ impl Left {
             Kind::Echo => self.echo,
             Kind::Counter => self.counter,
             Kind::Widget => self.widget,
+            Kind::WidgetEcho => self.widget_echo,
             Kind::Free => self.plain,
         }
     }
@@ -36,6 +38,7 @@ impl Left {
             Kind::Echo => self.echo -= 1,
             Kind::Counter => self.counter -= 1,
             Kind::Widget => self.widget -= 1,
+            Kind::WidgetEcho => self.widget_echo -= 1,
             Kind::Free => self.plain -= 1,
         }
     }
@@ -49,5 +52,6 @@ pub fn kind_of(kind: StockKind) -> Kind
         StockKind::Echo => Kind::Echo,
         StockKind::Counter => Kind::Counter,
         StockKind::Widget => Kind::Widget,
+        StockKind::WidgetEcho => Kind::WidgetEcho,
     }
 }

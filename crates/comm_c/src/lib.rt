@@ -46,10 +46,11 @@ pub extern "C" fn comm_open(
     echo: u32,
     counter: u32,
     widget: u32,
+    widget_echo: u32,
     plain: u32,
     comms: usize,
 ) -> u32
-    ensures opened { result ≡ ok → handle.new.value ≡ Some (opened (record { echo = echo; counter = counter; widget = widget; plain = plain }) comms) }
+    ensures opened { result ≡ ok → handle.new.value ≡ Some (opened (record { echo = echo; counter = counter; widget = widget; widget_echo = widget_echo; plain = plain }) comms) }
     ensures same { result ≢ ok → handle.new.value ≡ handle.old.value }
     ensures busy { result ≡ busy ↔ IsSome handle.old.value }
     ensures limit { result ≡ bad_limit → ¬ (AreAllowed (limits_of comms)) }
@@ -65,6 +66,7 @@ pub extern "C" fn comm_open(
                 echo,
                 counter,
                 widget,
+                widget_echo,
                 plain,
             };
             let Ok(manager) = Manager::open(alloc, left, comms) else {

@@ -2,11 +2,11 @@
 ghost use Rattle.std.specs.Prelude.{◌≡◌, IfOk, option_map, slice_get};
 ghost use Rattle.comm_messages.specs.Text.{parts_of};
 ghost use Rattle.comm_c.specs.Piece.{piece_text};
-ghost use Rattle.comm_c.specs.Sequel.{id_in, message_part, part_sent, custom_part, delivered_part, reply_part, part_replied};
+ghost use Rattle.comm_c.specs.Sequel.{id_in, message_part, part_sent, custom_part, delivered_part, ids_part, reply_part, part_replied};
 
 use crate::content::{append_content, append_ids, append_metadata};
 use crate::sequel::Sequel;
-use comm_core::Reply;
+use comm_core::{Ids, Reply};
 use comm_messages::Outgoing;
 use comm_targets::Custom;
 use comm_value::Buffers;
@@ -111,20 +111,25 @@ fn custom_part(alloc: Global, custom: &Custom, part: usize) -> Result<Option<Pie
     }
 }
 
+fn ids_part(alloc: Global, ids: &Ids, part: usize) -> Result<Option<Piece<'_>>, AllocError>
+    ensures { IfOk result (λ p. option_map piece_text p ≡ ids_part ids.now part) }
+{
+    if part == 2 {
+        let mut text = Vec::new(alloc);
+        append_ids(ids.as_slice(), &mut text)?;
+        Ok(Some(Piece::Made(text)))
+    } else {
+        Ok(None)
+    }
+}
+
 fn reply_part(alloc: Global, reply: &Reply, part: usize) -> Result<Option<Piece<'_>>, AllocError>
     ensures { IfOk result (λ p. option_map piece_text p ≡ reply_part reply.now part) }
 {
     match reply {
         Reply::Delivered(Some(custom)) => custom_part(alloc, custom, part),
-        Reply::Unregistered(ids) => {
-            if part == 2 {
-                let mut text = Vec::new(alloc);
-                append_ids(ids.as_slice(), &mut text)?;
-                Ok(Some(Piece::Made(text)))
-            } else {
-                Ok(None)
-            }
-        }
+        Reply::Unregistered(ids) => ids_part(alloc, ids, part),
+        Reply::Replaced(ids) => ids_part(alloc, ids, part),
         _ => Ok(None),
     }
 }

@@ -55,7 +55,6 @@ fn reply_number(reply: &Reply) -> u32
 {
     match reply {
         Reply::Registered => 3,
-        Reply::NameTaken => 4,
         Reply::Opened => 5,
         Reply::IdInUse => 6,
         Reply::OpenRefused(_) => 7,
@@ -67,6 +66,7 @@ fn reply_number(reply: &Reply) -> u32
         Reply::NoTarget => 14,
         Reply::Launched => 15,
         Reply::NotWidget => 16,
+        Reply::Replaced(_) => 17, // 4 said once that a name was taken, and isn't given again
     }
 }
 

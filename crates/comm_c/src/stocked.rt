@@ -26,6 +26,7 @@ impl Stocked {
             Kind::Echo => Stocked::Echo(Echo::new(alloc)),
             Kind::Counter => Stocked::Counter(Counter::new(alloc)),
             Kind::Widget => Stocked::Widget(WidgetTarget::new(alloc)),
+            Kind::WidgetEcho => Stocked::Widget(WidgetTarget::with_echo(alloc)),
             Kind::Free => Stocked::Plain(PlainTarget::new(alloc)),
         }
     }

@@ -181,6 +181,26 @@ agrees-unregistered b c name h =
           ap is_some (at-without-other b name k.target (differs name k.target r.1)) ∙ h.named i k r.0;
     }
 
+pub agrees-replaced : (b : Targets) (c : Opens) (name : List ℕ) (was m : Meaning) → Agrees b c → at b name ≡ Some was → m.ids ≡ [] → Agrees (with_at b name m) (others name c)
+agrees-replaced b c name was m h is empty =
+    record {
+      names = distinct-with_at b name m h.names;
+      distinct = distinct-others name c h.distinct;
+      ids = λ q k at_k.
+          (elim (bytes_eq q name) as (λ z. bytes_eq q name ≡ z → k.ids ≡ ids_of q (others name c)) [
+            | true ↦ λ p.
+                let s : at (with_at b name m) name ≡ Some k = subst (λ z. at (with_at b name m) z ≡ Some k) (same_text q name p) at_k in
+                let r : m ≡ k = (let w = at-with_at name b was m is in cc) in
+                sym (ap (λ (z : Meaning). z.ids) r) ∙ empty ∙ sym (no_ids name (others name c) (distinct-others name c h.distinct) nobody)
+                ∙ ap (λ z. ids_of z (others name c)) (sym (same_text q name p))
+            | false ↦ λ p. h.ids q k (sym (at-with_at-other name b m q p) ∙ at_k) ∙ sym (ids_of-others name q c p)
+          ]) refl;
+      named = λ i k at_k. there-written b name was m k.target is (h.named i k (at-others name c i k h.distinct at_k).0);
+    }
+  where
+    nobody : (q : List ℕ) (x : Comm) → at (others name c) q ≡ Some x → bytes_eq name x.target ≡ false
+    nobody q x there = (at-others name c q x h.distinct there).1
+
 pub agrees-registered : (b : Targets) (c : Opens) (name : List ℕ) (m : Meaning) → Agrees b c → at b name ≡ None → m.ids ≡ [] → Agrees (b ++ (name, m) ∷ []) c
 agrees-registered b c name m h new empty =
     record {

@@ -1,5 +1,5 @@
 -- What may be asked of a target, and what comes of it.
-use Rattle.std.proofs.Common.{◌≡◌, ℕ, true, false, cond, List, [], ◌∷◌, Option, None, Some, is_some, Result, Ok, Err, option_map, filter, refl, ap, sym, ◌∙◌, subst, true≢false, IfOk}
+use Rattle.std.proofs.Common.{◌≡◌, ℕ, Bool, true, false, cond, List, [], ◌∷◌, Option, None, Some, is_some, Result, Ok, Err, option_map, filter, refl, ap, sym, ◌∙◌, subst, true≢false, IfOk}
 use Rattle.std.specs.declared.alloc.AllocError.{AllocError}
 use Rattle.std.specs.Prelude.{unwrap_or}
 use Rattle.std.specs.Str.{bytes_eq}
@@ -11,7 +11,7 @@ use Rattle.comm_targets.specs.Meaning.{Meaning, IsAskable, has_id, is_widget, af
 use Rattle.comm_targets.specs.Answers.{Answers, Refuses}
 use Rattle.comm_targets.specs.Widget as widget
 use Rattle.comm_targets.specs.declared.kind.Kind.{Kind}
-use Rattle.comm_targets.specs.declared.kind.Kind.TheVariants.{Echo, Counter, Widget, Free}
+use Rattle.comm_targets.specs.declared.kind.Kind.TheVariants.{Echo, Counter, Widget, WidgetEcho, Free}
 use Rattle.comm_targets.specs.declared.event.Event.{Event}
 use Rattle.comm_targets.specs.declared.event.Event.TheVariants as event
 use Rattle.comm_targets.specs.declared.answer.Answer.{Answer}
@@ -26,7 +26,7 @@ use Rattle.comm_core.specs.declared.question.Question.{Question}
 use Rattle.comm_core.specs.declared.reply.Reply.{Reply}
 use Rattle.comm_core.specs.declared.plan.Judged.{Judged}
 use Rattle.comm_core.specs.declared.plan.Plan.{Plan}
-use Rattle.comm_core.specs.declared.plan.Plan.TheVariants.{Nothing, Register, Unregister, Close, Commit}
+use Rattle.comm_core.specs.declared.plan.Plan.TheVariants.{Nothing, Register, Replace, Unregister, Close, Commit}
 use Rattle.comm_core.proofs.Keys.{text_itself}
 use Rattle.comm_core.proofs.Names.{target_at, has_target}
 use Rattle.comm_core.proofs.Staging.{none_of, unstaged-at, unstaged-there, unstaged-staged, one-staged}
@@ -71,12 +71,6 @@ module _ (boxes : Targets) (comms : Opens) (agrees : Agrees (unstaged boxes) com
   pub comm_open : (id : Name) (o : Comm) (m : Meaning) → at comms id ≡ Some o → at boxes o.target ≡ Some m → has_id m.ids id ≡ true
   comm_open id o m is there = ap (λ l. has_id l id) (agrees.ids o.target (after_abandon m) (unstaged-at boxes o.target m there)) ∙ open_id id comms o is
 
-  widget_kind : (k : Kind) → is_widget k ≡ true → k ≡ Widget
-  widget_kind Widget h = refl
-  widget_kind Echo h = absurd (true≢false (sym h))
-  widget_kind Counter h = absurd (true≢false (sym h))
-  widget_kind Free h = absurd (true≢false (sym h))
-
   widget_there : (t : Name) (m : Meaning) → at boxes t ≡ Some m → holds_widget (at (targets_of boxes) t) ≡ true → is_widget m.kind ≡ true
   widget_there t m is w = sym (ap holds_widget (target_at boxes t ∙ ap (option_map registered_of) is)) ∙ w
 
@@ -86,15 +80,19 @@ module _ (boxes : Targets) (comms : Opens) (agrees : Agrees (unstaged boxes) com
   askable t (event.Launch id state) s k m is = (new_id t id m is s, widget_there t m is k)
   askable t (event.Push id state) s k m is = (comm_open id s.0 m s.1 (ap (at boxes) s.2 ∙ is), widget_there t m is k)
 
-  never_refused : {P : Type 0} (k : Kind) (n : ℕ) (now : Option Members) (e : Event) (f : TargetFault) → k ≡ Widget → (a : Answer) → widget.answer_of (unwrap_or now no_members) e ≡ Ok a
-      → Refuses k n now e f → P
-  never_refused k n now e f is a ok refuses = let r : Refuses Widget n now e f = subst (λ x. Refuses x n now e f) is refuses in let q : Ok a ≡ Err f = sym ok ∙ r in cc
+  never_refused : {P : Type 0} (k : Kind) (n : ℕ) (now : Option Members) (e : Event) (f : TargetFault) → is_widget k ≡ true
+      → (a : Answer) → ((echoing : Bool) → widget.answer_of echoing (unwrap_or now no_members) e ≡ Ok a) → Refuses k n now e f → P
+  never_refused Widget n now e f is a ok refuses = let q : Ok a ≡ Err f = sym (ok false) ∙ refuses in cc
+  never_refused WidgetEcho n now e f is a ok refuses = let q : Ok a ≡ Err f = sym (ok true) ∙ refuses in cc
+  never_refused Echo n now e f is a ok refuses = absurd (true≢false (sym is))
+  never_refused Counter n now e f is a ok refuses = absurd (true≢false (sym is))
+  never_refused Free n now e f is a ok refuses = absurd (true≢false (sym is))
 
   pub can_refuse : (t : Name) (e : Event) → SuitsKind boxes t e → (m : Meaning) → at boxes t ≡ Some m → (now : Option Members) (f : TargetFault) → Refuses m.kind m.notes now e f → CanRefuse e
   can_refuse t (event.Open id version body) k m is now f r = tt
   can_refuse t (event.Msg id body) k m is now f r = tt
-  can_refuse t (event.Launch id state) k m is now f r = never_refused m.kind m.notes now (event.Launch id state) f (widget_kind m.kind (widget_there t m is k)) _ refl r
-  can_refuse t (event.Push id state) k m is now f r = never_refused m.kind m.notes now (event.Push id state) f (widget_kind m.kind (widget_there t m is k)) _ refl r
+  can_refuse t (event.Launch id state) k m is now f r = never_refused m.kind m.notes now (event.Launch id state) f (widget_there t m is k) _ (λ _. refl) r
+  can_refuse t (event.Push id state) k m is now f r = never_refused m.kind m.notes now (event.Push id state) f (widget_there t m is k) _ (λ _. refl) r
 
 -- ---- what comes of a question
 
@@ -136,6 +134,7 @@ module _ (b : Targets) (c : Opens) (q : Question) (can : CanAsk b c q) (none : H
 pub nothing_staged : (plan : Plan) (name : Name) → staged_by plan None name ≡ None
 nothing_staged Nothing name = refl
 nothing_staged (Register n kind notes) name = refl
+nothing_staged (Replace n kind notes) name = refl
 nothing_staged (Unregister n) name = refl
 nothing_staged (Close id) name = refl
 nothing_staged (Commit q) name = refl

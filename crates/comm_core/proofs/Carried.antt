@@ -4,14 +4,14 @@ use Rattle.std.specs.Str.{bytes_eq}
 use Rattle.comm_value.specs.Tree.{Members}
 use Rattle.comm_targets.specs.Meaning.{Meaning, IsIdle, after_abandon, after_commit, after_close, ids_after, notes_after}
 use Rattle.comm_targets.specs.declared.kind.Kind.{Kind}
-use Rattle.comm_targets.specs.declared.kind.Kind.TheVariants.{Echo, Counter, Widget, Free}
+use Rattle.comm_targets.specs.declared.kind.Kind.TheVariants.{Echo, Counter, Widget, WidgetEcho, Free}
 use Rattle.comm_targets.specs.declared.staged_event.StagedEvent.{StagedEvent}
 use Rattle.comm_targets.specs.declared.event.Event.{Event}
 use Rattle.comm_targets.specs.declared.event.Event.TheVariants as event
 use Rattle.comm_targets.specs.declared.answer.Answer.{Answer}
 use Rattle.comm_messages.specs.Content.{Content}
 use Rattle.comm_core.specs.Machine.{Name, Registered, Machine, at, with_at, without, others}
-use Rattle.comm_core.specs.Step.{stated, noted, with_answer, with_comm, without_comm, with_target, without_target}
+use Rattle.comm_core.specs.Step.{stated, noted, with_answer, with_comm, without_comm, with_another, with_target, without_target}
 use Rattle.comm_core.specs.Tables.{Targets, Opens, registered_of, targets_of, machine_of, Agrees, HaveStaged, unstaged}
 use Rattle.comm_core.specs.Plans.{Carried}
 use Rattle.comm_core.specs.declared.comm.Comm.{Comm}
@@ -19,7 +19,7 @@ use Rattle.comm_core.proofs.Entries.{set-map, remove-map, remove-absent, map-app
 use Rattle.comm_core.proofs.Keys.{same_text, text_itself, at-with_at, at-with_at-other, with_at-same}
 use Rattle.comm_core.proofs.Names.{target_at}
 use Rattle.comm_core.proofs.Gone.{at-without}
-use Rattle.comm_core.proofs.Agreeing.{at-more, at-newest, agrees-opened, agrees-told, agrees-stated, agrees-closed, agrees-unregistered, agrees-registered}
+use Rattle.comm_core.proofs.Agreeing.{at-more, at-newest, agrees-opened, agrees-told, agrees-stated, agrees-closed, agrees-unregistered, agrees-replaced, agrees-registered}
 use Rattle.comm_core.proofs.Staging.{unstaged-at, distinct-unstaged}
 
 abbrev whole : List (Name × Registered) → Opens → Machine
@@ -113,6 +113,16 @@ module _ (b : Targets) (c : Opens) (h : Agrees (unstaged b) c) (none : HaveStage
         ap (λ n. whole n c2) names ∙ ap (whole (without (targets_of b) name)) ec,
       )
 
+  pub replaced_carried : (name : Name) (was m : Meaning) → at b name ≡ Some was → IsIdle m → b2 ≡ with_at b name m → c2 ≡ others name c
+      → Carried b2 c2 (with_another (machine_of b c) name m.kind m.notes)
+  replaced_carried name was m is idle eb ec =
+      let unstaged2 : unstaged b2 ≡ with_at (unstaged b) name (after_abandon m) = ap unstaged eb ∙ unstaged-written b name m in
+      let names : targets_of b2 ≡ with_at (targets_of b) name (registered_of m) = ap targets_of eb ∙ targets-written b name m in (
+        rw (unstaged2, ec) (agrees-replaced (unstaged b) c name (after_abandon was) (after_abandon m) h (unstaged-at b name was is) idle.0),
+        rw eb (written-unstaged b name was m is idle.1 (λ q k p at_k. none q k at_k)),
+        ap (λ n. whole n c2) names ∙ ap (whole (with_at (targets_of b) name (registered_of m))) ec,
+      )
+
   pub registered_carried : (name : Name) (m : Meaning) (k : Kind) (n : ℕ) → m.kind ≡ k → m.notes ≡ n → IsIdle m → at (unstaged b) name ≡ None → at b name ≡ None
       → b2 ≡ b ++ (name, m) ∷ [] → c2 ≡ c → Carried b2 c2 (with_target (machine_of b c) name k n)
   registered_carried name m k n kind notes idle fresh new eb ec =
@@ -137,12 +147,14 @@ pub open_notes : (k : Kind) (n : ℕ) (id : Name) (version : Option Name) (body 
 open_notes Echo n id version body = refl
 open_notes Counter n id version body = refl
 open_notes Widget n id version body = refl
+open_notes WidgetEcho n id version body = refl
 open_notes Free n id version body = refl
 
 pub launch_notes : (k : Kind) (n : ℕ) (id : Name) (state : Members) → notes_after k n (event.Launch id state) ≡ n
 launch_notes Echo n id state = refl
 launch_notes Counter n id state = refl
 launch_notes Widget n id state = refl
+launch_notes WidgetEcho n id state = refl
 launch_notes Free n id state = refl
 
 pub gone_carried : (b : Targets) (c : Opens) → Agrees (unstaged b) c → HaveStaged b (λ _. None) → (b2 : Targets) (c2 : Opens) (id : Name) → at c id ≡ None → b2 ≡ b → c2 ≡ without c id

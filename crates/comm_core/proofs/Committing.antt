@@ -1,5 +1,5 @@
 -- The tables after a target's change is made, and after a target is registered.
-use Rattle.std.proofs.Common.{◌≡◌, ℕ, [], ◌∷◌, ◌++◌, Option, None, Some, is_some, Ok, Err, ap, sym, ◌∙◌, subst}
+use Rattle.std.proofs.Common.{◌≡◌, ℕ, true, [], ◌∷◌, ◌++◌, Option, None, Some, is_some, IsSome, Ok, Err, ap, sym, ◌∙◌, subst}
 use Rattle.comm_value.specs.Tree.{Members}
 use Rattle.comm_messages.specs.Content.{Content}
 use Rattle.comm_targets.specs.Meaning.{Meaning, IsIdle, after_commit, ids_after, notes_after}
@@ -10,15 +10,15 @@ use Rattle.comm_targets.specs.declared.event.Event.TheVariants as event
 use Rattle.comm_targets.specs.declared.answer.Answer.{Answer}
 use Rattle.comm_core.specs.Machine.{Name, at, with_at}
 use Rattle.comm_targets.specs.declared.fault.TargetFault.{TargetFault}
-use Rattle.comm_core.specs.Step.{Outcome, answered, stated, with_answer}
+use Rattle.comm_core.specs.Step.{Outcome, answered, stated, with_another, with_answer}
 use Rattle.comm_core.specs.Tables.{Targets, Opens, machine_of, Agrees, HaveStaged, unstaged}
 use Rattle.comm_core.specs.Plans.{Carried, Suits, SuitsComms, planned, staged_by}
 use Rattle.comm_core.specs.declared.comm.Comm.{Comm}
 use Rattle.comm_core.specs.declared.question.Question.{Question}
 use Rattle.comm_core.specs.declared.plan.Plan.{Plan}
-use Rattle.comm_core.specs.declared.plan.Plan.TheVariants.{Register, Commit}
+use Rattle.comm_core.specs.declared.plan.Plan.TheVariants.{Register, Replace, Commit}
 use Rattle.comm_core.proofs.Agreeing.{some-at}
-use Rattle.comm_core.proofs.Staging.{unstaged-there, none_of}
+use Rattle.comm_core.proofs.Staging.{unstaged-there, none_of, some-is}
 use Rattle.comm_core.proofs.Carried.{is_stage, opened_carried, told_carried, registered_carried, open_notes, launch_notes}
 
 module _ (b : Targets) (c : Opens) (h : Agrees (unstaged b) c) (q : Question) (a : Answer) (staged : HaveStaged b (staged_by (Commit q) (Some (Ok a))))
@@ -87,6 +87,38 @@ module _ (b : Targets) (c : Opens) (h : Agrees (unstaged b) c) (plan : Plan) (o 
   register_idle boxed m suits there =
       let s : Suits (unstaged b) c boxed (Register name kind notes) o = subst (λ p. Suits (unstaged b) c boxed p o) is suits in
       subst IsIdle (some_same s.0 m (sym s.1.0 ∙ there)) s.1.2
+
+-- ---- the plan to replace a target
+
+module _ (b : Targets) (c : Opens) (plan : Plan) (o : Option Outcome) (name : Name) (kind : Kind) (notes : ℕ) (is : plan ≡ Replace name kind notes) where
+  pub replace_stages : HaveStaged b (staged_by plan o) → HaveStaged b (λ _. None)
+  replace_stages staged n m there = staged n m there ∙ ap (λ p. staged_by p o n) is
+
+  module _ (boxed : Option Meaning) (suits : Suits (unstaged b) c boxed plan o) where
+    abbrev successor : Suits (unstaged b) c boxed (Replace name kind notes) o
+    successor = subst (λ p. Suits (unstaged b) c boxed p o) is suits
+
+    pub replace_here : IsSome (at b name)
+    replace_here = some-is (at b name) (sym (unstaged-there b name) ∙ successor.1.1)
+
+    -- it hands a target in
+    pub replace_hands : {P : Type 0} → boxed ≡ None → P
+    replace_hands nothing = none≢some successor.0 (sym nothing ∙ successor.1.0)
+
+    module _ (m : Meaning) (there : boxed ≡ Some m) where
+      successor_is : successor.0 ≡ m
+      successor_is = some_same successor.0 m (sym successor.1.0 ∙ there)
+
+      pub replace_idle : IsIdle m
+      replace_idle = subst IsIdle successor_is successor.1.2
+
+      pub replace_made : (b2 : Targets) (c2 : Opens) → Carried b2 c2 (with_another (machine_of b c) name m.kind m.notes) → Carried b2 c2 (planned (machine_of b c) plan o)
+      replace_made b2 c2 made =
+          let kinds : m.kind ≡ kind = ap (λ (k : Meaning). k.kind) (sym successor_is) ∙ successor.2 in
+          let noted : m.notes ≡ notes = ap (λ (k : Meaning). k.notes) (sym successor_is) ∙ successor.3 in
+          let same : Carried b2 c2 (with_another (machine_of b c) name kind notes) =
+          subst (λ n. Carried b2 c2 (with_another (machine_of b c) name kind n)) noted (subst (λ k. Carried b2 c2 (with_another (machine_of b c) name k m.notes)) kinds made) in
+          subst (λ p. Carried b2 c2 (planned (machine_of b c) p o)) (sym is) same
 
 -- ---- a plan that makes what a target staged has its answer
 

@@ -7,7 +7,7 @@ use Rattle.comm_targets.specs.declared.event.Event.{Event}
 use Rattle.comm_targets.specs.declared.event.Event.TheVariants as event
 use Rattle.comm_targets.specs.declared.answer.Answer.{Answer}
 use Rattle.comm_core.specs.Machine.{Name, Registered, Machine, IsConsistent, AreDistinct, empty, at, has, with_at}
-use Rattle.comm_core.specs.Step.{Outcome, judged, with_target, without_target, with_comm, without_comm, with_answer, noted, stated, is_full, holds_widget, comm_id}
+use Rattle.comm_core.specs.Step.{Outcome, judged, with_target, with_another, without_target, with_comm, without_comm, with_answer, noted, stated, is_full, holds_widget, comm_id}
 use Rattle.comm_core.specs.History.{applied, replay_from, replay, IsLegal}
 use Rattle.comm_core.specs.declared.entry.Entry.{Entry}
 use Rattle.comm_core.specs.declared.entry.Entry.TheVariants.{Change, End}
@@ -47,6 +47,14 @@ module _ (m : Machine) (is : IsConsistent m) where
         names = distinct-more m.targets name _ (none_of (at m.targets name) new) is.names;
         ids = is.ids;
         registered = λ id c there. has-longer m.targets name _ c.target (is.registered id c there);
+      }
+
+  after_replacing : (name : Name) (kind : Kind) (notes : ℕ) → IsConsistent (with_another m name kind notes)
+  after_replacing name kind notes =
+      record {
+        names = distinct-with_at m.targets name _ is.names;
+        ids = distinct-others name m.comms is.ids;
+        registered = λ id c there. has-with_at m.targets name _ c.target ∙ is.registered id c (at-others name m.comms id c is.ids there).0;
       }
 
   after_unregistering : (name : Name) → IsConsistent (without_target m name)
@@ -122,7 +130,7 @@ module _ (m : Machine) (is : IsConsistent m) where
   there_if target h = (elim (has m.targets target) as (λ b. not b ≡ false → b ≡ true) [ true ↦ λ _. refl | false ↦ λ k. sym k ]) h
 
   pub judged_consistent : (limit : ℕ) (call : Call) → Comes Stays m (judged limit m call)
-  judged_consistent limit (Register name kind notes) = comes_if Stays m (has m.targets name) _ _ (λ _. is) (λ new. after_registering name kind notes new)
+  judged_consistent limit (Register name kind notes) = comes_if Stays m (has m.targets name) _ _ (λ _. after_replacing name kind notes) (λ new. after_registering name kind notes new)
   judged_consistent limit (Open id target version body) =
       comes_if Stays m (has m.comms id) _ _ (λ _. is)
       (λ new. comes_if Stays m (not (has m.targets target)) _ _ (λ _. is)

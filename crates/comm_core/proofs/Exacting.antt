@@ -6,7 +6,7 @@ use Rattle.comm_value.specs.Tree.{Members}
 use Rattle.comm_targets.specs.Answers.{Answers, Refuses, answer_of}
 use Rattle.comm_targets.specs.Meaning.{notes_after}
 use Rattle.comm_targets.specs.declared.kind.Kind.{Kind}
-use Rattle.comm_targets.specs.declared.kind.Kind.TheVariants.{Echo, Counter, Widget, Free}
+use Rattle.comm_targets.specs.declared.kind.Kind.TheVariants.{Echo, Counter, Widget, WidgetEcho, Free}
 use Rattle.comm_targets.specs.declared.event.Event.{Event}
 use Rattle.comm_targets.specs.declared.event.Event.TheVariants as event
 use Rattle.comm_targets.specs.declared.answer.Answer.{Answer}
@@ -42,12 +42,14 @@ answers_one : (k : Kind) (n : ℕ) (now : Option Members) (e : Event) (a : Answe
 answers_one Echo n now e a h x = x
 answers_one Counter n now e a h x = x
 answers_one Widget n now e a h x = x
+answers_one WidgetEcho n now e a h x = x
 answers_one Free n now e a h x = absurd (true≢false (sym h))
 
 refuses_one : (k : Kind) (n : ℕ) (now : Option Members) (e : Event) (f : TargetFault) → not (is_free k) ≡ true → Refuses k n now e f → answer_of k n now e ≡ Err f
 refuses_one Echo n now e f h x = x
 refuses_one Counter n now e f h x = x
 refuses_one Widget n now e f h x = x
+refuses_one WidgetEcho n now e f h x = x
 refuses_one Free n now e f h x = absurd (true≢false (sym h))
 
 gives_one : (t : Option Registered) (q : Question) (g : Outcome) → ((r : Registered) → t ≡ Some r → not (is_free r.kind) ≡ true) → Gives t q g → Some g ≡ outcome_by t q
@@ -102,7 +104,7 @@ keeps_of m (Some c) f h = h c
 
 judged_keeps : (limit : ℕ) (m : Machine) (c : Call) → registers_free c ≡ false → Keeps m (judged limit m c)
 judged_keeps limit m (Register name kind notes) free =
-    keeps_if m (has m.targets name) _ _ (λ e. e) (λ e. all_append m.targets (name, record { kind = kind; notes = notes }) e (ap not free))
+    keeps_if m (has m.targets name) _ _ (λ e. all_with_at m.targets name (record { kind = kind; notes = notes }) e (ap not free)) (λ e. all_append m.targets (name, record { kind = kind; notes = notes }) e (ap not free))
 judged_keeps limit m (Open id target version body) free =
     keeps_if m (has m.comms id) _ _ (λ e. e) (keeps_if m (not (has m.targets target)) _ _ (λ e. e) (keeps_if m (is_full limit m) _ _ (λ e. e) tt))
 judged_keeps limit m (Msg id body) free = keeps_of m (at m.comms id) _ (λ x. tt)

@@ -58,6 +58,7 @@ refused m (HangUp id) f r = refl
 planned_silent : (p : Plan) (call : Call) (r : Reply) → planned_row p None call r ≡ done_row call r
 planned_silent plan.Nothing call r = refl
 planned_silent (plan.Register name kind notes) call r = refl
+planned_silent (plan.Replace name kind notes) call r = refl
 planned_silent (plan.Unregister name) call r = refl
 planned_silent (plan.Close id) call r = refl
 planned_silent (plan.Commit q) call r = refl
@@ -65,6 +66,7 @@ planned_silent (plan.Commit q) call r = refl
 planned_refused : (p : Plan) (f : TargetFault) (call : Call) (r : Reply) → planned_row p (Some (Err f)) call r ≡ done_row call r
 planned_refused plan.Nothing f call r = refl
 planned_refused (plan.Register name kind notes) f call r = refl
+planned_refused (plan.Replace name kind notes) f call r = refl
 planned_refused (plan.Unregister name) f call r = refl
 planned_refused (plan.Close id) f call r = refl
 planned_refused (plan.Commit q) f call r = refl
@@ -140,6 +142,7 @@ planned_asked boxes q a p call r m there asked by =
     planned_by : (p : Plan) → staged_by p (Some (Ok a)) q.name ≡ staged_event q.event a → planned_row p (Some (Ok a)) call r ≡ answered_row q.name q.event a
     planned_by plan.Nothing e = absurd (none≢some _ e)
     planned_by (plan.Register name kind notes) e = absurd (none≢some _ e)
+    planned_by (plan.Replace name kind notes) e = absurd (none≢some _ e)
     planned_by (plan.Unregister name) e = absurd (none≢some _ e)
     planned_by (plan.Close id) e = absurd (none≢some _ e)
     planned_by (plan.Commit g) e =

@@ -1,20 +1,20 @@
 -- From what came of a call to what stands ready, and back to the state before it.
-use Rattle.std.proofs.Common.{◌≡◌, ◌<◌, ℕ, Bool, true, false, cond, List, [], Option, None, Some, refl, ap, sym, ◌∙◌, subst, true≢false}
+use Rattle.std.proofs.Common.{◌≡◌, ◌<◌, ℕ, Bool, true, false, cond, List, [], Option, None, Some, option_map, refl, ap, sym, ◌∙◌, subst, true≢false}
 use Rattle.comm_messages.specs.declared.outgoing.Outgoing.{Outgoing}
 use Rattle.comm_targets.specs.Meaning.{Meaning, IsIdle}
 use Rattle.comm_targets.specs.declared.kind.Kind.{Kind}
 use Rattle.comm_core.specs.Machine.{Name, Machine, at, has}
-use Rattle.comm_core.specs.Step.{Outcome, Stepped, Allowed, asks, step}
-use Rattle.comm_core.specs.Tables.{Targets, Opens, targets_of, machine_of, Agrees, AnswerIsStaged, HaveStaged, unstaged, ended_of}
-use Rattle.comm_core.specs.Ready.{CoreValue, Readied, IsReady, state, machine, readied, back_of}
-use Rattle.comm_core.specs.Plans.{IsSound, HasCome, Carried, Suits, planned, staged_by, back_by, ended_by}
+use Rattle.comm_core.specs.Step.{Outcome, Stepped, Done, Allowed, asks, judged, question_of, step, stepped}
+use Rattle.comm_core.specs.Tables.{Targets, Opens, targets_of, machine_of, Agrees, AnswerIsStaged, HaveStaged, unstaged, emptied, ended_of}
+use Rattle.comm_core.specs.Ready.{CoreValue, Readied, IsReady, state, machine, readied}
+use Rattle.comm_core.specs.Plans.{IsSound, HasCome, Carried, Suits, planned, registering, staged_by, ended_by}
 use Rattle.comm_core.specs.declared.call.Call.{Call}
 use Rattle.comm_core.specs.declared.call.Call.TheVariants as call
 use Rattle.comm_core.specs.declared.reply.Reply.{Reply}
-use Rattle.comm_core.specs.declared.reply.Reply.TheVariants as reply
 use Rattle.comm_core.specs.declared.plan.Plan.{Plan}
-use Rattle.comm_core.specs.declared.plan.Plan.TheVariants.{Nothing, Register, Unregister, Close, Commit}
+use Rattle.comm_core.specs.declared.plan.Plan.TheVariants.{Register, Replace}
 use Rattle.comm_core.proofs.Names.{has_target}
+use Rattle.comm_core.proofs.Asking.{nobody_ends, nothing_staged}
 use Rattle.comm_core.proofs.Staging.{none_of, unstaged-there, machine-unstaged, unstaged-same, unstaged-twice, distinct-unstaged, all_unstaged}
 
 -- ---- the tables stay sound
@@ -45,28 +45,6 @@ sound_unstaged b b2 r c s h e = sound_after b2 r c s (rw (e, unstaged-twice b) h
 
 -- ---- what stands ready
 
-no_back : (plan : Plan) → back_by plan None ≡ None
-no_back Nothing = refl
-no_back (Register n kind notes) = refl
-no_back (Unregister n) = refl
-no_back (Close id) = refl
-no_back (Commit q) = refl
-
-none_back : (r : Reply) → back_of r None ≡ None
-none_back reply.Registered = refl
-none_back reply.NameTaken = refl
-none_back reply.Opened = refl
-none_back reply.IdInUse = refl
-none_back (reply.OpenRefused why) = refl
-none_back (reply.Delivered custom) = refl
-none_back (reply.Fault f) = refl
-none_back reply.NoComm = refl
-none_back reply.Closed = refl
-none_back (reply.Unregistered ids) = refl
-none_back reply.NoTarget = refl
-none_back reply.Launched = refl
-none_back reply.NotWidget = refl
-
 -- a call that hands no target in
 pub call_ready : (l : ℕ) (b b' : Targets) (c : Opens) (k : Call) (o : Option Outcome) (r : Reply) (out : List Outgoing) (plan : Plan)
     → HasCome l b c k o r out plan b' → IsReady (state l b' c false) (readied k o r out plan None)
@@ -80,7 +58,6 @@ call_ready l b b' c k o r out plan h =
       stages = h.stages;
       suits = h.suits;
       ended = h.ended;
-      back = no_back plan ∙ sym (none_back r);
     }
 
 -- the state before a call, once what it staged is dropped
@@ -119,17 +96,26 @@ module _ (S : CoreValue) (l : ℕ) (b : Targets) (c : Opens) (D : Readied) (R : 
 -- ---- a register
 
 module _ (l : ℕ) (b : Targets) (c : Opens) (name : Name) (k : Kind) (n : ℕ) (m : Meaning) (none : HaveStaged b (λ _. None)) (kind : m.kind ≡ k) (notes : m.notes ≡ n) (idle : IsIdle m) where
-  registers : (taken : Bool) → taken ≡ has (targets_of b) name
-      → IsReady (state l b c false) (readied (call.Register name k n) None (cond taken reply.NameTaken reply.Registered) [] (cond taken Nothing (Register name k n)) (Some m))
-  registers true e =
-      record { begun = refl; allowed = rw (sym e) tt; staged = none; step_is = rw (sym e) refl; stages = none; suits = tt; ended = refl; back = refl }
-  registers false e =
-      let fresh : at (unstaged b) name ≡ None = none_of (at (unstaged b) name) (unstaged-there b name ∙ sym (has_target b name) ∙ sym e) in
-      record { begun = refl; allowed = rw (sym e) tt; staged = none; step_is = rw (sym e) refl; stages = none; suits = (m, (refl, fresh, idle), kind, notes); ended = refl; back = refl }
+  suited : (taken : Bool) → has (targets_of b) name ≡ taken → Suits (unstaged b) c (Some m) (cond taken (Replace name k n) (Register name k n)) None
+  suited true e = (m, (refl, unstaged-there b name ∙ sym (has_target b name) ∙ e, idle), kind, notes)
+  suited false e = (m, (refl, none_of (at (unstaged b) name) (unstaged-there b name ∙ sym (has_target b name) ∙ e), idle), kind, notes)
 
-  pub register_ready : (taken : Bool) (r : Reply) (out : List Outgoing) (plan : Plan) → taken ≡ has (targets_of b) name → r ≡ cond taken reply.NameTaken reply.Registered → out ≡ []
-      → plan ≡ cond taken Nothing (Register name k n) → IsReady (state l b c false) (readied (call.Register name k n) None r out plan (Some m))
-  register_ready taken r out plan e er eo ep = rw (er, eo, ep) (registers taken e)
+  ends : (taken : Bool) → has (targets_of b) name ≡ taken → ended_by b (cond taken (Replace name k n) (Register name k n)) ≡ option_map emptied (at b name)
+  ends true e = refl
+  ends false e = sym (nobody_ends b name e)
+
+  pub register_ready : (r : Reply) (out : List Outgoing) (plan : Plan) → ((limit : ℕ) → Done r out (planned (machine_of b c) plan None) ≡ judged limit (machine_of b c) (call.Register name k n))
+      → plan ≡ registering b name k n → IsReady (state l b c false) (readied (call.Register name k n) None r out plan (Some m))
+  register_ready r out plan e ep =
+      record {
+        begun = refl;
+        allowed = subst (λ v. Allowed (machine_of b c) (question_of v) None) (e l) tt;
+        staged = none;
+        step_is = ap (λ v. stepped (machine_of b c) v None) (sym (e l));
+        stages = λ name m there. none name m there ∙ sym (nothing_staged plan name);
+        suits = subst (λ p. Suits (unstaged b) c (Some m) p None) (sym ep) (suited (has (targets_of b) name) refl);
+        ended = ap (ended_by b) ep ∙ ends (has (targets_of b) name) refl;
+      }
 
 -- ---- what `finish` says
 
@@ -151,9 +137,6 @@ module _ (S : CoreValue) (D : Readied) (l : ℕ) (b : Targets) (c : Opens) (z : 
 
   pub finished_ended : (ended : Option Meaning) → ended ≡ ended_by b plan → ended ≡ ended_of S.boxes D.call
   finished_ended ended e = e ∙ parts.ended ∙ ap (λ (x : CoreValue). ended_of x.boxes k) whole_state ∙ ap (λ (x : Readied). ended_of S.boxes x.call) ed
-
-  pub finished_back : (back : Option Meaning) → back ≡ back_by plan m → back ≡ back_of D.reply D.boxed
-  finished_back back e = e ∙ parts.back ∙ ap (λ (x : Readied). back_of x.reply x.boxed) ed
 
   pub staged_now : HaveStaged b (staged_by plan o)
   staged_now = parts.stages

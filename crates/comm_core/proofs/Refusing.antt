@@ -26,7 +26,7 @@ leaves_of m None f h = λ e. refl
 leaves_of m (Some c) f h = h c
 
 judged_leaves : (limit : ℕ) (m : Machine) (c : Call) → Leaves m (judged limit m c)
-judged_leaves limit m (Register name kind notes) = leaves_if m (has m.targets name) _ _ (λ e. refl) (λ e. done_not e)
+judged_leaves limit m (Register name kind notes) = leaves_if m (has m.targets name) _ _ (λ e. done_not e) (λ e. done_not e)
 judged_leaves limit m (Open id target version body) =
     leaves_if m (has m.comms id) _ _ (λ e. refl) (leaves_if m (not (has m.targets target)) _ _ (λ e. refl) (leaves_if m (is_full limit m) _ _ (λ e. refl) tt))
 judged_leaves limit m (Msg id body) = leaves_of m (at m.comms id) _ (λ x. tt)

@@ -20,7 +20,7 @@ use Rattle.comm_core.specs.declared.reply.Reply.{Reply}
 use Rattle.comm_core.specs.declared.reply.Reply.TheVariants as reply
 use Rattle.comm_core.proofs.Keys.{same_text, at-with_at, at-with_at-other}
 use Rattle.comm_core.proofs.Gone.{at-longer, at-without-other}
-use Rattle.comm_core.proofs.Agreeing.{differs, at-newest}
+use Rattle.comm_core.proofs.Agreeing.{differs, some-at, at-newest}
 use Rattle.comm_core.proofs.Staging.{none_of}
 use Rattle.comm_core.proofs.LeftOpen.{neither}
 use Rattle.comm_core.proofs.Running.{Steps, Runs, replay-append, runs_after}
@@ -76,7 +76,11 @@ noted_keeps m target e (Some r) is comms name k h =
 judged_leaves : (limit : ℕ) (m : Machine) (call : Call) → Comes (Leaves call m) m (judged limit m call)
 judged_leaves limit m (Register name kind notes) =
     comes_if (Leaves (Register name kind notes) m) m (has m.targets name) _ _
-    (λ _. record { keeps = λ n k h u. h; adds = λ n k h. none_adds n k h })
+    (λ old. let was = some-at (at m.targets name) old in
+    record {
+      keeps = λ n k h u. (h.0, at-with_at-other name m.targets _ n (differs name n u) ∙ h.1, h.2);
+      adds = λ n k h. (record { kind = kind; notes = notes }, ap (at (with_at m.targets name (record { kind = kind; notes = notes }))) (sym (same_name name n kind k h)) ∙ at-with_at name m.targets was.0 _ was.1, same_kind name n kind k h);
+    })
     (λ new. record {
       keeps = λ n k h u. (h.0, at-longer m.targets name _ n h.0 h.1, h.2);
       adds = λ n k h. (record { kind = kind; notes = notes }, ap (at (m.targets ++ (name, record { kind = kind; notes = notes }) ∷ [])) (sym (same_name name n kind k h)) ∙ at-newest m.targets name _ (none_of (at m.targets name) new), same_kind name n kind k h);
@@ -127,6 +131,7 @@ judged_leaves limit m (HangUp id) =
 -- What doesn't end the comms of a target leaves the target.
 left_in : (call : Call) (r : Reply) (id target : Name) → ending call r id target ≡ false → unregistering call r target ≡ false
 left_in (Unregister name) (reply.Unregistered ids) id target h = h
+left_in (Register name kind notes) (reply.Replaced ids) id target h = h
 left_in call r id target h = refl
 
 pub target_left : (e : Entry) (id target : Name) → has_ended id target e ≡ false → has_unregistered target e ≡ false

@@ -7,12 +7,11 @@ use Rattle.comm_targets.specs.declared.event.Event.TheVariants as event
 use Rattle.comm_core.specs.Machine.{Name, Machine, at, has, without, ids_of, others, empty, AreDistinct}
 use Rattle.comm_core.specs.Step.{Outcome, Asked, judged, stated, is_full, holds_widget, comm_id}
 use Rattle.comm_core.specs.Reads.{in_order}
-use Rattle.comm_core.specs.Row.{row_in, row_of, rows, stated_row, told_row, with_row}
+use Rattle.comm_core.specs.Row.{row_in, row_of, rows, stated_row, told_row, with_row, without_all}
 use Rattle.comm_core.specs.declared.comm.Comm.{Comm}
 use Rattle.comm_core.specs.declared.call.Call.{Call}
 use Rattle.comm_core.specs.declared.call.Call.TheVariants.{Register, Open, Msg, Close, Unregister, Launch, Push, Send, HangUp}
 use Rattle.comm_core.specs.declared.reply.Reply.{Reply}
-use Rattle.comm_core.specs.declared.reply.Reply.TheVariants as reply
 use Rattle.comm_core.specs.declared.entry.Entry.{Entry}
 use Rattle.comm_core.specs.declared.entry.Entry.TheVariants.{Change, End}
 use Rattle.comm_core.specs.History.{applied, replay, IsLegal}
@@ -46,8 +45,8 @@ module _ (m : Machine) (d : AreDistinct m.comms) where
   closed_leaves : (id : Name) → without (rows m) id ≡ in_order (without m.comms id)
   closed_leaves id = in_order-without m.comms id d
 
-  unregistered_leaves : (name : Name) → with_row (row_in m (Unregister name) None (reply.Unregistered (ids_of name m.comms))) (rows m) ≡ in_order (others name m.comms)
-  unregistered_leaves name = in_order-without_all (ids_of name m.comms) m.comms d ∙ ap in_order (others-without_all name m.comms d)
+  ended_leaves : (name : Name) → without_all (ids_of name m.comms) (rows m) ≡ in_order (others name m.comms)
+  ended_leaves name = in_order-without_all (ids_of name m.comms) m.comms d ∙ ap in_order (others-without_all name m.comms d)
 
   leaves_open : (id target : Name) (version : Option Name) (body : _) → Comes (Leaves (Open id target version body) m) m (Asked (record { name = target; state = None; event = event.Open id version body }))
   leaves_open id target version body = (
@@ -65,14 +64,14 @@ module _ (m : Machine) (d : AreDistinct m.comms) where
   leaves_push id state x there = ((λ a g. told_leaves id x a there), (λ f s e. none_stepped s e))
 
   judged_leaves : (limit : ℕ) (call : Call) → Comes (Leaves call m) m (judged limit m call)
-  judged_leaves limit (Register name kind notes) = comes_if (Leaves (Register name kind notes) m) m (has m.targets name) _ _ (λ _. refl) (λ _. refl)
+  judged_leaves limit (Register name kind notes) = comes_if (Leaves (Register name kind notes) m) m (has m.targets name) _ _ (λ _. ended_leaves name) (λ _. refl)
   judged_leaves limit (Open id target version body) =
       let L = Leaves (Open id target version body) m in
       comes_if L m (has m.comms id) _ _ (λ _. refl)
       (λ _. comes_if L m (not (has m.targets target)) _ _ (λ _. refl) (λ _. comes_if L m (is_full limit m) _ _ (λ _. refl) (λ _. leaves_open id target version body)))
   judged_leaves limit (Msg id body) = comes_of (Leaves (Msg id body) m) m (at m.comms id) _ (silent id (at m.comms id)) (λ x there. leaves_msg id body x there)
   judged_leaves limit (Close id) = comes_of (Leaves (Close id) m) m (at m.comms id) _ refl (λ x there. closed_leaves id)
-  judged_leaves limit (Unregister name) = comes_if (Leaves (Unregister name) m) m (has m.targets name) _ _ (λ _. unregistered_leaves name) (λ _. refl)
+  judged_leaves limit (Unregister name) = comes_if (Leaves (Unregister name) m) m (has m.targets name) _ _ (λ _. ended_leaves name) (λ _. refl)
   judged_leaves limit (Launch uuid target state) =
       let L = Leaves (Launch uuid target state) m in
       comes_if L m (has m.comms (comm_id uuid)) _ _ (λ _. refl)

@@ -5,7 +5,7 @@ use Rattle.std.specs.List.{list_any}
 use Rattle.comm_value.specs.Tree.{Members}
 use Rattle.comm_targets.specs.Answers.{Answers, echo_of, counted}
 use Rattle.comm_targets.specs.declared.kind.Kind.{Kind}
-use Rattle.comm_targets.specs.declared.kind.Kind.TheVariants.{Echo, Counter, Widget, Free}
+use Rattle.comm_targets.specs.declared.kind.Kind.TheVariants.{Echo, Counter, Widget, WidgetEcho, Free}
 use Rattle.comm_targets.specs.declared.event.Event.{Event}
 use Rattle.comm_targets.specs.declared.event.Event.TheVariants as event
 use Rattle.comm_targets.specs.declared.answer.Answer.{Answer}
@@ -43,6 +43,7 @@ no_state : (k : Kind) (notes : ℕ) (now : Option Members) (e : Event) (a : Answ
 no_state Echo notes now e a h w = state_is (echo_of e) a w ∙ echo_state e
 no_state Counter notes now e a h w = state_is (counted notes e) a w ∙ counted_state notes e
 no_state Widget notes now e a h w = absurd (true≢false (sym h))
+no_state WidgetEcho notes now e a h w = absurd (true≢false (sym h))
 no_state Free notes now e a h w = absurd (true≢false (sym h))
 
 -- the target of this name is asked, of a comm with this state

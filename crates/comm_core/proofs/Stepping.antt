@@ -135,7 +135,7 @@ does_push m id state x there = (
 judged_does : (limit : ℕ) (m : Machine) (call : Call) → Comes (Does call m) m (judged limit m call)
 judged_does limit m (Register name kind notes) =
     comes_if (Does (Register name kind notes) m) m (has m.targets name) _ _
-    (λ _. record { change = stays_so; comms = refl; opens = refl; ends = λ _ _. refl; gives = λ _. refl; fits = tt })
+    (λ _. record { change = empties name; comms = refl; opens = refl; ends = λ _ _. refl; gives = λ _. refl; fits = tt })
     (λ _. record { change = stays_so; comms = refl; opens = refl; ends = λ _ _. refl; gives = λ _. refl; fits = tt })
 judged_does limit m (Open id target version body) =
     let D = Does (Open id target version body) m in

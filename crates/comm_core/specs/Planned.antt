@@ -5,9 +5,9 @@ use Rattle.comm_targets.specs.declared.event.Event.TheVariants as event
 use Rattle.comm_targets.specs.declared.answer.Answer.{Answer}
 use Rattle.comm_core.specs.Machine.{Name}
 use Rattle.comm_core.specs.Step.{Outcome}
-use Rattle.comm_core.specs.Row.{put_row, stated_row, closed_row, unregistered_row}
+use Rattle.comm_core.specs.Row.{put_row, stated_row, closed_row, ended_row}
 use Rattle.comm_core.specs.declared.call.Call.{Call}
-use Rattle.comm_core.specs.declared.call.Call.TheVariants.{Close, Unregister, HangUp}
+use Rattle.comm_core.specs.declared.call.Call.TheVariants.{Register, Close, Unregister, HangUp}
 use Rattle.comm_core.specs.declared.reply.Reply.{Reply}
 use Rattle.comm_core.specs.declared.plan.Plan.{Plan}
 use Rattle.comm_core.specs.declared.plan.Plan.TheVariants.{Commit}
@@ -25,7 +25,8 @@ answered_row target (event.Push id state) a = stated_row id target a.state
 abbrev pub done_row : Call → Reply → Row
 done_row (Close id) r = closed_row id r
 done_row (HangUp id) r = closed_row id r
-done_row (Unregister name) r = unregistered_row r
+done_row (Unregister name) r = ended_row r
+done_row (Register name kind notes) r = ended_row r
 done_row call r = Same
 
 abbrev pub planned_row : Plan → Option Outcome → Call → Reply → Row

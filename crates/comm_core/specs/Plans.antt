@@ -3,20 +3,21 @@ use Rattle.std.specs.Prelude.{◌≡◌, ◌<◌, ℕ, Bool, true, false, List, 
 use Rattle.std.specs.Str.{bytes_eq}
 use Rattle.comm_messages.specs.declared.outgoing.Outgoing.{Outgoing}
 use Rattle.comm_targets.specs.Meaning.{Meaning, IsIdle}
+use Rattle.comm_targets.specs.declared.kind.Kind.{Kind}
 use Rattle.comm_targets.specs.declared.staged_event.StagedEvent.{StagedEvent}
 use Rattle.comm_targets.specs.declared.event.Event.{Event}
 use Rattle.comm_targets.specs.declared.event.Event.TheVariants as event
 use Rattle.comm_targets.specs.declared.fault.TargetFault.{TargetFault}
 use Rattle.comm_targets.specs.declared.fault.TargetFault.TheVariants as fault
 use Rattle.comm_core.specs.Machine.{Name, Machine, at, has}
-use Rattle.comm_core.specs.Step.{Outcome, Verdict, Done, Asked, step, asks, stepped, answered, with_target, without_target, without_comm, holds_widget, Allowed}
+use Rattle.comm_core.specs.Step.{Outcome, Verdict, Done, Asked, step, asks, stepped, answered, with_target, with_another, without_target, without_comm, holds_widget, Allowed}
 use Rattle.comm_core.specs.Tables.{Targets, Opens, Agrees, AnswerIsStaged, HaveStaged, unstaged, emptied, ended_of, machine_of, targets_of}
 use Rattle.comm_core.specs.declared.comm.Comm.{Comm}
 use Rattle.comm_core.specs.declared.question.Question.{Question}
 use Rattle.comm_core.specs.declared.call.Call.{Call}
 use Rattle.comm_core.specs.declared.reply.Reply.{Reply}
 use Rattle.comm_core.specs.declared.plan.Plan.{Plan}
-use Rattle.comm_core.specs.declared.plan.Plan.TheVariants.{Register, Unregister, Close, Commit}
+use Rattle.comm_core.specs.declared.plan.Plan.TheVariants.{Register, Replace, Unregister, Close, Commit}
 use Rattle.comm_core.specs.declared.plan.Judged.{Judged}
 use Rattle.comm_core.specs.declared.plan.Judged.TheVariants as judged
 
@@ -38,6 +39,7 @@ Carried boxes comms m = Agrees (unstaged boxes) comms × HaveStaged boxes (λ _.
 -- the machine after the plan is carried out
 abbrev pub planned : Machine → Plan → Option Outcome → Machine
 planned m (Register name kind notes) o = with_target m name kind notes
+planned m (Replace name kind notes) o = with_another m name kind notes
 planned m (Unregister name) o = without_target m name
 planned m (Close id) o = without_comm m id
 planned m (Commit q) (Some (Ok a)) = (answered m q.name q.event a).next
@@ -82,22 +84,27 @@ pub record CanAsk (boxes : Targets) (comms : Opens) (q : Question) : Type 0 wher
 abbrev pub IsNewcomer : Targets → Name → Option Meaning → Meaning → Type 0
 IsNewcomer boxes name boxed m = (boxed ≡ Some m) × (at boxes name ≡ None) × IsIdle m
 
+-- so is one that replaces the target of the name
+abbrev pub IsSuccessor : Targets → Name → Option Meaning → Meaning → Type 0
+IsSuccessor boxes name boxed m = (boxed ≡ Some m) × (is_some (at boxes name) ≡ true) × IsIdle m
+
 -- the plan can be carried out on these tables
 abbrev pub Suits : Targets → Opens → Option Meaning → Plan → Option Outcome → Type 0
 Suits boxes comms boxed (Register name kind notes) o = (m : Meaning) × IsNewcomer boxes name boxed m × (m.kind ≡ kind) × (m.notes ≡ notes)
+Suits boxes comms boxed (Replace name kind notes) o = (m : Meaning) × IsSuccessor boxes name boxed m × (m.kind ≡ kind) × (m.notes ≡ notes)
 Suits boxes comms boxed (Commit q) (Some (Ok a)) = (is_some (at boxes q.name) ≡ true) × SuitsComms comms q.name q.event
 Suits boxes comms boxed (Commit q) o = ⊥
 Suits boxes comms boxed plan o = Unit {0}
 
+-- the plan of a register
+abbrev pub registering : Targets → Name → Kind → ℕ → Plan
+registering boxes name kind notes = if has (targets_of boxes) name then Replace name kind notes else Register name kind notes
+
 -- the target that a plan ends, with its comms closed
 abbrev pub ended_by : Targets → Plan → Option Meaning
 ended_by boxes (Unregister name) = option_map emptied (at boxes name)
+ended_by boxes (Replace name kind notes) = option_map emptied (at boxes name)
 ended_by boxes plan = None
-
--- the target that is handed back
-abbrev pub back_by : Plan → Option Meaning → Option Meaning
-back_by (Register name kind notes) boxed = None
-back_by plan boxed = boxed
 
 -- ---- what comes of a call
 

@@ -5,11 +5,10 @@ use Rattle.comm_targets.specs.Meaning.{Meaning}
 use Rattle.comm_core.specs.Machine.{Machine}
 use Rattle.comm_core.specs.Step.{Outcome, step, asks, Allowed}
 use Rattle.comm_core.specs.Tables.{Targets, Opens, AnswerIsStaged, HaveStaged, unstaged, ended_of, machine_of}
-use Rattle.comm_core.specs.Plans.{Suits, back_by, ended_by, planned, staged_by}
+use Rattle.comm_core.specs.Plans.{Suits, ended_by, planned, staged_by}
 use Rattle.comm_core.specs.declared.call.Call.{Call}
 use Rattle.comm_core.specs.declared.call.Call.TheVariants as call
 use Rattle.comm_core.specs.declared.reply.Reply.{Reply}
-use Rattle.comm_core.specs.declared.reply.Reply.TheVariants as reply
 use Rattle.comm_core.specs.declared.plan.Plan.{Plan}
 
 -- ---- a manager
@@ -39,11 +38,6 @@ HandsNothingIn c = Unit {0}
 
 -- ---- what stands ready
 
--- a target is handed back unless it is registered
-abbrev pub back_of : Reply → Option Meaning → Option Meaning
-back_of reply.Registered boxed = None
-back_of r boxed = boxed
-
 -- what stands ready: the call, what a target gave, the reply, what goes out, what is to be done, and a target that was handed in
 pub record Readied : Type 0 where
   pub call : Call
@@ -67,4 +61,3 @@ pub record IsReady (s : CoreValue) (r : Readied) : Type 0 where
   pub stages : HaveStaged s.boxes (staged_by r.plan r.outcome)
   pub suits : Suits (unstaged s.boxes) s.comms r.boxed r.plan r.outcome
   pub ended : ended_by s.boxes r.plan ≡ ended_of s.boxes r.call
-  pub back : back_by r.plan r.boxed ≡ back_of r.reply r.boxed

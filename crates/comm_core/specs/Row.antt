@@ -60,17 +60,19 @@ abbrev pub closed_row : Name → Reply → Row
 closed_row id reply.Closed = Out (id ∷ [])
 closed_row id r = Same
 
-abbrev pub unregistered_row : Reply → Row
-unregistered_row (reply.Unregistered ids) = Out ids
-unregistered_row r = Same
+-- the comms of a target that is taken out or replaced
+abbrev pub ended_row : Reply → Row
+ended_row (reply.Unregistered ids) = Out ids
+ended_row (reply.Replaced ids) = Out ids
+ended_row r = Same
 
 -- what a call changes in the comms of this machine, with what a target gave, and the reply
 abbrev pub row_in : Machine → Call → Option Outcome → Reply → Row
-row_in m (Register name kind notes) o r = Same
+row_in m (Register name kind notes) o r = ended_row r
 row_in m (Open id target version body) o r = opened_row id target o
 row_in m (Msg id body) o r = told_row id (at m.comms id) o
 row_in m (Close id) o r = closed_row id r
-row_in m (Unregister name) o r = unregistered_row r
+row_in m (Unregister name) o r = ended_row r
 row_in m (Launch uuid target state) o r = opened_row (comm_id uuid) target o
 row_in m (Push id state) o r = told_row id (at m.comms id) o
 row_in m (Send id body) o r = Same

@@ -4,7 +4,7 @@ use Rattle.std.specs.List.{Contains}
 use Rattle.comm_value.specs.Tree.{Members}
 use Rattle.comm_value.specs.Merge.{merged}
 use Rattle.comm_targets.specs.declared.kind.Kind.{Kind}
-use Rattle.comm_targets.specs.declared.kind.Kind.TheVariants.{Widget}
+use Rattle.comm_targets.specs.Meaning.{is_widget}
 use Rattle.comm_core.specs.Machine.{Name, Machine}
 use Rattle.comm_core.specs.declared.entry.Entry.{Entry}
 use Rattle.comm_core.specs.Reads.{infos, state_in, state_of}
@@ -31,8 +31,8 @@ HasNoOtherStates history m = (id : Name) → ((target : Name) → IsLeftOpen his
 -- a widget's comm has the state that it was opened with, merged with each update and push that was delivered since, in order
 abbrev pub MergesUpdates : List Entry → Machine → Type 0
 MergesUpdates history m =
-    (before : List Entry) (opener : Entry) (after : List Entry) (id target : Name) → IsOpenSince history before opener after id target
-    → IsRegistered before target Widget → (s : Members) × OpensWith opener s × (state_of m id ≡ State (fold merged s (updates id after)))
+    (before : List Entry) (opener : Entry) (after : List Entry) (id target : Name) (kind : Kind) → IsOpenSince history before opener after id target
+    → IsRegistered before target kind → is_widget kind ≡ true → (s : Members) × OpensWith opener s × (state_of m id ≡ State (fold merged s (updates id after)))
 
 -- the comms of an Echo or a Counter have no state
 abbrev pub LeavesSomeStateless : List Entry → Machine → Type 0

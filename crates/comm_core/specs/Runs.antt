@@ -9,7 +9,7 @@ use Rattle.comm_core.specs.Step.{Outcome, comm_id}
 use Rattle.comm_core.specs.declared.entry.Entry.{Entry}
 use Rattle.comm_core.specs.declared.entry.Entry.TheVariants.{Change, End}
 use Rattle.comm_core.specs.declared.call.Call.{Call}
-use Rattle.comm_core.specs.declared.call.Call.TheVariants.{Open, Msg, Close, Unregister, Launch, Push, HangUp}
+use Rattle.comm_core.specs.declared.call.Call.TheVariants.{Register, Open, Msg, Close, Unregister, Launch, Push, HangUp}
 use Rattle.comm_core.specs.declared.reply.Reply.{Reply}
 use Rattle.comm_core.specs.declared.reply.Reply.TheVariants as reply
 
@@ -29,11 +29,12 @@ abbrev pub HasOpened : Entry → Name → Name → Type 0
 HasOpened (Change client number call outcome r outgoing) id target = opening call r ≡ Some (id, target)
 HasOpened End id target = ⊥
 
--- the comm of this target is closed or hung up, or its target is taken out
+-- the comm of this target is closed or hung up, or its target is taken out or replaced
 abbrev pub ending : Call → Reply → Name → Name → Bool
 ending (Close closed) reply.Closed id target = bytes_eq id closed
 ending (HangUp closed) reply.Closed id target = bytes_eq id closed
 ending (Unregister name) (reply.Unregistered ids) id target = bytes_eq name target
+ending (Register name kind notes) (reply.Replaced ids) id target = bytes_eq name target
 ending call r id target = false
 
 abbrev pub has_ended : Name → Name → Entry → Bool

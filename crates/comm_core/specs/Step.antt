@@ -3,8 +3,9 @@
 -- A comm is opened, told and closed by 'comm_open', 'comm_msg' and 'comm_close' ('Messaging in Jupyter' 5.3, "Custom Messages"); whoever is
 -- sent an open for a target name that it doesn't know answers at once with 'comm_close'. As ipykernel's comm manager does, an open that its
 -- target refuses closes the comm, a message or a close for an id that no comm has is only noted, and a fault in a message leaves the comm open.
--- This manager's own rules: the open of an id that is in use is refused, and no close goes out, since that would end the live comm; a taken
--- name stays with its target; to unregister a target closes its comms in the order of opening; the kernel opens comms towards widgets alone.
+-- The register of a name that a target has replaces that target.
+-- This manager's own rules: the open of an id that is in use is refused, and no close goes out, since that would end the live comm; to unregister
+-- or to replace a target closes its comms in the order of opening; the kernel opens comms towards widgets alone.
 use Rattle.std.specs.Prelude.{ℕ, Bool, true, false, not, nat_le, length, map, List, [], ◌∷◌, ◌++◌, Option, Some, None, Result, Ok, Err, codes, if◌then◌else◌}
 use Rattle.uuid.specs.Text.{hyphenated_text, lower}
 use Rattle.comm_value.specs.Tree.{Members, no_members, member, dict}
@@ -34,6 +35,10 @@ use Rattle.comm_core.specs.declared.reply.Reply.TheVariants as reply
 
 abbrev pub with_target : Machine → Name → Kind → ℕ → Machine
 with_target m name kind notes = record { targets = m.targets ++ (name, record { kind = kind; notes = notes }) ∷ []; comms = m.comms }
+
+-- in the place of the target of this name, with no comm
+abbrev pub with_another : Machine → Name → Kind → ℕ → Machine
+with_another m name kind notes = record { targets = with_at m.targets name (record { kind = kind; notes = notes }); comms = others name m.comms }
 
 abbrev pub without_target : Machine → Name → Machine
 without_target m name = record { targets = without m.targets name; comms = others name m.comms }
@@ -92,7 +97,7 @@ comm_id uuid = hyphenated_text lower uuid
 -- the first of a call's tests that holds, or else what the call does
 abbrev pub judged : ℕ → Machine → Call → Verdict
 judged limit m (Register name kind notes) =
-    if has m.targets name then stays m reply.NameTaken
+    if has m.targets name then Done (reply.Replaced (ids_of name m.comms)) (map out.Close (ids_of name m.comms)) (with_another m name kind notes)
     else Done reply.Registered [] (with_target m name kind notes)
 judged limit m (Open id target version body) =
     if has m.comms id then stays m reply.IdInUse
@@ -132,7 +137,7 @@ pub record Stepped : Type 0 where
 abbrev pub sent : Name → List Content → List Outgoing
 sent id messages = map (λ body. out.Msg id body) messages
 
--- the body of the message by which the kernel opens a widget's comm ('Jupyter widgets messaging protocol' 2.0.0, "Instantiating a widget object")
+-- the body of the message by which the kernel opens a widget's comm ('Jupyter widgets messaging protocol' 2.1.0, "Instantiating a widget object")
 abbrev pub opening_of : Members → Content
 opening_of s = record {
   content = member (codes "buffer_paths") (paths_tree (member_paths s)) (member (codes "state") (dict (plain_members s)) no_members);
@@ -148,7 +153,7 @@ answered m target (event.Msg id body) a = record {
 }
 answered m target (event.Launch id state) a = record {
   reply = reply.Launched;
-  outgoing = out.Open id target (codes "2.0.0") (opening_of state) ∷ [];
+  outgoing = out.Open id target (codes "2.1.0") (opening_of state) ∷ [];
   next = with_comm m id target a.state;
 }
 answered m target (event.Push id state) a = record {
@@ -178,6 +183,7 @@ step limit m call outcome = stepped m (judged limit m call) outcome
 -- the replies of the calls that are done; any other leaves the machine as it was
 abbrev pub is_done : Reply → Bool
 is_done reply.Registered = true
+is_done (reply.Replaced ids) = true
 is_done reply.Opened = true
 is_done (reply.Delivered custom) = true
 is_done reply.Closed = true

@@ -8,7 +8,7 @@ use Rattle.comm_core.specs.Step.{Outcome}
 use Rattle.comm_core.specs.declared.comm.Comm.{Comm}
 use Rattle.comm_core.specs.declared.question.Question.{Question}
 use Rattle.comm_core.specs.declared.call.Call.{Call}
-use Rattle.comm_core.specs.declared.call.Call.TheVariants.{Unregister}
+use Rattle.comm_core.specs.declared.call.Call.TheVariants.{Register, Unregister}
 
 -- entries by name, and how many more fit with no memory
 pub record Table (X : Type 0) : Type 0 where
@@ -77,6 +77,7 @@ emptied m = record { kind = m.kind; notes = m.notes; ids = []; staged = m.staged
 -- the target that a call ends
 abbrev pub ended_of : Targets → Call → Option Meaning
 ended_of boxes (Unregister name) = option_map emptied (at boxes name)
+ended_of boxes (Register name kind notes) = option_map emptied (at boxes name)
 ended_of boxes call = None
 
 abbrev pub IdleWhere : Option Meaning → Type 0

@@ -23,22 +23,24 @@ use Rattle.comm_core.specs.declared.reply.Reply.TheVariants as reply
 -- the name and the kind of the target that is registered
 abbrev pub registering : Call → Reply → Option (Name × Kind)
 registering (Register name kind notes) reply.Registered = Some (name, kind)
+registering (Register name kind notes) (reply.Replaced ids) = Some (name, kind)
 registering call r = None
 
 abbrev pub HasRegistered : Entry → Name → Kind → Type 0
 HasRegistered (Change client number call outcome r outgoing) name kind = registering call r ≡ Some (name, kind)
 HasRegistered End name kind = ⊥
 
--- the target is taken out
+-- the target is taken out, or replaced
 abbrev pub unregistering : Call → Reply → Name → Bool
 unregistering (Unregister taken) (reply.Unregistered ids) name = bytes_eq taken name
+unregistering (Register taken kind notes) (reply.Replaced ids) name = bytes_eq taken name
 unregistering call r name = false
 
 abbrev pub has_unregistered : Name → Entry → Bool
 has_unregistered name (Change client number call outcome r outgoing) = unregistering call r name
 has_unregistered name End = true
 
--- A target of this kind was registered under the name, and nothing has taken it out since.
+-- A target of this kind was registered under the name, and nothing has taken it out or replaced it since.
 pub record IsRegistered (history : List Entry) (name : Name) (kind : Kind) : Type 0 where
   pub before : List Entry
   pub registrar : Entry
@@ -53,7 +55,7 @@ is_stateless Echo = true
 is_stateless Counter = true
 is_stateless kind = false
 
--- ---- what a widget is told ('Jupyter widgets messaging protocol' 2.0.0)
+-- ---- what a widget is told ('Jupyter widgets messaging protocol' 2.1.0)
 
 abbrev pub when_ok : Result Members TargetFault → Option Members
 when_ok (Ok s) = Some s

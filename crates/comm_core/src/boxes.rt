@@ -13,6 +13,7 @@ use comm_targets::{Answer, Event, Held, Kind, Target, TargetFault};
 use comm_value::{Dict, Text};
 use std::alloc::{AllocError, Global};
 use std::marker::Model;
+use std::mem;
 
 /// A target under its name.
 struct Named<T: Target> {
@@ -154,6 +155,18 @@ impl<T: Target> Boxes<T> {
         }
     }
 
+    /// Puts another target in the place of the one of this name.
+    pub fn replace(&mut self, name: &Text, held: Held<T>) -> Held<T>
+        requires here { IsSome (at self.old.all name.now) }
+        ensures was { at self.old.all name.now ≡ Some result }
+        ensures all { self.new.all ≡ with_at self.old.all name.now held }
+    {
+        match self.place_of(name) {
+            Some(i) => mem::replace(&mut self.all[i].held, held),
+            None => unreachable!(),
+        }
+    }
+
     /// Takes out the target of this name.
     pub fn take(&mut self, name: &Text) -> Option<Held<T>>
         ensures taken { result ≡ at self.old.all name.now }
@@ -211,5 +224,5 @@ fn place_in<T: Target>(all: &[Named<T>], name: &Text) -> Option<usize>
 fn is_widget(kind: Kind) -> bool
     ensures { result ≡ is_widget kind }
 {
-    matches!(kind, Kind::Widget)
+    matches!(kind, Kind::Widget | Kind::WidgetEcho)
 }

@@ -13,7 +13,7 @@ use uuid::Uuid;
 /// "Custom Messages"); the kernel itself asks for the others.
 #[derive(Drop)]
 pub enum Call {
-    /// Registers a target of this kind and with these notes under a name.
+    /// Registers a target of this kind and with these notes under a name, in the place of the target that has it, if there is one.
     Register {
         name: Text,
         kind: Kind,

@@ -1,10 +1,10 @@
 //! How the plan of a call is carried out, and how it is taken back.
-ghost use Rattle.std.specs.Prelude.{◌≡◌, ◌<◌, ◌++◌, ◌∷◌, [], Option, None, Some, Ok, OnOk, option_map};
-ghost use Rattle.comm_targets.specs.Meaning.{Meaning};
+ghost use Rattle.std.specs.Prelude.{◌≡◌, ◌<◌, ◌++◌, ◌∷◌, [], Option, None, Some, Ok, OnOk, IsSome, option_map};
+ghost use Rattle.comm_targets.specs.Meaning.{Meaning, IsIdle};
 ghost use Rattle.comm_core.specs.Machine.{at, AreDistinct};
-ghost use Rattle.comm_core.specs.Step.{Outcome, answered, without_comm, stated, without_target};
+ghost use Rattle.comm_core.specs.Step.{Outcome, answered, with_another, without_comm, stated, without_target};
 ghost use Rattle.comm_core.specs.Tables.{Opens, emptied, machine_of, Agrees, HaveStaged, IdleWhere, unstaged};
-ghost use Rattle.comm_core.specs.Plans.{Carried, Suits, planned, staged_by, ended_by, back_by};
+ghost use Rattle.comm_core.specs.Plans.{Carried, Suits, planned, staged_by, ended_by};
 ghost use Rattle.comm_core.specs.declared.comm.Comm.{Comm};
 ghost use Rattle.comm_core.specs.declared.plan.Plan.TheVariants.{Commit};
 
@@ -17,22 +17,6 @@ use comm_targets::{Answer, Event, Held, Target, TargetFault};
 use comm_value::{Dict, Text};
 use std::alloc::AllocError;
 
-/// What a change gives beside its reply.
-pub struct Made<T: Target> {
-    pub ended: Option<Held<T>>,
-    pub back: Option<T>,
-}
-
-impl<T: Target> Made<T> {
-    /// No target ends.
-    fn ending_none(back: Option<T>) -> Made<T>
-        ensures ended { result.ended ≡ None }
-        ensures back { option_map T.means result.back ≡ option_map T.means back }
-    {
-        Made { ended: None, back }
-    }
-}
-
 /// Makes room for what a plan may add: a target, or a comm.
 pub fn make_room<T: Target>(boxes: &mut Boxes<T>, comms: &mut Comms) -> Result<(), AllocError>
     ensures boxes { boxes.new.all ≡ boxes.old.all }
@@ -44,61 +28,69 @@ pub fn make_room<T: Target>(boxes: &mut Boxes<T>, comms: &mut Comms) -> Result<(
     comms.reserve()
 }
 
-/// Carries the plan out.
+/// Carries the plan out, and gives the target that ends by it.
 pub fn make<T: Target>(
     boxes: &mut Boxes<T>,
     comms: &mut Comms,
     plan: Plan,
     outcome: Option<Result<Answer, TargetFault>>,
     boxed: Option<T>,
-) -> Made<T>
+) -> Option<Held<T>>
     requires room { 0 < boxes.old.room }
     requires space { 0 < comms.old.room }
     requires agrees { Agrees (unstaged boxes.old.all) comms.old.all }
     requires staged { HaveStaged boxes.old.all (staged_by plan outcome) }
     requires suits { Suits (unstaged boxes.old.all) comms.old.all (option_map T.means boxed) plan outcome }
     ensures carried { Carried boxes.new.all comms.new.all (planned (machine_of boxes.old.all comms.old.all) plan outcome) }
-    ensures ended { result.ended ≡ ended_by boxes.old.all plan }
-    ensures idle { IdleWhere result.ended }
-    ensures back { option_map T.means result.back ≡ back_by plan (option_map T.means boxed) }
+    ensures ended { result ≡ ended_by boxes.old.all plan }
+    ensures idle { IdleWhere result }
 {
     match plan {
         Plan::Nothing => {
-            drop(outcome);
-            Made::ending_none(boxed)
+            drop((outcome, boxed));
+            None
         }
         Plan::Register { name, .. } => {
             drop(outcome);
             let Some(target) = boxed else {
-                return Made::ending_none(None);
+                return None;
             };
             boxes.push(name, Held::new(target));
-            Made::ending_none(None)
+            None
+        }
+        Plan::Replace { name, .. } => {
+            drop(outcome);
+            let Some(target) = boxed else {
+                return None;
+            };
+            replace(boxes, comms, &name, Held::new(target))
         }
         Plan::Unregister { name } => {
-            drop(outcome);
-            let ended = unregister(boxes, comms, &name);
-            Made { ended, back: boxed }
+            drop((outcome, boxed));
+            unregister(boxes, comms, &name)
         }
         Plan::Close { id } => {
-            drop(outcome);
+            drop((outcome, boxed));
             close(boxes, comms, &id);
-            Made::ending_none(boxed)
+            None
         }
-        Plan::Commit(question) => match outcome {
-            Some(Ok(answer)) => {
-                commit(boxes, comms, question, answer);
-                Made::ending_none(boxed)
+        Plan::Commit(question) => {
+            drop(boxed);
+            match outcome {
+                Some(Ok(answer)) => {
+                    commit(boxes, comms, question, answer);
+                    None
+                }
+                Some(Err(_)) => {
+                    drop(question);
+                    None
+                }
+                None => {
+                    drop(question);
+                    None
+                }
             }
-            Some(Err(_)) => {
-                drop(question);
-                Made::ending_none(boxed)
-            }
-            None => {
-                drop(question);
-                Made::ending_none(boxed)
-            }
-        },
+        }
     }
 }
 
@@ -192,6 +184,27 @@ fn unregister<T: Target>(boxes: &mut Boxes<T>, comms: &mut Comms, name: &Text) -
     taken
 }
 
+/// Puts a target in the place of the one of this name, whose comms are closed in it and taken out.
+fn replace<T: Target>(
+    boxes: &mut Boxes<T>,
+    comms: &mut Comms,
+    name: &Text,
+    held: Held<T>,
+) -> Option<Held<T>>
+    requires agrees { Agrees (unstaged boxes.old.all) comms.old.all }
+    requires none { HaveStaged boxes.old.all (λ _. None) }
+    requires here { IsSome (at boxes.old.all name.now) }
+    requires idle { IsIdle held }
+    ensures tables { Carried boxes.new.all comms.new.all (with_another (machine_of boxes.old.all comms.old.all) name.now held.kind held.notes) }
+    ensures ended { result ≡ option_map emptied (at boxes.old.all name.now) }
+    ensures idle { IdleWhere result }
+{
+    let mut replaced = boxes.replace(name, held);
+    comms.close_those_of(name, &mut replaced);
+    comms.remove_those_of(name); // The new target has none of them.
+    Some(replaced)
+}
+
 /// Takes back what the plan's target staged.
 pub fn unmake<T: Target>(boxes: &mut Boxes<T>, plan: &Plan)
     requires distinct { AreDistinct (unstaged boxes.old.all) }
@@ -202,6 +215,7 @@ pub fn unmake<T: Target>(boxes: &mut Boxes<T>, plan: &Plan)
         Plan::Commit(question) => boxes.abandon(&question.name),
         Plan::Nothing => {}
         Plan::Register { .. } => {}
+        Plan::Replace { .. } => {}
         Plan::Unregister { .. } => {}
         Plan::Close { .. } => {}
     }

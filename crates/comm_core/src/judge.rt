@@ -1,11 +1,12 @@
 //! What a call comes to before a target is asked.
-ghost use Rattle.std.specs.Prelude.{◌≡◌, ℕ, List, IfOk, None};
+ghost use Rattle.std.specs.Prelude.{◌≡◌, ℕ, List, IfOk, None, map};
 ghost use Rattle.comm_targets.specs.declared.event.Event.TheVariants as event;
-ghost use Rattle.comm_core.specs.Machine.{Machine};
-ghost use Rattle.comm_core.specs.Step.{judged, stays, refused_open, comm_id};
+ghost use Rattle.comm_messages.specs.declared.outgoing.Outgoing.TheVariants as out;
+ghost use Rattle.comm_core.specs.Machine.{Machine, ids_of};
+ghost use Rattle.comm_core.specs.Step.{Done, judged, stays, refused_open, comm_id};
 ghost use Rattle.comm_core.specs.Tables.{Targets, Opens, machine_of, Agrees, unstaged, ended_of};
 ghost use Rattle.comm_core.specs.Ready.{HandsNothingIn};
-ghost use Rattle.comm_core.specs.Plans.{verdict_of, IsFeasible};
+ghost use Rattle.comm_core.specs.Plans.{verdict_of, planned, registering, IsFeasible};
 ghost use Rattle.comm_core.specs.declared.call.Call.{Call};
 ghost use Rattle.comm_core.specs.declared.call.Call.TheVariants as call;
 ghost use Rattle.comm_core.specs.declared.plan.Judged.TheVariants as judged;
@@ -14,12 +15,13 @@ use crate::boxes::Boxes;
 use crate::call::Call;
 use crate::comm::Comm;
 use crate::comms::Comms;
+use crate::ids::Ids;
 use crate::outgoing::{closing, closings, comm_id, one};
 use crate::plan::{Judged, Plan};
 use crate::question::Question;
 use crate::reply::{Refusal, Reply};
 use comm_messages::{Body, Outgoing};
-use comm_targets::{Event, Target};
+use comm_targets::{Event, Kind, Target};
 use comm_value::{Dict, Text};
 use std::alloc::{AllocError, Global};
 use uuid::Uuid;
@@ -191,13 +193,52 @@ fn judge_unregister<T: Target>(
     if !boxes.contains(&name) {
         return Ok(stays(alloc, Reply::NoTarget));
     }
-    let ids = comms.ids_of(alloc, &name)?;
-    let outgoing = closings(alloc, ids.as_slice())?;
+    let (ids, outgoing) = ended(comms, alloc, &name)?;
     Ok(Judged::Done(
         Reply::Unregistered(ids),
         outgoing,
         Plan::Unregister { name },
     ))
+}
+
+/// The comms that are closed where the target of this name ends, and a close of each.
+fn ended(comms: &Comms, alloc: Global, name: &Text) -> Result<(Ids, Vec<Outgoing>), AllocError>
+    ensures ids { IfOk result (λ r. r.0 ≡ ids_of name.now comms.now.all) }
+    ensures closes { IfOk result (λ r. r.1.items ≡ map out.Close (ids_of name.now comms.now.all)) }
+{
+    let ids = comms.ids_of(alloc, name)?;
+    let outgoing = closings(alloc, ids.as_slice())?;
+    Ok((ids, outgoing))
+}
+
+/// What the register of a target of this kind and with these notes comes to.
+pub fn judge_register<T: Target>(
+    boxes: &Boxes<T>,
+    comms: &Comms,
+    alloc: Global,
+    name: &Text,
+    kind: Kind,
+    notes: u64,
+) -> Result<(Reply, Vec<Outgoing>, Plan), AllocError>
+    ensures verdict { IfOk result (λ r. (limit : ℕ) → Done r.0 r.1.items (planned (machine_of boxes.now.all comms.now.all) r.2 None) ≡ judged limit (machine_of boxes.now.all comms.now.all) (call.Register name.now kind notes)) }
+    ensures plan { IfOk result (λ r. r.2 ≡ registering boxes.now.all name.now kind notes) }
+{
+    let key = name.copy()?;
+    if !boxes.contains(name) {
+        let plan = Plan::Register {
+            name: key,
+            kind,
+            notes,
+        };
+        return Ok((Reply::Registered, Vec::new(alloc), plan));
+    }
+    let (ids, outgoing) = ended(comms, alloc, name)?;
+    let plan = Plan::Replace {
+        name: key,
+        kind,
+        notes,
+    };
+    Ok((Reply::Replaced(ids), outgoing, plan))
 }
 
 /// The comm's id, and the target's name, which shares the memory of the target's own.

@@ -84,7 +84,7 @@ pub fn comms_have_the_state_that_they_were_given_last()
 {}
 
 /// The comm of a widget has the state that it was opened with, merged with each update and push that was delivered since, in
-/// order ('Jupyter widgets messaging protocol' 2.0.0).
+/// order ('Jupyter widgets messaging protocol' 2.1.0).
 pub fn widgets_have_their_opening_state_merged_with_their_updates()
     ensures { (clients comms : ℕ) (h : List Entry) → IsLegal clients comms h → MergesUpdates h (replay comms h) }
 {}

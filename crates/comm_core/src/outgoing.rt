@@ -55,18 +55,18 @@ pub fn sent(alloc: Global, id: &Text, messages: &Bodies) -> Result<Vec<Outgoing>
     Ok(all)
 }
 
-/// The message by which the kernel opens a widget's comm ('Jupyter widgets messaging protocol' 2.0.0).
+/// The message by which the kernel opens a widget's comm ('Jupyter widgets messaging protocol' 2.1.0).
 pub fn launching(
     alloc: Global,
     id: &Text,
     target: &Text,
     state: &Dict,
 ) -> Result<Vec<Outgoing>, AllocError>
-    ensures { IfOk result (λ v. v.items ≡ out.Open id.now target.now (codes "2.0.0") (opening_of state.now) ∷ []) }
+    ensures { IfOk result (λ v. v.items ≡ out.Open id.now target.now (codes "2.1.0") (opening_of state.now) ∷ []) }
 {
     let id = id.copy()?;
     let target = target.copy()?;
-    let version = Text::copy_of(alloc, "2.0.0")?;
+    let version = Text::copy_of(alloc, "2.1.0")?;
     let body = opening_of(alloc, state)?;
     one(
         alloc,

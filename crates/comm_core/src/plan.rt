@@ -9,6 +9,8 @@ use comm_value::Text;
 pub enum Plan {
     Nothing,
     Register { name: Text, kind: Kind, notes: u64 },
+    /// Register it in the place of the target that has the name.
+    Replace { name: Text, kind: Kind, notes: u64 },
     Unregister { name: Text },
     Close { id: Text },
     /// Make the change that the target staged.

@@ -20,8 +20,8 @@ pub enum Refusal {
 #[derive(Drop)]
 pub enum Reply {
     Registered,
-    /// A target has the name already.
-    NameTaken,
+    /// The target stands in the place of the one that had the name, whose comms, these, are closed, in the order of opening.
+    Replaced(Ids),
     Opened,
     /// A comm has the id already.
     IdInUse,
@@ -71,7 +71,7 @@ impl Reply {
     {
         match self {
             Reply::Registered => Ok(Reply::Registered),
-            Reply::NameTaken => Ok(Reply::NameTaken),
+            Reply::Replaced(ids) => Ok(Reply::Replaced(ids.copy(alloc)?)),
             Reply::Opened => Ok(Reply::Opened),
             Reply::IdInUse => Ok(Reply::IdInUse),
             Reply::OpenRefused(why) => Ok(Reply::OpenRefused(why.copy())),

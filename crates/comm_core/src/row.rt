@@ -2,7 +2,7 @@
 ghost use Rattle.std.specs.Prelude.{◌≡◌, IfOk};
 ghost use Rattle.comm_core.specs.Planned.{answered_row, done_row, planned_row};
 ghost use Rattle.comm_core.specs.Ready.{CoreValue, IsReady, machine};
-ghost use Rattle.comm_core.specs.Row.{closed_row, put_row, row_in, stated_row, unregistered_row};
+ghost use Rattle.comm_core.specs.Row.{closed_row, ended_row, put_row, row_in, stated_row};
 
 use crate::call::Call;
 use crate::ids::Ids;
@@ -146,11 +146,13 @@ fn closed(alloc: Global, id: &Text, reply: &Reply) -> Result<Row, AllocError>
     }
 }
 
-fn unregistered(alloc: Global, reply: &Reply) -> Result<Row, AllocError>
-    ensures { IfOk result (λ r. r ≡ unregistered_row reply.now) }
+// The comms of a target that is taken out or replaced.
+fn ended(alloc: Global, reply: &Reply) -> Result<Row, AllocError>
+    ensures { IfOk result (λ r. r ≡ ended_row reply.now) }
 {
     match reply {
         Reply::Unregistered(ids) => Ok(Row::Out(ids.copy(alloc)?)),
+        Reply::Replaced(ids) => Ok(Row::Out(ids.copy(alloc)?)),
         _ => Ok(Row::Same),
     }
 }
@@ -162,7 +164,8 @@ fn done(alloc: Global, call: &Call, reply: &Reply) -> Result<Row, AllocError>
     match call {
         Call::Close { id } => closed(alloc, id, reply),
         Call::HangUp { id } => closed(alloc, id, reply),
-        Call::Unregister { .. } => unregistered(alloc, reply),
+        Call::Unregister { .. } => ended(alloc, reply),
+        Call::Register { .. } => ended(alloc, reply),
         _ => Ok(Row::Same),
     }
 }

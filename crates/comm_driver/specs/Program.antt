@@ -1,7 +1,7 @@
 -- The program: what it plays within, what it has in stock, and its exit status.
 use Rattle.std.specs.Prelude.{ℕ, List, [], ◌∷◌, Result, Ok, Err, ⊤}
 use Rattle.comm_targets.specs.declared.kind.Kind.{Kind}
-use Rattle.comm_targets.specs.declared.kind.Kind.TheVariants.{Echo, Counter, Widget}
+use Rattle.comm_targets.specs.declared.kind.Kind.TheVariants.{Echo, Counter, Widget, WidgetEcho}
 use Rattle.comm_core.specs.declared.limits.Limits.{Limits}
 use Rattle.comm_core.specs.Machine.{Registered}
 use Rattle.comm_script.specs.declared.fault.RunFault.{RunFault}
@@ -17,7 +17,8 @@ new_target kind = record { kind = kind; notes = 0 }
 -- two targets of each kind
 abbrev pub program_stock : List Registered
 program_stock =
-    new_target Echo ∷ new_target Echo ∷ new_target Counter ∷ new_target Counter ∷ new_target Widget ∷ new_target Widget ∷ []
+    new_target Echo ∷ new_target Echo ∷ new_target Counter ∷ new_target Counter
+    ∷ new_target Widget ∷ new_target Widget ∷ new_target WidgetEcho ∷ new_target WidgetEcho ∷ []
 
 -- 1: the script couldn't be read, or the answers couldn't be written; 2: there was no memory, or no version to read
 abbrev pub status_of : Result ⊤ RunFault → ℕ

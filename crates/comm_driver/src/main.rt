@@ -56,6 +56,10 @@ fn play<R: Read, W: Write, H: Wait>(
     add(&mut stock, widget)?;
     let other_widget: Box<dyn Target> = Box::new(alloc, WidgetTarget::new(alloc))?;
     add(&mut stock, other_widget)?;
+    let echoing: Box<dyn Target> = Box::new(alloc, WidgetTarget::with_echo(alloc))?;
+    add(&mut stock, echoing)?;
+    let other_echoing: Box<dyn Target> = Box::new(alloc, WidgetTarget::with_echo(alloc))?;
+    add(&mut stock, other_echoing)?;
     match over {
         Over::OneThread => run_with(alloc, reader, writer, LIMITS, stock),
         Over::Shared => run_shared_with(rt, alloc, reader, writer, LIMITS, stock),

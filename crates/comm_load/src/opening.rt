@@ -58,11 +58,7 @@ pub(crate) fn begin<J: Naming, T: Target, R: Wait>(
     requires { IsIdle (T.means target) }
 {
     let name = Text::copy_of(alloc, TARGET)?;
-    let is_registered = match client.register(rt, manager, name, target) {
-        Ok((_answered, back)) => back.is_none(),
-        Err((_why, _target)) => false,
-    };
-    if !is_registered {
+    if client.register(rt, manager, name, target).is_err() {
         return Err(Fault::Surprising);
     }
     let keys = keys(alloc, load.keys)?;

@@ -4,7 +4,7 @@ ghost use mathlib.Core.List.{IsPrefix};
 ghost use Rattle.std.specs.Arc.{arc_value};
 ghost use Rattle.comm_core.specs.History.{IsLegal, has_end, mine, replay};
 ghost use Rattle.comm_core.specs.Step.{step};
-ghost use Rattle.comm_core.specs.Ready.{CoreValue, IsReady, back_of, machine};
+ghost use Rattle.comm_core.specs.Ready.{CoreValue, IsReady, machine};
 ghost use Rattle.comm_core.specs.Tables.{IdleWhere};
 ghost use Rattle.comm_manager.specs.Asked.{IsNext, MayAsk, boxed_of, call_of, entry_of};
 ghost use Rattle.comm_manager.specs.Kept.{IsKept, Puts, Rests};
@@ -26,10 +26,9 @@ use comm_versions::{Change, Stamp, VersionReader, VersionWriter};
 use std::alloc::{AllocError, Global};
 use std::sync::{Arc, Wait};
 
-/// A change that was made: what it came to, a target that was refused, and one that has to be ended.
+/// A change that was made: what it came to, and a target that has to be ended.
 pub struct Made<J: Naming, T: Target> {
     pub answered: Answered<J>,
-    pub back: Option<T>,
     pub ended: Option<Held<T>>,
 }
 
@@ -44,7 +43,6 @@ struct Staged<T: Target> {
 struct Done<T: Target> {
     sent: Arc<Entry, Global>,
     reply: Reply,
-    back: Option<T>,
     ended: Option<Held<T>>,
 }
 
@@ -118,7 +116,6 @@ fn carry_out<T: Target>(core: &mut Core<T>, journal: &mut Journal, staged: Stage
     ensures limit { core.new.limit ≡ core.old.limit }
     ensures history { journal.new.all ≡ journal.old.all ++ arc_value staged.kept ∷ [] }
     ensures sent { arc_value result.sent ≡ arc_value staged.sent }
-    ensures back { option_map T.means result.back ≡ back_of staged.ready.reply staged.ready.boxed }
     ensures idle { IdleWhere result.ended }
 {
     let Staged { ready, kept, sent } = staged;
@@ -126,15 +123,9 @@ fn carry_out<T: Target>(core: &mut Core<T>, journal: &mut Journal, staged: Stage
         reply,
         outgoing: _outgoing,
         ended,
-        back,
     } = core.finish(ready);
     journal.add(kept);
-    Done {
-        sent,
-        reply,
-        back,
-        ended,
-    }
+    Done { sent, reply, ended }
 }
 
 // Publishes what is pending, and lets the reader hear of it.
@@ -220,7 +211,6 @@ pub fn perform<J: Naming, T: Target, R: Wait>(
     ensures stamp { IfOk result (λ m. (m.answered.stamp ≡ journal.new.all) × (m.answered.number ≡ length journal.new.all)) }
     ensures seen { IfOk result (λ m. (reader.new ≡ journal.new.all) × IsPrefix reader.old journal.old.all) }
     ensures ticket { OnOk result ((ticket.new ≡ tally ticket.old.client (ticket.old.number + 1)) × (length (mine journal.old.all ticket.old.client) ≡ ticket.old.number)) }
-    ensures back { IfOk result (λ m. option_map T.means m.back ≡ back_of m.answered.reply (boxed_of T.means request)) }
     ensures idle { IfOk result (λ m. IdleWhere m.ended) }
     ensures err { OnErr result ((ticket.new ≡ ticket.old) × (reader.new ≡ reader.old) × (journal.new.all ≡ journal.old.all)) }
     ensures why { IfErr result (λ e. Because J.limits e.0) }
@@ -238,12 +228,7 @@ pub fn perform<J: Naming, T: Target, R: Wait>(
     let who = (ticket.client(), ticket.number() + 1);
     match stage(alloc, core, writer, who, request) {
         Ok(staged) => {
-            let Done {
-                sent,
-                reply,
-                back,
-                ended,
-            } = carry_out(core, journal, staged);
+            let Done { sent, reply, ended } = carry_out(core, journal, staged);
             let stamp = tell(rt, writer, reader);
             outbox.put(rt, sent);
             books.count(ticket);
@@ -253,7 +238,6 @@ pub fn perform<J: Naming, T: Target, R: Wait>(
                     reply,
                     stamp,
                 },
-                back,
                 ended,
             })
         }

@@ -4,7 +4,7 @@ ghost use mathlib.Core.List.{IsPrefix};
 ghost use Rattle.comm_targets.specs.Meaning.{IsIdle};
 ghost use Rattle.comm_core.specs.History.{IsLegal, has_end, replay};
 ghost use Rattle.comm_core.specs.Reads.{infos, state_of};
-ghost use Rattle.comm_core.specs.Ready.{HandsNothingIn, back_of};
+ghost use Rattle.comm_core.specs.Ready.{HandsNothingIn};
 ghost use Rattle.comm_core.specs.declared.call.Call.TheVariants as call;
 ghost use Rattle.comm_manager.specs.Asked.{MayAsk, boxed_of, call_of};
 ghost use Rattle.comm_manager.specs.Kept.{counts};
@@ -102,10 +102,9 @@ impl<J: Naming> Client<J> {
         rt: &R,
         manager: &Manager<J, T>,
         request: Request<T>,
-    ) -> Result<(Answered<J>, Option<T>), (Unavailable<Stamp<J>>, Option<T>)>
+    ) -> Result<Answered<J>, (Unavailable<Stamp<J>>, Option<T>)>
         requires { MayAsk T.means request }
-        ensures answered { IfOk result (λ r. IsAnswered J.limits self.old self.new (call_of T.means request) r.0.number r.0.reply r.0.stamp) }
-        ensures back { IfOk result (λ r. option_map T.means r.1 ≡ back_of r.0.reply (boxed_of T.means request)) }
+        ensures answered { IfOk result (λ a. IsAnswered J.limits self.old self.new (call_of T.means request) a.number a.reply a.stamp) }
         ensures err { OnErr result (self.new ≡ self.old) }
         ensures why { IfErr result (λ e. Because J.limits e.0) }
         ensures boxed { IfErr result (λ e. option_map T.means e.1 ≡ boxed_of T.means request) }
@@ -116,17 +115,11 @@ impl<J: Naming> Client<J> {
             .change(rt, manager.alloc, self, request);
         // Here the lock is let go: a target may take its time to end.
         match made {
-            Ok(
-                Made {
-                    answered,
-                    back,
-                    ended,
-                },
-            ) => {
+            Ok(Made { answered, ended }) => {
                 if let Some(held) = ended {
                     held.end();
                 }
-                Ok((answered, back))
+                Ok(answered)
             }
             Err(refused) => Err(refused),
         }
@@ -145,28 +138,28 @@ impl<J: Naming> Client<J> {
         ensures why { IfErr result (λ e. Because J.limits e) }
     {
         match self.change(rt, manager, Request::Asked(call)) {
-            Ok((answered, _back)) => Ok(answered),
+            Ok(answered) => Ok(answered),
             Err((why, _back)) => Err(why),
         }
     }
 
-    /// Registers a target under a name. Where the name is taken, and where the change isn't made, the target comes back as it was.
+    /// Registers a target under a name, in the place of the one that has it, if there is one: that one ends. Where the change isn't made, the
+    /// target comes back as it was.
     pub fn register<T: Target, R: Wait>(
         &mut self,
         rt: &R,
         manager: &Manager<J, T>,
         name: Text,
         target: T,
-    ) -> Result<(Answered<J>, Option<T>), (Unavailable<Stamp<J>>, T)>
+    ) -> Result<Answered<J>, (Unavailable<Stamp<J>>, T)>
         requires { IsIdle (T.means target) }
-        ensures answered { IfOk result (λ r. IsAnswered J.limits self.old self.new (call.Register name (T.means target).kind (T.means target).notes) r.0.number r.0.reply r.0.stamp) }
-        ensures back { IfOk result (λ r. option_map T.means r.1 ≡ back_of r.0.reply (Some (T.means target))) }
+        ensures answered { IfOk result (λ a. IsAnswered J.limits self.old self.new (call.Register name (T.means target).kind (T.means target).notes) a.number a.reply a.stamp) }
         ensures err { OnErr result (self.new ≡ self.old) }
         ensures why { IfErr result (λ e. Because J.limits e.0) }
         ensures boxed { IfErr result (λ e. T.means e.1 ≡ T.means target) }
     {
         match self.change(rt, manager, Request::Registering(name, target)) {
-            Ok(done) => Ok(done),
+            Ok(answered) => Ok(answered),
             Err((why, back)) => match back {
                 Some(target) => Err((why, target)),
                 None => unreachable!(),

@@ -3,7 +3,6 @@ ghost use Rattle.std.specs.Prelude.{◌≡◌, ◌+◌, ◌<◌, ◌≤◌, ◌+
 ghost use Rattle.std.specs.Arc.{arc_value};
 ghost use Rattle.std.specs.Mem.{manually_drop_value};
 ghost use Rattle.comm_core.specs.History.{IsLegal, has_end};
-ghost use Rattle.comm_core.specs.Ready.{back_of};
 ghost use Rattle.comm_core.specs.Tables.{IdleWhere};
 ghost use Rattle.comm_core.specs.Limits.{AreAllowed};
 ghost use Rattle.comm_core.specs.declared.entry.Entry.TheVariants.{End};
@@ -108,7 +107,6 @@ impl<J: Naming, T: Target> Inner<J, T> {
         ensures answered { IfOk result (λ m. IsAnswered J.limits client.old client.new (call_of T.means request) m.answered.number m.answered.reply m.answered.stamp) }
         ensures next { IfOk result (λ m. IsNext self.old self.new client.old.client (client.old.number + 1) (call_of T.means request) m.answered.reply) }
         ensures history { IfOk result (λ m. self.new ≡ m.answered.stamp) }
-        ensures back { IfOk result (λ m. option_map T.means m.back ≡ back_of m.answered.reply (boxed_of T.means request)) }
         ensures idle { IfOk result (λ m. IdleWhere m.ended) }
         ensures err { OnErr result ((client.new ≡ client.old) × (self.new ≡ self.old)) }
         ensures why { IfErr result (λ e. Because J.limits e.0) }

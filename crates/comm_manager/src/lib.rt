@@ -24,7 +24,7 @@
 //!
 //! | What | Where |
 //! |---|---|
-//! | A target that was handed in comes back as it was, unless it is registered | `back`, `boxed` of [`Client::register`] |
+//! | A target that was handed in comes back as it was where the change isn't made | `boxed` of [`Client::register`] |
 //! | A read, or a stamp that is heard, leaves the client's changes | `made` of the reads and of [`Client::hear`] |
 //! | What is taken is the history from its beginning, each entry once and in its order: it grows by the very entry, and is legal; and with what was left it is the whole history | `next`, `legal` of [`Publisher::take`], `untaken` of [`Manager::shutdown`] |
 //! | A shutdown is refused for MissingClients just where a client is missing, and else for want of memory alone; the manager, the clients and the publisher come back as they were | `missing`, `err` of [`Manager::shutdown`] |

@@ -6,6 +6,7 @@ mod named;
 mod one_comm;
 mod one_waits;
 mod refusals;
+mod replacing;
 mod replay;
 mod threads;
 mod waiting;

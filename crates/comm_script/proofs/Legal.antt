@@ -9,7 +9,7 @@ use Rattle.comm_targets.specs.Answers.{answer_of, IsFreeAnswer}
 use Rattle.comm_targets.specs.Widget.{nothing}
 use Rattle.comm_targets.specs.declared.answer.Answer.{Answer}
 use Rattle.comm_targets.specs.declared.kind.Kind.{Kind}
-use Rattle.comm_targets.specs.declared.kind.Kind.TheVariants.{Echo, Counter, Widget, Free}
+use Rattle.comm_targets.specs.declared.kind.Kind.TheVariants.{Echo, Counter, Widget, WidgetEcho, Free}
 use Rattle.comm_targets.specs.declared.event.Event.{Event}
 use Rattle.comm_targets.specs.declared.event.Event.TheVariants as event
 use Rattle.comm_messages.specs.Gives as message
@@ -22,7 +22,6 @@ use Rattle.comm_messages.specs.declared.fault.MessageFault.TheVariants.{BadClien
 use Rattle.comm_core.specs.declared.limits.Limits.{Limits}
 use Rattle.comm_core.specs.declared.call.Call.{Call}
 use Rattle.comm_core.specs.declared.call.Call.TheVariants.{Register}
-use Rattle.comm_core.specs.declared.reply.Reply.{Reply}
 use Rattle.comm_core.specs.declared.question.Question.{Question}
 use Rattle.comm_core.specs.declared.entry.Entry.{Entry}
 use Rattle.comm_core.specs.declared.entry.Entry.TheVariants.{Change, End}
@@ -35,7 +34,7 @@ use Rattle.comm_script.specs.Line.{Reading, of_message}
 use Rattle.comm_script.specs.Lines.{is_blank, lines_of}
 use Rattle.comm_script.specs.Command.{asked, asked_in, asked_by, asked_by_message, command}
 use Rattle.comm_script.specs.Stock.{first_of, rest_of}
-use Rattle.comm_script.specs.Played.{Standing, says, machine, changed, called, registered, restocked, obeyed, answered, turn, played_from, history_of}
+use Rattle.comm_script.specs.Played.{Standing, says, machine, changed, called, registered, obeyed, answered, turn, played_from, history_of}
 use Rattle.comm_script.specs.declared.stock.StockKind.{StockKind}
 use Rattle.comm_script.specs.declared.asked.Asked.{Asked as Wish}
 use Rattle.comm_script.specs.declared.asked.Asked.TheVariants as wish
@@ -116,6 +115,8 @@ outcome_given Counter notes q (Ok a) is = is
 outcome_given Counter notes q (Err f) is = is
 outcome_given Widget notes q (Ok a) is = is
 outcome_given Widget notes q (Err f) is = is
+outcome_given WidgetEcho notes q (Ok a) is = is
+outcome_given WidgetEcho notes q (Err f) is = is
 outcome_given Free notes q (Ok a) is = free_given q.event a is
 outcome_given Free notes q (Err f) is = cc
 
@@ -145,7 +146,7 @@ going_more (End ∷ es) client n c o s h = absurd (true≢false h)
 going_more (Change k m d p r out ∷ es) client n c o s h = going_more es client n c o s h
 
 module _ (limits : Limits) (some : 0 < limits.clients) (grow : Grows) where
-  changed_goes : (now : Standing) (client : ℕ) (c : Call) (left : Reply → List Registered) (o : Option Stepped) → Goes limits now.history → client < limits.clients
+  changed_goes : (now : Standing) (client : ℕ) (c : Call) (left : List Registered) (o : Option Stepped) → Goes limits now.history → client < limits.clients
       → step limits.comms (machine limits now) c (exact_outcome limits.comms (machine limits now) c) ≡ o → Goes limits (changed limits now client c left o).after.history
   changed_goes now client c left None h below is = h
   changed_goes now client c left (Some s) h below is = record {
@@ -153,16 +154,16 @@ module _ (limits : Limits) (some : 0 < limits.clients) (grow : Grows) where
     going = going_more now.history client _ c _ s h.going;
   }
 
-  called_goes : (now : Standing) (client : ℕ) (c : Call) (left : Reply → List Registered) → Goes limits now.history → client < limits.clients → Goes limits (called limits now client c left).after.history
+  called_goes : (now : Standing) (client : ℕ) (c : Call) (left : List Registered) → Goes limits now.history → client < limits.clients → Goes limits (called limits now client c left).after.history
   called_goes now client c left h below = changed_goes now client c left (step limits.comms (machine limits now) c (exact_outcome limits.comms (machine limits now) c)) h below refl
 
   registered_goes : (now : Standing) (number client : ℕ) (kind : StockKind) (name : Name) (r : Option Registered) → Goes limits now.history → client < limits.clients
       → Goes limits (registered limits now number client kind name r).after.history
   registered_goes now number client kind name None h below = h
-  registered_goes now number client kind name (Some r) h below = called_goes now client (Register name r.kind r.notes) (restocked r (rest_of kind now.stock)) h below
+  registered_goes now number client kind name (Some r) h below = called_goes now client (Register name r.kind r.notes) (rest_of kind now.stock) h below
 
   obeyed_goes : (now : Standing) (number client : ℕ) (a : Wish) → Goes limits now.history → client < limits.clients → Goes limits (obeyed limits now number client a).after.history
-  obeyed_goes now number client (wish.Change c) h below = called_goes now client c (λ reply. now.stock) h below
+  obeyed_goes now number client (wish.Change c) h below = called_goes now client c now.stock h below
   obeyed_goes now number client (wish.Register kind name) h below = registered_goes now number client kind name (first_of kind now.stock) h below
   obeyed_goes now number client (wish.Infos target) h below = h
   obeyed_goes now number client (wish.State id) h below = h

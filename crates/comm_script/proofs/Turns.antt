@@ -1,18 +1,15 @@
 -- One change more.
 use Rattle.std.proofs.Common.{◌≡◌, ◌≢◌, ℕ, ◌+◌, ◌<◌, List, [], ◌∷◌, ◌++◌, length, get_or, set, Bool, true, false, Option, Some, None, refl, sym, ap, subst, ◌∙◌, inl, inr, length-append, append-nil, get_or-set_other, get_or-set_same}
-use Rattle.std.specs.Prelude.{◌==◌, option_map, option_to_list}
+use Rattle.std.specs.Prelude.{◌==◌}
 use Rattle.std.proofs.lemmas.Bool.{ne_eqb, eqb-false, true_from_ne_false}
 use Rattle.std.proofs.lemmas.Bool.Decides.{eqb_tells}
 use Rattle.std.proofs.lemmas.List.Elements.{filter-append}
 use Rattle.comm_messages.specs.declared.outgoing.Parent.TheVariants as parent
-use Rattle.comm_targets.specs.Meaning.{Meaning}
 use Rattle.comm_targets.specs.declared.kind.Kind.{Kind}
 use Rattle.comm_targets.specs.declared.kind.Kind.TheVariants as kind
 use Rattle.comm_core.specs.declared.limits.Limits.{Limits}
 use Rattle.comm_core.specs.declared.call.Call.{Call}
 use Rattle.comm_core.specs.declared.call.Call.TheVariants.{Register, Open, Msg, Close, Unregister, Launch, Push, Send, HangUp}
-use Rattle.comm_core.specs.declared.reply.Reply.{Reply}
-use Rattle.comm_core.specs.declared.reply.Reply.TheVariants as reply
 use Rattle.comm_core.specs.Machine.{Machine, Registered, Name, has}
 use Rattle.comm_core.specs.Step.{Outcome, Stepped, step, asks, Allowed}
 use Rattle.comm_core.specs.Exact.{exact_outcome, outcome_at, is_exact, is_free, registers_free}
@@ -22,9 +19,8 @@ use Rattle.comm_core.specs.declared.entry.Entry.{Entry}
 use Rattle.comm_core.specs.declared.entry.Entry.TheVariants.{Change}
 use Rattle.comm_core.specs.Ready as core
 use Rattle.comm_script.specs.Words.{reply_line, out_lines}
-use Rattle.comm_core.specs.Tables.{registered_of}
 use Rattle.comm_script.specs.Stock.{first_of, rest_of, has_kind}
-use Rattle.comm_script.specs.Played.{Standing, Turn, machine, called, changed, restocked}
+use Rattle.comm_script.specs.Played.{Standing, Turn, machine, called, changed}
 use Rattle.comm_script.specs.Session.{Stands}
 use Rattle.comm_script.specs.declared.session.Session.{Session}
 use Rattle.comm_script.specs.declared.stock.StockKind.{StockKind}
@@ -100,21 +96,21 @@ stands_grown limits now client c S s new stock stands is h below same limit next
   ]);
 }
 
-called_is : (limits : Limits) (now : Standing) (client : ℕ) (c : Call) (left : Reply → List Registered) (S : Stepped)
+called_is : (limits : Limits) (now : Standing) (client : ℕ) (c : Call) (left : List Registered) (S : Stepped)
     → step limits.comms (machine limits now) c (exact_outcome limits.comms (machine limits now) c) ≡ Some S
     → called limits now client c left ≡ changed limits now client c left (Some S)
 called_is limits now client c left S is = ap (changed limits now client c left) is
 
-pub stands_called : {A : Type 0} (limits : Limits) (now : Standing) (client : ℕ) (c : Call) (left : Reply → List Registered) (S : Stepped) (s new : Session A)
+pub stands_called : {A : Type 0} (limits : Limits) (now : Standing) (client : ℕ) (c : Call) (left : List Registered) (S : Stepped) (s new : Session A)
     → Stands limits now s → step limits.comms (machine limits now) c (exact_outcome limits.comms (machine limits now) c) ≡ Some S → client < length s.made → client < 4
-    → new.limits ≡ s.limits → new.core.limit ≡ s.core.limit → core.machine new.core ≡ S.next → is_exact S.next ≡ true → new.stock.targets ≡ left S.reply → new.changes ≡ s.changes + 1
+    → new.limits ≡ s.limits → new.core.limit ≡ s.core.limit → core.machine new.core ≡ S.next → is_exact S.next ≡ true → new.stock.targets ≡ left → new.changes ≡ s.changes + 1
     → new.made ≡ set s.made client (get_or s.made client 0 + 1) → Stands limits (called limits now client c left).after new
 stands_called limits now client c left S s new stands is h below same limit next exact shelf changes made =
     subst (λ (t : Turn). Stands limits t.after new) (sym (called_is limits now client c left S is))
-    (stands_grown limits now client c S s new (left S.reply) stands is h below same limit next exact shelf changes made)
+    (stands_grown limits now client c S s new (left) stands is h below same limit next exact shelf changes made)
 
 -- what is said of a change
-pub said : {A : Type 0} (limits : Limits) (now : Standing) (client : ℕ) (c : Call) (left : Reply → List Registered) (S : Stepped) (s : Session A) (old new : List ℕ) → Stands limits now s
+pub said : {A : Type 0} (limits : Limits) (now : Standing) (client : ℕ) (c : Call) (left : List Registered) (S : Stepped) (s : Session A) (old new : List ℕ) → Stands limits now s
     → step limits.comms (machine limits now) c (exact_outcome limits.comms (machine limits now) c) ≡ Some S → client < 4
     → new ≡ old ++ (reply_line (s.changes + 1) S.reply ++ out_lines S.outgoing (parent.Call client (get_or s.made client 0 + 1))) → new ≡ old ++ (called limits now client c left).text
 said limits now client c left S s old new stands is below p =
@@ -135,9 +131,11 @@ kind_fits : (w : StockKind) (k : Kind) → has_kind w k ≡ true → is_free k �
 kind_fits w kind.Echo h = refl
 kind_fits w kind.Counter h = refl
 kind_fits w kind.Widget h = refl
+kind_fits w kind.WidgetEcho h = refl
 kind_fits stock_kind.Echo kind.Free h = cc
 kind_fits stock_kind.Counter kind.Free h = cc
 kind_fits stock_kind.Widget kind.Free h = cc
+kind_fits stock_kind.WidgetEcho kind.Free h = cc
 
 first_case : (w : StockKind) (x : Registered) (rs : List Registered) (r : Registered) → (first_of w rs ≡ Some r → is_free r.kind ≡ false) → (b : Bool) → has_kind w x.kind ≡ b → first_of w (x ∷ rs) ≡ Some r → is_free r.kind ≡ false
 first_case w x rs r more true h is = let found : Some x ≡ Some r = rw h at is in let same : x ≡ r = cc in subst (λ (q : Registered). is_free q.kind ≡ false) same (kind_fits w x.kind h)
@@ -156,25 +154,6 @@ rest_case w x rs more false h is = rw h (ap (λ l. x ∷ l) (more (rw h at is)))
 pub rest_without : (w : StockKind) (rs : List Registered) → first_of w rs ≡ None → rest_of w rs ≡ rs
 rest_without w [] is = refl
 rest_without w (x ∷ rs) is = rest_case w x rs (λ h. rest_without w rs h) (has_kind w x.kind) refl is
-
-pub restocked_is : (m : Meaning) (rest : List Registered) (r : Reply) → restocked (registered_of m) rest r ≡ rest ++ option_to_list (option_map registered_of (core.back_of r (Some m)))
-restocked_is m rest reply.Registered = sym (append-nil rest)
-restocked_is m rest reply.NameTaken = refl
-restocked_is m rest reply.Opened = refl
-restocked_is m rest reply.IdInUse = refl
-restocked_is m rest (reply.OpenRefused why) = refl
-restocked_is m rest (reply.Delivered custom) = refl
-restocked_is m rest (reply.Fault fault) = refl
-restocked_is m rest reply.NoComm = refl
-restocked_is m rest reply.Closed = refl
-restocked_is m rest (reply.Unregistered ids) = refl
-restocked_is m rest reply.NoTarget = refl
-restocked_is m rest reply.Launched = refl
-restocked_is m rest reply.NotWidget = refl
-
-pub mapped : {A : Type 0} (means : A → Meaning) (o : Option A) → option_map (λ t. registered_of (means t)) o ≡ option_map registered_of (option_map means o)
-mapped means None = refl
-mapped means (Some t) = refl
 
 pub unasked : (limit : ℕ) (m : Machine) (name : Name) (k : Kind) (notes : ℕ) → Allowed m (asks limit m (Register name k notes)) None
 unasked limit m name k notes = subst (λ (q : Option Question). Allowed m q None) (sym (asks_nothing limit m name k notes)) tt

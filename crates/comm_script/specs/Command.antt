@@ -53,6 +53,7 @@ kind_named name =
     if bytes_eq name (codes "echo") then Some stock_kind.Echo
     else if bytes_eq name (codes "counter") then Some stock_kind.Counter
     else if bytes_eq name (codes "widget") then Some stock_kind.Widget
+    else if bytes_eq name (codes "widget_echo") then Some stock_kind.WidgetEcho
     else None
 
 abbrev pub kind_field : Members → Reading StockKind

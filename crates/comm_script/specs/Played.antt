@@ -6,8 +6,6 @@ use Rattle.comm_messages.specs.declared.outgoing.Parent.TheVariants as parent
 use Rattle.comm_core.specs.declared.limits.Limits.{Limits}
 use Rattle.comm_core.specs.declared.call.Call.{Call}
 use Rattle.comm_core.specs.declared.call.Call.TheVariants as call
-use Rattle.comm_core.specs.declared.reply.Reply.{Reply}
-use Rattle.comm_core.specs.declared.reply.Reply.TheVariants as reply
 use Rattle.comm_core.specs.Machine.{Name, Machine, Registered}
 use Rattle.comm_core.specs.Step.{Stepped, step}
 use Rattle.comm_core.specs.Exact.{exact_outcome}
@@ -41,36 +39,31 @@ says now text = record { after = now; text = text }
 abbrev pub machine : Limits → Standing → Machine
 machine limits now = replay limits.comms now.history
 
--- The client's next change, where it comes to this; `left` is the stock that its reply leaves. A step is none only where an outcome is missing,
+-- The client's next change, where it comes to this; `left` is the stock after it. A step is none only where an outcome is missing,
 -- and an exact one never is.
-abbrev pub changed : Limits → Standing → ℕ → Call → (Reply → List Registered) → Option Stepped → Turn
+abbrev pub changed : Limits → Standing → ℕ → Call → List Registered → Option Stepped → Turn
 changed limits now client asked left None = says now []
 changed limits now client asked left (Some s) =
     let number = length (mine now.history client) + 1 in
     record {
       after = record {
         history = now.history ++ Change client number asked (exact_outcome limits.comms (machine limits now) asked) s.reply s.outgoing ∷ [];
-        stock = left s.reply;
+        stock = left;
       };
       text = reply_line (length now.history + 1) s.reply ++ out_lines s.outgoing (parent.Call client number);
     }
 
-abbrev pub called : Limits → Standing → ℕ → Call → (Reply → List Registered) → Turn
+abbrev pub called : Limits → Standing → ℕ → Call → List Registered → Turn
 called limits now client asked left =
     changed limits now client asked left (step limits.comms (machine limits now) asked (exact_outcome limits.comms (machine limits now) asked))
-
--- a target that isn't registered comes back, and goes to the end of the stock
-abbrev pub restocked : Registered → List Registered → Reply → List Registered
-restocked r rest reply.Registered = rest
-restocked r rest other = rest ++ r ∷ []
 
 abbrev pub registered : Limits → Standing → ℕ → ℕ → StockKind → Name → Option Registered → Turn
 registered limits now number client kind name None = says now (bad_line number NoStock)
 registered limits now number client kind name (Some r) =
-    called limits now client (call.Register name r.kind r.notes) (restocked r (rest_of kind now.stock))
+    called limits now client (call.Register name r.kind r.notes) (rest_of kind now.stock)
 
 abbrev pub obeyed : Limits → Standing → ℕ → ℕ → Asked → Turn
-obeyed limits now number client (Change asked) = called limits now client asked (λ reply. now.stock)
+obeyed limits now number client (Change asked) = called limits now client asked now.stock
 obeyed limits now number client (Register kind name) = registered limits now number client kind name (first_of kind now.stock)
 obeyed limits now number client (Infos target) =
     says now (out_line (out.InfoReply (infos (machine limits now) target)) (parent.Read client (length now.history)))

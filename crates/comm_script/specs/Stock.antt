@@ -7,12 +7,13 @@ use Rattle.comm_targets.specs.Meaning.{Meaning, IsIdle}
 use Rattle.comm_script.specs.declared.stock.StockKind.{StockKind}
 use Rattle.comm_script.specs.declared.stock.StockKind.TheVariants as stock_kind
 use Rattle.comm_targets.specs.declared.kind.Kind.{Kind}
-use Rattle.comm_targets.specs.declared.kind.Kind.TheVariants.{Echo, Counter, Widget}
+use Rattle.comm_targets.specs.declared.kind.Kind.TheVariants.{Echo, Counter, Widget, WidgetEcho}
 
 abbrev pub has_kind : StockKind → Kind → Bool
 has_kind stock_kind.Echo Echo = true
 has_kind stock_kind.Counter Counter = true
 has_kind stock_kind.Widget Widget = true
+has_kind stock_kind.WidgetEcho WidgetEcho = true
 has_kind w k = false
 
 -- the first target of the kind

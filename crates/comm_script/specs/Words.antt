@@ -103,7 +103,7 @@ delivered_words (Some custom) = codes "custom " ++ compact_text (custom_json cus
 
 abbrev pub reply_words : Reply → List ℕ
 reply_words reply.Registered = codes "registered"
-reply_words reply.NameTaken = codes "name_taken"
+reply_words (reply.Replaced ids) = codes "replaced " ++ compact_text (array (texts ids))
 reply_words reply.Opened = codes "opened"
 reply_words reply.IdInUse = codes "id_in_use"
 reply_words (reply.OpenRefused why) = codes "refused " ++ refusal_words why

@@ -64,6 +64,8 @@ fn kind_named(name: &str) -> Option<StockKind>
         Some(StockKind::Counter)
     } else if name == "widget" {
         Some(StockKind::Widget)
+    } else if name == "widget_echo" {
+        Some(StockKind::WidgetEcho)
     } else {
         None
     }

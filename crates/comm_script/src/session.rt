@@ -100,9 +100,9 @@ impl<T: Target> Session<T> {
         requires settled { self.old.core.settled ≡ true }
         requires call { HandsNothingIn call }
         ensures text { OnOk result ((limits : Limits) (now : Standing) → Stands limits now self.old
-            → text.new.items ≡ text.old.items ++ (called limits now client call (λ reply. now.stock)).text) }
+            → text.new.items ≡ text.old.items ++ (called limits now client call now.stock).text) }
         ensures stands { OnOk result ((limits : Limits) (now : Standing) → Stands limits now self.old
-            → Stands limits (called limits now client call (λ reply. now.stock)).after self.new) }
+            → Stands limits (called limits now client call now.stock).after self.new) }
         ensures within { (n : ℕ) → IsWithin n self.old → IsWithin (n + 1) self.new }
         ensures settled { self.new.core.settled ≡ true }
         ensures limits { self.new.limits ≡ self.old.limits }
@@ -144,9 +144,8 @@ impl<T: Target> Session<T> {
                 Ok(())
             }
             Some(target) => match self.core.register(name, target) {
-                Ok((reply, back)) => {
-                    self.stock.put_back(back);
-                    let answered = self.answer(alloc, client, &reply, &[], text);
+                Ok((reply, outgoing)) => {
+                    let answered = self.answer(alloc, client, &reply, &outgoing, text);
                     drop(reply);
                     answered
                 }

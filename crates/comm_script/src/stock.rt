@@ -1,5 +1,4 @@
-ghost use Rattle.std.specs.Prelude.{◌≡◌, ◌<◌, ◌++◌, [], ◌∷◌, true, IfSome, IfNone, IfErr, OnOk, OnErr, OnSome, map, option_map, option_to_list};
-ghost use Rattle.std.specs.Option.{ForSome};
+ghost use Rattle.std.specs.Prelude.{◌≡◌, ◌<◌, ◌++◌, [], ◌∷◌, true, IfSome, IfNone, IfErr, OnOk, OnErr, OnSome, map, option_map};
 ghost use Rattle.comm_targets.specs.Meaning.{Meaning, IsIdle};
 ghost use Rattle.comm_core.specs.Tables.{registered_of};
 ghost use Rattle.comm_script.specs.Stock.{has_kind, first_of, rest_of, shelved, AreIdle, IsPlace, IsWithout};
@@ -14,6 +13,7 @@ pub enum StockKind {
     Echo,
     Counter,
     Widget,
+    WidgetEcho,
 }
 
 fn has_kind(wanted: StockKind, kind: Kind) -> bool
@@ -23,6 +23,7 @@ fn has_kind(wanted: StockKind, kind: Kind) -> bool
         (StockKind::Echo, Kind::Echo) => true,
         (StockKind::Counter, Kind::Counter) => true,
         (StockKind::Widget, Kind::Widget) => true,
+        (StockKind::WidgetEcho, Kind::WidgetEcho) => true,
         _ => false,
     }
 }
@@ -78,15 +79,13 @@ impl<T: Target> Stock<T> {
         }
     }
 
-    /// Puts a target, where there is one, at the end.
-    pub fn put_back(&mut self, back: Option<T>)
-        requires idle { ForSome back (λ t. IsIdle (T.means t)) }
+    /// Puts a target at the end.
+    pub fn put_back(&mut self, target: T)
+        requires idle { IsIdle (T.means target) }
         requires room { 0 < self.old.room }
-        ensures { self.new.targets ≡ self.old.targets ++ option_to_list (option_map (λ t. registered_of (T.means t)) back) }
+        ensures { self.new.targets ≡ self.old.targets ++ registered_of (T.means target) ∷ [] }
     {
-        if let Some(target) = back {
-            self.targets.push_reserved(target);
-        }
+        self.targets.push_reserved(target);
     }
 }
 

@@ -204,7 +204,11 @@ fn append_reply_words(alloc: Global, reply: &Reply, out: &mut Vec<u8>) -> Result
 {
     match reply {
         Reply::Registered => append(b"registered", out),
-        Reply::NameTaken => append(b"name_taken", out),
+        Reply::Replaced(ids) => {
+            append(b"replaced ", out)?;
+            append_ids(ids.as_slice(), out)?;
+            Ok(())
+        }
         Reply::Opened => append(b"opened", out),
         Reply::IdInUse => append(b"id_in_use", out),
         Reply::OpenRefused(why) => {

@@ -1,10 +1,11 @@
-//! Whole scripts: `frontends`, `kernels` and `widgets` have rows that both managers answer alike, `shared` what the shared one alone says.
+//! Whole scripts: `frontends`, `kernels`, `widgets` and `echoes` have rows that both managers answer alike, `shared` what the shared one alone says.
 //! `cuts` has the rows cut after each byte, `deep` what nests as deep as a line may, with a small stack.
 ghost use Rattle.std.specs.Prelude.{IfOk, map};
 ghost use Rattle.comm_script.specs.Stock.{AreIdle};
 
 mod cuts;
 mod deep;
+mod echoes;
 mod ends;
 mod frontends;
 mod kernels;
@@ -76,6 +77,10 @@ fn stock(alloc: Global) -> Result<Vec<Box<dyn Target>>, RunFault>
     add(&mut stock, widget)?;
     let widget: Box<dyn Target> = Box::new(alloc, WidgetTarget::new(alloc))?;
     add(&mut stock, widget)?;
+    let echoing: Box<dyn Target> = Box::new(alloc, WidgetTarget::with_echo(alloc))?;
+    add(&mut stock, echoing)?;
+    let echoing: Box<dyn Target> = Box::new(alloc, WidgetTarget::with_echo(alloc))?;
+    add(&mut stock, echoing)?;
     Ok(stock)
 }
 
@@ -143,4 +148,10 @@ fn commands_are_answered(rt: HostRuntime) -> Result<(), Fail> {
 #[test]
 fn widgets_are_answered(rt: HostRuntime) -> Result<(), Fail> {
     all_give(&rt, rt.alloc(), &widgets::ROWS)
+}
+
+#[test]
+fn widgets_that_echo_are_answered(rt: HostRuntime) -> Result<(), Fail> {
+    all_give(&rt, rt.alloc(), &echoes::ROWS)?;
+    all_give(&rt, rt.alloc(), &echoes::AS_OTHERS)
 }

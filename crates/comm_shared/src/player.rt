@@ -93,7 +93,7 @@ impl<J: Naming, T: Target> Player<J, T> {
         }
     }
 
-    /// Registers the first target of the kind that the stock has. It comes back to the stock's end where it isn't registered.
+    /// Registers the first target of the kind that the stock has. It comes back to the stock's end where the change isn't made.
     fn register<R: Wait>(
         &mut self,
         rt: &R,
@@ -113,12 +113,9 @@ impl<J: Naming, T: Target> Player<J, T> {
             return Ok(());
         };
         match self.clients[client].register(rt, manager, name, target) {
-            Ok((answered, back)) => {
-                self.stock.put_back(back);
-                self.note(number, Ok(answered), text)
-            }
+            Ok(answered) => self.note(number, Ok(answered), text),
             Err((why, target)) => {
-                self.stock.put_back(Some(target));
+                self.stock.put_back(target);
                 self.note(number, Err(why), text)
             }
         }

@@ -1,12 +1,12 @@
 -- What a target of each kind may answer.
-use Rattle.std.specs.Prelude.{◌≡◌, ℕ, pos, [], Option, None, unwrap_or, Result, Ok, Err, codes}
+use Rattle.std.specs.Prelude.{◌≡◌, ℕ, pos, true, false, [], Option, None, unwrap_or, Result, Ok, Err, codes}
 use Rattle.comm_messages.specs.Content.{Content}
 use Rattle.comm_value.specs.Tree.{whole, Members, no_members, member}
 use Rattle.comm_targets.specs.Meaning.{one_more}
 use Rattle.comm_targets.specs.Widget as widget
 use Rattle.comm_targets.specs.Widget.{nothing, one_message}
 use Rattle.comm_targets.specs.declared.kind.Kind.{Kind}
-use Rattle.comm_targets.specs.declared.kind.Kind.TheVariants.{Echo, Counter, Widget, Free}
+use Rattle.comm_targets.specs.declared.kind.Kind.TheVariants.{Echo, Counter, Widget, WidgetEcho, Free}
 use Rattle.comm_targets.specs.declared.event.Event.{Event}
 use Rattle.comm_targets.specs.declared.event.Event.TheVariants.{Open, Msg}
 use Rattle.comm_targets.specs.declared.answer.Answer.{Answer}
@@ -31,7 +31,8 @@ counted notes e = nothing
 abbrev pub answer_of : Kind → ℕ → Option Members → Event → Result Answer TargetFault
 answer_of Echo notes now e = Ok (echo_of e)
 answer_of Counter notes now e = Ok (counted notes e)
-answer_of Widget notes now e = widget.answer_of (unwrap_or now no_members) e
+answer_of Widget notes now e = widget.answer_of false (unwrap_or now no_members) e
+answer_of WidgetEcho notes now e = widget.answer_of true (unwrap_or now no_members) e
 answer_of Free notes now e = Ok nothing
 
 -- a free target hands nothing to the caller where a comm is opened

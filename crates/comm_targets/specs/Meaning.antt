@@ -4,7 +4,7 @@ use Rattle.std.specs.List.{list_any}
 use Rattle.std.specs.Set.{remove_key}
 use Rattle.std.specs.Str.{bytes_eq}
 use Rattle.comm_targets.specs.declared.kind.Kind.{Kind}
-use Rattle.comm_targets.specs.declared.kind.Kind.TheVariants.{Counter, Widget}
+use Rattle.comm_targets.specs.declared.kind.Kind.TheVariants.{Counter, Widget, WidgetEcho}
 use Rattle.comm_targets.specs.declared.event.Event.{Event}
 use Rattle.comm_targets.specs.declared.event.Event.TheVariants.{Open, Msg, Launch, Push}
 use Rattle.comm_targets.specs.declared.answer.Answer.{Answer}
@@ -34,6 +34,7 @@ IsIdle m = (m.ids ≡ []) × (m.staged ≡ None)
 -- the kinds whose comms the kernel itself opens, and whose states it changes
 abbrev pub is_widget : Kind → Bool
 is_widget Widget = true
+is_widget WidgetEcho = true
 is_widget kind = false
 
 -- A comm that isn't open is opened, one that is open is told. Of widgets alone the kernel opens comms and changes states.

@@ -1,5 +1,5 @@
--- What a widget answers ('Jupyter widgets messaging protocol' 2.0.0).
-use Rattle.std.specs.Prelude.{ℕ, List, [], ◌∷◌, Bool, ◌==◌, if◌then◌else◌, Option, None, Some, unwrap_or, Result, Ok, Err, codes}
+-- What a widget answers ('Jupyter widgets messaging protocol' 2.1.0). One that echoes repeats to the frontends what a frontend's update brought.
+use Rattle.std.specs.Prelude.{ℕ, List, [], ◌∷◌, Bool, true, false, ◌==◌, if◌then◌else◌, Option, None, Some, unwrap_or, Result, Ok, Err, codes}
 use Rattle.std.specs.Result.{result_map_both}
 use Rattle.std.specs.List.{before_first}
 use Rattle.std.specs.Str.{bytes_eq}
@@ -81,45 +81,57 @@ opening_state version c = if is_supported version then given_state (get (codes "
 -- ---- messages ("State update messages")
 
 -- the data of the message that tells a state without its bytes, which stood at these paths
-abbrev pub update_data : List Path → Members → Members
-update_data paths plain =
+abbrev pub told_data : List ℕ → List Path → Members → Members
+told_data method paths plain =
     member (codes "buffer_paths") (paths_tree paths)
-    (member (codes "method") (text (codes "update")) (member (codes "state") (dict plain) no_members))
+    (member (codes "method") (text method) (member (codes "state") (dict plain) no_members))
 
--- the message that tells a state, or some of its keys
+-- the message of this method that tells a state, or some of its keys
+abbrev pub told : List ℕ → Members → Content
+told method u = record { content = told_data method (member_paths u) (plain_members u); buffers = member_buffers u }
+
 abbrev pub update_of : Members → Content
-update_of u = record { content = update_data (member_paths u) (plain_members u); buffers = member_buffers u }
+update_of u = told (codes "update") u
+
+-- `echo_update` of what an update brought: of no key, nothing
+abbrev pub echoes : Bool → Members → List Content
+echoes echoing no_members = []
+echoes echoing u = if echoing then told (codes "echo_update") u ∷ [] else []
 
 -- an answer with the state that was worked out, or why there is none
 abbrev pub answer_with : (Members → Answer) → Result Members TargetFault → Result Answer TargetFault
 answer_with answer (Ok s) = Ok (answer s)
 answer_with answer (Err f) = Err f
 
+-- the state with these keys in place of its own
+abbrev pub updated : Bool → Members → Members → Answer
+updated echoing now u = record { state = Some (merged now u); messages = echoes echoing u; custom = None }
+
 -- `update`: each top-level key of its `state` replaces that of the comm's state
-abbrev pub update_answer : Option Tree → Members → Content → Result Answer TargetFault
-update_answer None now c = Ok nothing
-update_answer (Some t) now c = answer_with (λ u. new_state (merged now u)) (state_of t c)
+abbrev pub update_answer : Bool → Option Tree → Members → Content → Result Answer TargetFault
+update_answer echoing None now c = Ok nothing
+update_answer echoing (Some t) now c = answer_with (updated echoing now) (state_of t c)
 
 -- `custom`: the caller is handed its `content`, with the message's buffers
 abbrev pub custom_answer : Option Tree → List (List ℕ) → Answer
 custom_answer None bs = nothing
 custom_answer (Some t) bs = record { state = None; messages = []; custom = Some (record { content = val_of t; buffers = bs }) }
 
-abbrev pub method_answer : List ℕ → Members → Content → Result Answer TargetFault
-method_answer method now c =
-    if bytes_eq method (codes "update") then update_answer (get (codes "state") c.content) now c
+abbrev pub method_answer : Bool → List ℕ → Members → Content → Result Answer TargetFault
+method_answer echoing method now c =
+    if bytes_eq method (codes "update") then update_answer echoing (get (codes "state") c.content) now c
     else if bytes_eq method (codes "request_state") then Ok (one_message (update_of now))
     else if bytes_eq method (codes "custom") then Ok (custom_answer (get (codes "content") c.content) c.buffers)
     else Err UnknownMethod
 
-abbrev pub message_answer : Option Tree → Members → Content → Result Answer TargetFault
-message_answer (Some (text method)) now c = method_answer method now c
-message_answer _ now c = Err NoMethod
+abbrev pub message_answer : Bool → Option Tree → Members → Content → Result Answer TargetFault
+message_answer echoing (Some (text method)) now c = method_answer echoing method now c
+message_answer echoing _ now c = Err NoMethod
 
 -- ---- the answer to each event, of a comm whose state is `now`
 
-abbrev pub answer_of : Members → Event → Result Answer TargetFault
-answer_of now (Open id version body) = answer_with new_state (opening_state version body)
-answer_of now (Msg id body) = message_answer (get (codes "method") body.content) now body
-answer_of now (Launch id state) = Ok (new_state state)
-answer_of now (Push id state) = Ok (record { state = Some (merged now state); messages = update_of state ∷ []; custom = None })
+abbrev pub answer_of : Bool → Members → Event → Result Answer TargetFault
+answer_of echoing now (Open id version body) = answer_with new_state (opening_state version body)
+answer_of echoing now (Msg id body) = message_answer echoing (get (codes "method") body.content) now body
+answer_of echoing now (Launch id state) = Ok (new_state state)
+answer_of echoing now (Push id state) = Ok (record { state = Some (merged now state); messages = update_of state ∷ []; custom = None })

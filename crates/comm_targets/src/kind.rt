@@ -7,6 +7,8 @@ pub enum Kind {
     Counter,
     /// Keeps the state of a Jupyter widget ('Jupyter widgets messaging protocol' 2.0.0).
     Widget,
+    /// The same, and repeats to the frontends what a frontend's update brought ('Jupyter widgets messaging protocol' 2.1.0, `echo_update`).
+    WidgetEcho,
     /// Answers as its author likes.
     Free,
 }

@@ -42,6 +42,10 @@ fn play<I: Read, O: Write, R: Threads + Wait + Sync>(
     add(&mut stock, widget)?;
     let other_widget: Box<dyn Target> = Box::new(alloc, WidgetTarget::new(alloc))?;
     add(&mut stock, other_widget)?;
+    let echoing: Box<dyn Target> = Box::new(alloc, WidgetTarget::with_echo(alloc))?;
+    add(&mut stock, echoing)?;
+    let other_echoing: Box<dyn Target> = Box::new(alloc, WidgetTarget::with_echo(alloc))?;
+    add(&mut stock, other_echoing)?;
     run(rt, alloc, reader, writer, stock)
 }
 

@@ -71,8 +71,8 @@ fn change<J: Naming, T: Target, R: Wait>(
     }
 }
 
-// Registers the first target of the kind that the stock has; None where none is left. It comes back to the stock's end where it isn't
-// registered.
+// Registers the first target of the kind that the stock has; None where none is left. It comes back to the stock's end where the change
+// isn't made.
 fn register<J: Naming, T: Target, R: Wait>(
     rt: &R,
     manager: &Manager<J, T>,
@@ -83,12 +83,9 @@ fn register<J: Naming, T: Target, R: Wait>(
 ) -> Option<Result<Answered<J>, Unavailable<Stamp<J>>>> {
     let target = stock.take(kind)?;
     match client.register(rt, manager, name, target) {
-        Ok((answered, back)) => {
-            stock.put_back(back);
-            Some(Ok(answered))
-        }
+        Ok(answered) => Some(Ok(answered)),
         Err((why, target)) => {
-            stock.put_back(Some(target));
+            stock.put_back(target);
             Some(Err(why))
         }
     }

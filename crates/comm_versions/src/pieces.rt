@@ -10,11 +10,16 @@ use comm_value::Text;
 use std::alloc::{AllocError, Global};
 use std::sync::Arc;
 
-// So many comms stand in a piece at most; a longer one is cut in two. It is the root of the greatest number of comms.
-const LONGEST: usize = 64;
+// So many comms may stand in a piece, however few the pieces are.
+const LONGEST: usize = 32;
 
-// Neighbours that have no more than so many together become one piece, so that there aren't more pieces than the comms need, whatever was closed.
-const SHORT: usize = 32;
+// So many comms may stand in one of so many pieces; a longer one is cut in two. A change copies a pointer to each piece and the comms of one: of many
+// comms, some root of their number each.
+fn longest(pieces: usize) -> usize
+    ensures { 2 ≤ result }
+{
+    LONGEST.max(pieces / 2)
+}
 
 // The same pieces, shared.
 fn shared(alloc: Global, pieces: &[Piece]) -> Result<Vec<Piece>, AllocError>
@@ -104,7 +109,8 @@ fn set_piece(
     if head.is_empty() {
         return Ok(all);
     }
-    if head.len() > LONGEST {
+    let most = longest(all.len());
+    if head.len() > most {
         let tail = head.split_off(head.len() / 2)?;
         all.insert(place, Arc::new(alloc, tail)?)?;
     }
@@ -112,7 +118,8 @@ fn set_piece(
     Ok(all)
 }
 
-// The pieces, with the one at this place and the next as one where they are short.
+// The pieces, with the one at this place and the next as one where both together are half a piece at most, so that there aren't many more pieces than
+// the comms need, whatever was closed.
 fn joined(alloc: Global, pieces: Vec<Piece>, place: usize) -> Result<Vec<Piece>, AllocError>
     requires { AllFilled pieces.items }
     ensures flat { IfOk result (λ all. flat all.items ≡ flat pieces.items) }
@@ -124,10 +131,11 @@ fn joined(alloc: Global, pieces: Vec<Piece>, place: usize) -> Result<Vec<Piece>,
     }
     let first = all[place].as_slice();
     let second = all[place + 1].as_slice();
-    if SHORT < first.len() + second.len() {
+    let short = longest(all.len()) / 2;
+    if short < first.len() + second.len() {
         return Ok(pieces);
     }
-    let mut both = Vec::with_capacity(alloc, SHORT)?;
+    let mut both = Vec::with_capacity(alloc, short)?;
     copy_all(first, &mut both)?;
     copy_all(second, &mut both)?;
     let mut rest = pieces;

@@ -4,7 +4,7 @@ use Rattle.comm_value.specs.Tree.{Tree, null, boolean, whole, text, bytes, list,
 use Rattle.comm_value.specs.Node.{Path}
 use Rattle.comm_value.specs.Paths.{paths_tree, path_tree, step_tree, items_from}
 use Rattle.comm_value.specs.Places.{has_bytes, items_have_bytes, members_have_bytes, plain, plain_items, plain_members, paths, item_paths, member_paths, buffers, item_buffers, member_buffers}
-use Rattle.comm_targets.specs.Widget.{update_data}
+use Rattle.comm_targets.specs.Widget.{told_data}
 use Rattle.comm_value.specs.declared.path.Step.TheVariants.{Key, Index}
 
 mutual
@@ -40,10 +40,10 @@ listed_free (p ∷ ps) = rw (steps_free p) (listed_free ps)
 pub paths_free : (ps : List Path) → has_bytes (paths_tree ps) ≡ false
 paths_free ps = listed_free ps
 
--- the data of an update message
-pub told_free : (ps : List Path) (plain state content : Members)
-    → content ≡ update_data ps plain → plain ≡ plain_members state → members_have_bytes content ≡ false
-told_free ps plain state content is told = rw (is, told, paths_free ps) (rw (plain_members_free state) refl)
+-- the data of a message that tells a state
+pub told_free : (method : List ℕ) (ps : List Path) (plain state content : Members)
+    → content ≡ told_data method ps plain → plain ≡ plain_members state → members_have_bytes content ≡ false
+told_free method ps plain state content is told = rw (is, told, paths_free ps) (rw (plain_members_free state) refl)
 
 -- a state without bytes is told as it is
 neither : (a b : Bool) → (a || b) ≡ false → (a ≡ false) × (b ≡ false)

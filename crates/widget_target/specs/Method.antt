@@ -1,11 +1,15 @@
--- The methods of a widget's messages ('Jupyter widgets messaging protocol' 2.0.0, "State update messages" and "Custom messages").
-use Rattle.std.specs.Prelude.{ℕ, List, Option, Some, Result, Ok, Err, codes, if◌then◌else◌}
+-- The methods of a widget's messages ('Jupyter widgets messaging protocol' 2.1.0, "State update messages" and "Custom messages").
+use Rattle.std.specs.Prelude.{ℕ, Bool, true, false, List, Option, Some, Result, Ok, Err, codes, if◌then◌else◌}
 use Rattle.std.specs.Str.{bytes_eq}
 use Rattle.comm_value.specs.Tree.{Tree, text}
 use Rattle.comm_targets.specs.declared.fault.TargetFault.{TargetFault}
 use Rattle.comm_targets.specs.declared.fault.TargetFault.TheVariants.{NoMethod, UnknownMethod}
+use Rattle.comm_targets.specs.declared.kind.Kind.{Kind}
+use Rattle.comm_targets.specs.declared.kind.Kind.TheVariants as kind
 use Rattle.widget_target.specs.declared.method.Method.{Method}
 use Rattle.widget_target.specs.declared.method.Method.TheVariants.{Update, RequestState, Custom}
+use Rattle.widget_target.specs.declared.telling.Telling.{Telling}
+use Rattle.widget_target.specs.declared.telling.Telling.TheVariants as telling
 
 abbrev pub method_named : List ℕ → Result Method TargetFault
 method_named name =
@@ -18,3 +22,13 @@ method_named name =
 abbrev pub method_of : Option Tree → Result Method TargetFault
 method_of (Some (text name)) = method_named name
 method_of _ = Err NoMethod
+
+-- of the message that tells a state
+abbrev pub method_name : Telling → List ℕ
+method_name telling.Update = codes "update"
+method_name telling.EchoUpdate = codes "echo_update"
+
+-- the kind of a target that echoes, or of one that doesn't
+abbrev pub kind_of : Bool → Kind
+kind_of true = kind.WidgetEcho
+kind_of false = kind.Widget

@@ -5,8 +5,9 @@ ghost use Rattle.widget_target.specs.Gives.{Gives};
 
 use crate::answers::one_message;
 use crate::method::{Method, method_of};
+use crate::telling::Telling;
 use crate::template::Template;
-use crate::update::{update_answer, update_body};
+use crate::update::{told_body, update_answer};
 use comm_messages::Body;
 use comm_targets::{Answer, Custom, TargetFault};
 use comm_value::Dict;
@@ -17,13 +18,14 @@ use std::alloc::{AllocError, Global};
 pub fn message_answer(
     alloc: Global,
     template: &mut Option<Template>,
+    echoing: bool,
     body: &Body,
     now: &Dict,
 ) -> Result<Answer, TargetFault>
-    ensures { Gives result (message_answer (get (codes "method") body.now.content) now.now body.now) }
+    ensures { Gives result (message_answer echoing (get (codes "method") body.now.content) now.now body.now) }
 {
     match method_of(body.content())? {
-        Method::Update => update_answer(alloc, body, now),
+        Method::Update => update_answer(alloc, template, echoing, body, now),
         Method::RequestState => Ok(requested(alloc, template, now)?),
         Method::Custom => Ok(custom_answer(alloc, body)?),
     }
@@ -37,7 +39,7 @@ fn requested(
 ) -> Result<Answer, AllocError>
     ensures { IfOk result (λ a. a ≡ one_message (update_of now.now)) }
 {
-    one_message(alloc, update_body(alloc, template, now)?)
+    one_message(alloc, told_body(alloc, template, Telling::Update, now)?)
 }
 
 // The answer to `custom`: the caller is handed the data's `content` and all the message's buffers.

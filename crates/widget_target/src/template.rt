@@ -2,12 +2,14 @@ ghost use Rattle.std.specs.Prelude.{◌≡◌, [], IfOk, codes};
 ghost use Rattle.comm_value.specs.Put.{insert};
 ghost use Rattle.comm_value.specs.Tree.{no_members};
 ghost use Rattle.comm_value.specs.View.{tree};
-ghost use Rattle.comm_targets.specs.Widget.{update_data};
+ghost use Rattle.comm_targets.specs.Widget.{told_data};
+ghost use Rattle.widget_target.specs.Method.{method_name};
 
+use crate::telling::Telling;
 use comm_value::{Dict, Path, Text, Val, paths_val};
 use std::alloc::{AllocError, Global};
 
-/// What all update messages have alike. They share it, so that each makes only what is its own.
+/// What all messages that tell a state have alike. They share it, so that each makes only what is its own.
 #[derive(Drop)]
 pub struct Template {
     // `{"buffer_paths":[],"method":"update","state":{}}`
@@ -15,7 +17,7 @@ pub struct Template {
     // The keys whose values are a message's own.
     buffer_paths: Text,
     state: Text,
-    ghost is_empty: { empty ≡ update_data [] no_members },
+    ghost is_empty: { empty ≡ told_data (codes "update") [] no_members },
     ghost is_buffer_paths: { buffer_paths ≡ codes "buffer_paths" },
     ghost is_state: { state ≡ codes "state" },
 }
@@ -32,10 +34,33 @@ impl Template {
         })
     }
 
-    fn filled(&self, alloc: Global, plain: Dict, paths: &[Path]) -> Result<Dict, AllocError>
-        ensures { IfOk result (λ d. d ≡ update_data paths.now plain) }
+    // The data of such a message that tells nothing. An echo has its method put in.
+    fn named(&self, alloc: Global, telling: Telling) -> Result<Dict, AllocError>
+        ensures { IfOk result (λ d. d ≡ told_data (method_name telling) [] no_members) }
     {
-        let Ok(data) = self.empty.copy() else {
+        let data = self.empty.copy()?;
+        match telling {
+            Telling::Update => Ok(data),
+            Telling::EchoUpdate => {
+                let Ok((key, method)) = method(alloc, telling) else {
+                    drop(data);
+                    return Err(AllocError);
+                };
+                data.insert(alloc, key, Val::Text(method))
+            }
+        }
+    }
+
+    fn filled(
+        &self,
+        alloc: Global,
+        telling: Telling,
+        plain: Dict,
+        paths: &[Path],
+    ) -> Result<Dict, AllocError>
+        ensures { IfOk result (λ d. d ≡ told_data (method_name telling) paths.now plain) }
+    {
+        let Ok(data) = self.named(alloc, telling) else {
             drop(plain);
             return Err(AllocError);
         };
@@ -55,11 +80,11 @@ impl Template {
 
 // The data of a message that tells nothing, by its keys.
 fn empty_data(alloc: Global, buffer_paths: &Text, state: &Text) -> Result<Dict, AllocError>
-    ensures { buffer_paths.now ≡ codes "buffer_paths" → state.now ≡ codes "state" → IfOk result (λ d. d ≡ update_data [] no_members) }
+    ensures { buffer_paths.now ≡ codes "buffer_paths" → state.now ≡ codes "state" → IfOk result (λ d. d ≡ told_data (codes "update") [] no_members) }
 {
     let paths = paths_val(alloc, &[])?;
     let data = with(alloc, Dict::new(), buffer_paths, paths)?;
-    let Ok((key, method)) = method(alloc) else {
+    let Ok((key, method)) = method(alloc, Telling::Update) else {
         drop(data);
         return Err(AllocError);
     };
@@ -67,11 +92,11 @@ fn empty_data(alloc: Global, buffer_paths: &Text, state: &Text) -> Result<Dict, 
     with(alloc, data, state, Val::Dict(Dict::new()))
 }
 
-fn method(alloc: Global) -> Result<(Text, Text), AllocError>
-    ensures { IfOk result (λ m. m ≡ (codes "method", codes "update")) }
+fn method(alloc: Global, telling: Telling) -> Result<(Text, Text), AllocError>
+    ensures { IfOk result (λ m. m ≡ (codes "method", method_name telling)) }
 {
     let key = Text::copy_of(alloc, "method")?;
-    let method = Text::copy_of(alloc, "update")?;
+    let method = Text::copy_of(alloc, telling.name())?;
     Ok((key, method))
 }
 
@@ -91,22 +116,23 @@ fn with(alloc: Global, dict: Dict, key: &Text, value: Val) -> Result<Dict, Alloc
 
 /// The data of the message that tells this state, with these paths of its buffers, by the template, which the first message makes.
 /// Err: memory.
-pub fn update_data(
+pub fn told_data(
     alloc: Global,
     template: &mut Option<Template>,
+    telling: Telling,
     plain: Dict,
     paths: &[Path],
 ) -> Result<Dict, AllocError>
-    ensures { IfOk result (λ d. d ≡ update_data paths.now plain) }
+    ensures { IfOk result (λ d. d ≡ told_data (method_name telling) paths.now plain) }
 {
     if let Some(made) = template.as_ref() {
-        return made.filled(alloc, plain, paths);
+        return made.filled(alloc, telling, plain, paths);
     }
     let Ok(made) = Template::new(alloc) else {
         drop(plain);
         return Err(AllocError);
     };
-    let data = made.filled(alloc, plain, paths);
+    let data = made.filled(alloc, telling, plain, paths);
     *template = Some(made);
     data
 }

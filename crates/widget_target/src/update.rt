@@ -2,28 +2,80 @@ ghost use Rattle.std.specs.Prelude.{◌≡◌, [], ◌∷◌, None, IfOk, codes}
 ghost use Rattle.comm_value.specs.Merge.{merged};
 ghost use Rattle.comm_value.specs.Node.{get};
 ghost use Rattle.comm_value.specs.Places.{plain_members, member_paths, member_buffers};
-ghost use Rattle.comm_targets.specs.Widget.{update_answer, update_of};
+ghost use Rattle.comm_targets.specs.Widget.{echoes, told, update_answer, updated, update_of};
+ghost use Rattle.widget_target.specs.Method.{method_name};
 ghost use Rattle.widget_target.specs.Gives.{Gives};
 
-use crate::answers::new_state;
 use crate::state::state_of;
-use crate::template::{Template, update_data};
+use crate::telling::Telling;
+use crate::template::{Template, told_data};
 use comm_messages::Body;
 use comm_targets::{Answer, Bodies, TargetFault};
 use comm_value::{Buffers, Dict, Separated, merge, separate};
 use std::alloc::{AllocError, Global};
 
-/// The answer to `update`: each top-level key of the data's `state` replaces that of the widget's state.
-/// Without `state` nothing is changed.
-pub fn update_answer(alloc: Global, body: &Body, now: &Dict) -> Result<Answer, TargetFault>
-    ensures { Gives result (update_answer (get (codes "state") body.now.content) now.now body.now) }
+/// The answer to `update`: each top-level key of the data's `state` replaces that of the widget's state, and one that echoes tells of them.
+/// Without `state` nothing is changed or told.
+pub fn update_answer(
+    alloc: Global,
+    template: &mut Option<Template>,
+    echoing: bool,
+    body: &Body,
+    now: &Dict,
+) -> Result<Answer, TargetFault>
+    ensures { Gives result (update_answer echoing (get (codes "state") body.now.content) now.now body.now) }
 {
     let Some(state) = body.content().get("state") else {
         return Ok(Answer::empty(alloc));
     };
     let update = state_of(alloc, state, body)?;
-    let merged = merge(alloc, now.copy()?, update)?;
-    Ok(new_state(alloc, merged))
+    Ok(updated(alloc, template, echoing, update, now)?)
+}
+
+// The answer to an update that brought these keys.
+fn updated(
+    alloc: Global,
+    template: &mut Option<Template>,
+    echoing: bool,
+    update: Dict,
+    now: &Dict,
+) -> Result<Answer, AllocError>
+    ensures { IfOk result (λ a. a ≡ updated echoing now.now update) }
+{
+    let Ok(messages) = echoes(alloc, template, echoing, &update) else {
+        drop(update);
+        return Err(AllocError);
+    };
+    let Ok(state) = merged(alloc, now, update) else {
+        drop(messages);
+        return Err(AllocError);
+    };
+    Ok(Answer {
+        state: Some(state),
+        messages,
+        custom: None,
+    })
+}
+
+fn merged(alloc: Global, now: &Dict, update: Dict) -> Result<Dict, AllocError>
+    ensures { IfOk result (λ s. s ≡ merged now.now update) }
+{
+    merge(alloc, now.copy()?, update)
+}
+
+// What is told of an update that brought these keys.
+fn echoes(
+    alloc: Global,
+    template: &mut Option<Template>,
+    echoing: bool,
+    update: &Dict,
+) -> Result<Bodies, AllocError>
+    ensures { IfOk result (λ m. m ≡ echoes echoing update.now) }
+{
+    if !echoing || update.is_empty() {
+        return Ok(Bodies::new(alloc));
+    }
+    told(alloc, template, Telling::EchoUpdate, update)
 }
 
 /// The answer to a change of these keys by the kernel: they replace those of the widget's state, and are told.
@@ -35,8 +87,8 @@ pub fn pushed(
 ) -> Result<Answer, AllocError>
     ensures { IfOk result (λ a. a ≡ record { state = Some (merged now.now update.now); messages = update_of update.now ∷ []; custom = None }) }
 {
-    let merged = merge(alloc, now.copy()?, update.copy()?)?;
-    let Ok(messages) = told(alloc, template, update) else {
+    let merged = merged(alloc, now, update.copy()?)?;
+    let Ok(messages) = told(alloc, template, Telling::Update, update) else {
         drop(merged);
         return Err(AllocError);
     };
@@ -48,30 +100,36 @@ pub fn pushed(
 }
 
 // The one message that tells these keys.
-fn told(alloc: Global, template: &mut Option<Template>, update: &Dict) -> Result<Bodies, AllocError>
-    ensures { IfOk result (λ m. m ≡ update_of update.now ∷ []) }
+fn told(
+    alloc: Global,
+    template: &mut Option<Template>,
+    telling: Telling,
+    update: &Dict,
+) -> Result<Bodies, AllocError>
+    ensures { IfOk result (λ m. m ≡ told (method_name telling) update.now ∷ []) }
 {
-    let body = update_body(alloc, template, update)?;
+    let body = told_body(alloc, template, telling, update)?;
     let mut messages = Bodies::new(alloc);
     messages.push(body)?;
     Ok(messages)
 }
 
-/// The message that tells a state, or some of its keys: `{"buffer_paths":..,"method":"update","state":..}`, with the
+/// The message that tells a state, or some of its keys: `{"buffer_paths":..,"method":..,"state":..}`, with the
 /// buffers in the order of the paths ("State update messages").
-pub fn update_body(
+pub fn told_body(
     alloc: Global,
     template: &mut Option<Template>,
+    telling: Telling,
     state: &Dict,
 ) -> Result<Body, AllocError>
-    ensures { IfOk result (λ b. b ≡ update_of state.now) }
+    ensures { IfOk result (λ b. b ≡ told (method_name telling) state.now) }
 {
     let Separated {
         plain,
         paths,
         buffers,
     } = separated(alloc, state)?;
-    let content = update_data(alloc, template, plain, paths.as_slice())?;
+    let content = told_data(alloc, template, telling, plain, paths.as_slice())?;
     Ok(Body::new(content, buffers))
 }
 

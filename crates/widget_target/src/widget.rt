@@ -2,6 +2,7 @@ ghost use Rattle.std.specs.Prelude.{◌≡◌, [], None, unwrap_or, option_map};
 ghost use Rattle.comm_value.specs.Tree.{no_members};
 ghost use Rattle.comm_targets.specs.Widget.{answer_of};
 ghost use Rattle.widget_target.specs.Gives.{Gives};
+ghost use Rattle.widget_target.specs.Method.{kind_of};
 
 use crate::answers::new_state;
 use crate::message::message_answer;
@@ -12,35 +13,56 @@ use comm_targets::{Answer, Event, Kind, OpenComms, Target, TargetFault};
 use comm_value::Dict;
 use std::alloc::Global;
 
-/// A target of kind Widget: it keeps the states of Jupyter widgets ('Jupyter widgets messaging protocol' 2.0.0).
+/// A target of kind Widget, or WidgetEcho: it keeps the states of Jupyter widgets ('Jupyter widgets messaging protocol' 2.1.0).
 #[derive(Drop)]
 pub struct WidgetTarget {
     alloc: Global,
     comms: OpenComms,
+    // Whether it repeats to the frontends what an update brought.
+    echoing: bool,
     // Made by the first update message.
     template: Option<Template>,
 }
 
 impl WidgetTarget {
-    /// A target with no comm. It takes no memory.
+    /// A target with no comm, of kind Widget. It takes no memory.
     pub fn new(alloc: Global) -> WidgetTarget
         ensures { ⟦<WidgetTarget as Target>⟧.means result ≡ record { kind = Kind.Widget; notes = 0; ids = []; staged = None } }
+    {
+        WidgetTarget::made(alloc, false)
+    }
+
+    /// A target with no comm, of kind WidgetEcho: where a frontend's `update` brings some keys, all frontends are told of them by `echo_update`
+    /// ("State update messages"). It takes no memory.
+    pub fn with_echo(alloc: Global) -> WidgetTarget
+        ensures { ⟦<WidgetTarget as Target>⟧.means result ≡ record { kind = Kind.WidgetEcho; notes = 0; ids = []; staged = None } }
+    {
+        WidgetTarget::made(alloc, true)
+    }
+
+    fn made(alloc: Global, echoing: bool) -> WidgetTarget
+        ensures { ⟦<WidgetTarget as Target>⟧.means result ≡ record { kind = kind_of echoing; notes = 0; ids = []; staged = None } }
     {
         WidgetTarget {
             alloc,
             comms: OpenComms::new(alloc),
+            echoing,
             template: None,
         }
     }
 }
 
 impl Target for WidgetTarget {
-    ghost use Rattle.comm_targets.specs.declared.kind.Kind.TheVariants as kind;
+    ghost use Rattle.widget_target.specs.Method.{kind_of};
 
-    ghost means = { λ w. record { kind = kind.Widget; notes = 0; ids = w.comms.ids; staged = w.comms.staged } };
+    ghost means = { λ w. record { kind = kind_of w.echoing; notes = 0; ids = w.comms.ids; staged = w.comms.staged } };
 
     fn kind(&self) -> Kind {
-        Kind::Widget
+        if self.echoing {
+            Kind::WidgetEcho
+        } else {
+            Kind::Widget
+        }
     }
 
     fn notes(&self) -> u64 {
@@ -52,7 +74,7 @@ impl Target for WidgetTarget {
     }
 
     fn prepare(&mut self, event: &Event, now: Option<&Dict>) -> Result<Answer, TargetFault> {
-        let answer = answer_to(self.alloc, &mut self.template, event, now)?;
+        let answer = answer_to(self.alloc, &mut self.template, self.echoing, event, now)?;
         if self.comms.stage(self.alloc, event, &answer).is_err() {
             drop(answer);
             return Err(TargetFault::Memory);
@@ -79,16 +101,17 @@ impl Target for WidgetTarget {
 fn answer_to(
     alloc: Global,
     template: &mut Option<Template>,
+    echoing: bool,
     event: &Event,
     now: Option<&Dict>,
 ) -> Result<Answer, TargetFault>
-    ensures { Gives result (answer_of (unwrap_or (option_map (λ d. d.now) now.entry) no_members) event.now) }
+    ensures { Gives result (answer_of echoing (unwrap_or (option_map (λ d. d.now) now.entry) no_members) event.now) }
 {
     match now {
-        Some(now) => answer_over(alloc, template, event, now),
+        Some(now) => answer_over(alloc, template, echoing, event, now),
         None => {
             let empty = Dict::new();
-            let answer = answer_over(alloc, template, event, &empty);
+            let answer = answer_over(alloc, template, echoing, event, &empty);
             drop(empty);
             answer
         }
@@ -98,16 +121,17 @@ fn answer_to(
 fn answer_over(
     alloc: Global,
     template: &mut Option<Template>,
+    echoing: bool,
     event: &Event,
     now: &Dict,
 ) -> Result<Answer, TargetFault>
-    ensures { Gives result (answer_of now.now event.now) }
+    ensures { Gives result (answer_of echoing now.now event.now) }
 {
     match event {
         Event::Open { version, body, .. } => {
             Ok(new_state(alloc, opening_state(alloc, version.as_ref(), body)?))
         }
-        Event::Msg { body, .. } => message_answer(alloc, template, body, now),
+        Event::Msg { body, .. } => message_answer(alloc, template, echoing, body, now),
         Event::Launch { state, .. } => Ok(new_state(alloc, state.copy()?)),
         Event::Push { state, .. } => Ok(pushed(alloc, template, state, now)?),
     }

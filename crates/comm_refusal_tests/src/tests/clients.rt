@@ -3,7 +3,7 @@
 ghost use Rattle.comm_targets.specs.Meaning.{IsIdle};
 
 use crate::tests::asked::{Asked, STATE, call_of, is_answered};
-use crate::tests::named::Trial;
+use crate::tests::named::{Of, Trial};
 use crate::tests::words::{Wrong, body, holds, is_one};
 use comm_core::{Call, Reply, Unavailable};
 use comm_fakes::{refuse, was_refused};
@@ -179,6 +179,22 @@ pub fn change<J: Naming, T: Target, R: Wait>(
     Ok(false)
 }
 
+// The name under which a target is registered: a new one, or that of the widget that has the comms.
+fn name_of(of: Of) -> &'static str {
+    if of == Of::Register { "x" } else { "w" }
+}
+
+// Whether the reply is that of the trial's register.
+fn is_right(trial: Trial, reply: &Reply) -> bool {
+    match reply {
+        Reply::Registered => trial.of == Of::Register,
+        Reply::Replaced(ids) => {
+            trial.of == Of::Replace && ids.as_slice().len().checked_sub(1) == Some(trial.more)
+        }
+        _ => false,
+    }
+}
+
 // The target is registered, without a refusal.
 fn is_registered<J: Naming, T: Target, R: Wait>(
     rt: &R,
@@ -186,16 +202,15 @@ fn is_registered<J: Naming, T: Target, R: Wait>(
     manager: &Manager<J, T>,
     client: &mut Client<J>,
     target: T,
+    trial: Trial,
     number: u64,
 ) -> Result<(), Wrong>
     requires { IsIdle (T.means target) }
 {
-    let name = Text::copy_of(alloc, "x")?;
+    let name = Text::copy_of(alloc, name_of(trial.of))?;
     match client.register(rt, manager, name, target) {
-        Ok((answered, back)) => holds(
-            answered.number == number
-                && matches!(answered.reply, Reply::Registered)
-                && back.is_none(),
+        Ok(answered) => holds(
+            answered.number == number && is_right(trial, &answered.reply),
             "another answer",
         ),
         Err(_) => Err(Wrong("no answer where nothing is refused")),
@@ -214,17 +229,14 @@ pub fn register<J: Naming, T: Target, R: Wait>(
     requires { IsIdle (T.means target) }
 {
     let before = client.seen();
-    let name = Text::copy_of(alloc, "x")?;
+    let name = Text::copy_of(alloc, name_of(trial.of))?;
     let _is_heard = refuse(alloc, trial.number);
     let given = client.register(rt, manager, name, target);
     let is_refused = was_refused(alloc);
     match given {
-        Ok((answered, back)) => {
+        Ok(answered) => {
             holds(!is_refused, "an answer in the face of a refusal")?;
-            holds(
-                matches!(answered.reply, Reply::Registered) && back.is_none(),
-                "another answer",
-            )?;
+            holds(is_right(trial, &answered.reply), "another answer")?;
             Ok(true)
         }
         Err((Unavailable::Memory, target)) => {
@@ -232,7 +244,7 @@ pub fn register<J: Naming, T: Target, R: Wait>(
             holds(client.seen() == before, "something was seen")?;
             is_as_before(alloc, client, trial.more, before)?;
             let next = before.saturating_add(1);
-            is_registered(rt, alloc, manager, client, target, next)?;
+            is_registered(rt, alloc, manager, client, target, trial, next)?;
             Ok(false)
         }
         Err(_) => Err(Wrong("another reason")),

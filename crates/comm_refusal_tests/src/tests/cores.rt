@@ -5,7 +5,7 @@ ghost use Rattle.comm_targets.specs.Meaning.{IsIdle};
 use crate::tests::asked::{ALL, Asked, OF_OTHERS, sizes};
 use crate::tests::core_reads::read;
 use crate::tests::filled::{Of, Trial, fill};
-use crate::tests::registers::register;
+use crate::tests::registers::{register, spare};
 use crate::tests::steps::change;
 use crate::tests::words::{LIMITS, Wrong, holds};
 use comm_core::Core;
@@ -30,10 +30,19 @@ fn work<T: Target>(
 {
     fill(alloc, core, target, trial.more)?;
     match trial.of {
-        Of::Register => register(alloc, core, other, trial),
+        Of::Register | Of::Replace => register(alloc, core, other, trial),
+        Of::FinishReplace | Of::WithdrawReplace => spare(alloc, core, other, trial),
         Of::Infos | Of::InfosOfTarget | Of::Listing | Of::State => read(alloc, core, trial),
         _ => change(alloc, core, trial),
     }
+}
+
+// Whether the manager is then stopped without memory.
+fn is_spared(of: Of) -> bool {
+    matches!(
+        of,
+        Of::Finish | Of::Withdraw | Of::FinishReplace | Of::WithdrawReplace
+    )
 }
 
 // Tells whether no allocation was refused. To stop the manager takes none.
@@ -45,7 +54,7 @@ fn tried<T: Target>(alloc: Global, trial: Trial, target: T, other: T) -> Result<
         return Err(Wrong("no manager"));
     };
     let done = work(alloc, &mut core, trial, target, other);
-    let is_spared = trial.of == Of::Finish || trial.of == Of::Withdraw;
+    let is_spared = is_spared(trial.of);
     let _is_heard = refuse(alloc, u32::from(is_spared));
     core.stop_all();
     holds(!was_refused(alloc), "memory was asked for at the end")?;
@@ -59,6 +68,12 @@ fn try_once(alloc: Global, trial: Trial) -> Result<bool, Wrong> {
             trial,
             WidgetTarget::new(alloc),
             WidgetTarget::new(alloc),
+        ),
+        Kind::WidgetEcho => tried(
+            alloc,
+            trial,
+            WidgetTarget::with_echo(alloc),
+            WidgetTarget::with_echo(alloc),
         ),
         Kind::Counter => tried(alloc, trial, Counter::new(alloc), Counter::new(alloc)),
         _ => tried(alloc, trial, Echo::new(alloc), Echo::new(alloc)),
@@ -97,9 +112,17 @@ fn try_sizes(rt: &impl Abort, alloc: Global, of: Of, kind: Kind, asked: Asked) -
     Ok(())
 }
 
+// Of a widget, and of one that echoes.
+fn of_both(rt: &impl Abort, alloc: Global, of: Of, asked: Asked) -> Result<(), Fail> {
+    for kind in [Kind::Widget, Kind::WidgetEcho] {
+        try_sizes(rt, alloc, of, kind, asked)?;
+    }
+    Ok(())
+}
+
 fn try_all(rt: &impl Abort, alloc: Global, of: Of) -> Result<(), Fail> {
     for asked in ALL {
-        try_sizes(rt, alloc, of, Kind::Widget, asked)?;
+        of_both(rt, alloc, of, asked)?;
     }
     Ok(())
 }
@@ -137,13 +160,18 @@ fn refused_row(rt: HostRuntime) -> Result<(), Fail> {
 
 #[test]
 fn refused_register(rt: HostRuntime) -> Result<(), Fail> {
-    try_sizes(&rt, rt.alloc(), Of::Register, Kind::Widget, Asked::Open)
+    of_both(&rt, rt.alloc(), Of::Register, Asked::Open)
+}
+
+#[test]
+fn refused_replacement(rt: HostRuntime) -> Result<(), Fail> {
+    of_both(&rt, rt.alloc(), Of::Replace, Asked::Unregister)
 }
 
 #[test]
 fn refused_reads(rt: HostRuntime) -> Result<(), Fail> {
     for of in [Of::Infos, Of::InfosOfTarget, Of::Listing] {
-        try_sizes(&rt, rt.alloc(), of, Kind::Widget, Asked::Close)?;
+        of_both(&rt, rt.alloc(), of, Asked::Close)?;
     }
     Ok(())
 }
@@ -152,6 +180,9 @@ fn refused_reads(rt: HostRuntime) -> Result<(), Fail> {
 fn spared_ends(rt: HostRuntime) -> Result<(), Fail> {
     for of in [Of::Finish, Of::Withdraw, Of::State] {
         try_all(&rt, rt.alloc(), of)?;
+    }
+    for of in [Of::FinishReplace, Of::WithdrawReplace] {
+        of_both(&rt, rt.alloc(), of, Asked::Unregister)?;
     }
     Ok(())
 }

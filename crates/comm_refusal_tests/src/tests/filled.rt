@@ -17,6 +17,8 @@ pub enum Of {
     Entry,
     Row,
     Register,
+    /// A register in the place of the target.
+    Replace,
     Infos,
     InfosOfTarget,
     Listing,
@@ -25,6 +27,9 @@ pub enum Of {
     Finish,
     /// The change is taken back, and the manager stopped.
     Withdraw,
+    /// The same of a register in the place of the target.
+    FinishReplace,
+    WithdrawReplace,
 }
 
 /// What is tried: the call, the kind of the target, what it is asked, how many comms are open beside one, and the number of the allocation that is refused.
@@ -72,7 +77,7 @@ pub fn fill<T: Target>(
 /// What the manager has of a comm that was opened towards a target of this kind.
 pub fn is_kept(kind: Kind, state: &StateAnswer) -> bool {
     match kind {
-        Kind::Widget => is_one(state),
+        Kind::Widget | Kind::WidgetEcho => is_one(state),
         _ => matches!(state, StateAnswer::NoState),
     }
 }

@@ -11,7 +11,7 @@ use crate::tests::words::{Wrong, holds};
 use comm_core::Entry;
 use comm_fakes::{has_leaked, mark, refuse, was_refused};
 use comm_manager::{Cause, Client, Farewell, Manager, Naming, Publisher, ShutdownRefused};
-use comm_targets::Target;
+use comm_targets::{Kind, Target};
 use std::alloc::Global;
 use std::process::Abort;
 use std::sync::Wait;
@@ -37,7 +37,7 @@ fn work<J: Naming, T: Target, R: Wait>(
     }
     fill(rt, alloc, manager, zero, target, trial.more)?;
     match trial.of {
-        Of::Register => register(rt, alloc, manager, zero, other, trial),
+        Of::Register | Of::Replace => register(rt, alloc, manager, zero, other, trial),
         Of::Change(asked) => change(rt, alloc, manager, zero, asked, trial),
         Of::Infos | Of::InfosOfTarget | Of::State => read(alloc, one, trial),
         Of::Opening | Of::Shutdown | Of::Thrice => Ok(true),
@@ -178,7 +178,7 @@ fn end<J: Naming, T: Target, R: Wait>(
 fn changes_of(trial: Trial) -> usize {
     let before = trial.more.saturating_add(2);
     match trial.of {
-        Of::Register | Of::Change(_) | Of::Spared => before.saturating_add(1),
+        Of::Register | Of::Replace | Of::Change(_) | Of::Spared => before.saturating_add(1),
         _ => before,
     }
 }
@@ -221,24 +221,55 @@ pub fn tried<J: Naming, T: Target, R: Wait>(
     Ok(is_done && is_ended)
 }
 
+fn try_once<R: Wait>(rt: &R, alloc: Global, kind: Kind, trial: Trial) -> Result<bool, Wrong> {
+    match kind {
+        Kind::WidgetEcho => named(
+            rt,
+            alloc,
+            trial,
+            WidgetTarget::with_echo(alloc),
+            WidgetTarget::with_echo(alloc),
+        ),
+        _ => named(
+            rt,
+            alloc,
+            trial,
+            WidgetTarget::new(alloc),
+            WidgetTarget::new(alloc),
+        ),
+    }
+}
+
 // Each allocation in turn, until the call asks for fewer.
-fn try_each<R: Abort + Wait>(rt: &R, alloc: Global, of: Of, more: usize) -> Result<(), Fail> {
+fn try_kind<R: Abort + Wait>(
+    rt: &R,
+    alloc: Global,
+    kind: Kind,
+    of: Of,
+    more: usize,
+) -> Result<(), Fail> {
     for number in 1..10_000u32 {
         mark(alloc);
         let trial = Trial { of, more, number };
-        let target = WidgetTarget::new(alloc);
-        let other = WidgetTarget::new(alloc);
-        match named(rt, alloc, trial, target, other) {
+        match try_once(rt, alloc, kind, trial) {
             Ok(is_whole) => {
-                assert!(rt; !has_leaked(alloc), "{trial:?} leaks");
+                assert!(rt; !has_leaked(alloc), "{trial:?} of {kind:?} leaks");
                 if is_whole {
                     return Ok(());
                 }
             }
-            Err(Wrong(what)) => panic!(rt; "{trial:?}: {what}"),
+            Err(Wrong(what)) => panic!(rt; "{trial:?} of {kind:?}: {what}"),
         }
     }
     panic!(rt; "it never answered");
+}
+
+// Of a widget, and of one that echoes.
+fn try_each<R: Abort + Wait>(rt: &R, alloc: Global, of: Of, more: usize) -> Result<(), Fail> {
+    for kind in [Kind::Widget, Kind::WidgetEcho] {
+        try_kind(rt, alloc, kind, of, more)?;
+    }
+    Ok(())
 }
 
 #[test]
@@ -264,6 +295,14 @@ fn refused_changes(rt: HostRuntime) -> Result<(), Fail> {
 #[test]
 fn refused_register(rt: HostRuntime) -> Result<(), Fail> {
     try_each(&rt, rt.alloc(), Of::Register, 2)
+}
+
+#[test]
+fn refused_replacement(rt: HostRuntime) -> Result<(), Fail> {
+    for more in [0, 5] {
+        try_each(&rt, rt.alloc(), Of::Replace, more)?;
+    }
+    Ok(())
 }
 
 #[test]

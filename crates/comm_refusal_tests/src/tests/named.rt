@@ -20,6 +20,8 @@ pub enum Of {
     /// `Opening::new` and `Manager::open`.
     Opening,
     Register,
+    /// A register in the place of the target.
+    Replace,
     Change(Asked),
     Infos,
     InfosOfTarget,

@@ -61,7 +61,6 @@ fn is_made<T: Target>(core: &mut Core<T>, asked: Asked, ready: Ready<T>) -> bool
         reply,
         outgoing,
         ended,
-        back: _,
     } = core.finish(ready);
     if let Some(held) = ended {
         held.end();

@@ -1,4 +1,4 @@
-//! Targets come and go while comms are opened towards them.
+//! Targets come, take each other's place and go while comms are opened towards them.
 ghost use Rattle.std.specs.Prelude.{◌≡◌, [], None};
 
 use crate::tests::jobs::Job;
@@ -81,6 +81,7 @@ fn recorders(alloc: Global, ends: &Arc<AtomicU64>) -> Result<Vec<Recorder>, Wron
 fn after(is_registered: bool, call: &Call, told: Told) -> Option<bool> {
     match (call, told, is_registered) {
         (Call::Register { .. }, Told::Registered, false) => Some(true),
+        (Call::Register { .. }, Told::Replaced, true) => Some(true),
         (Call::Unregister { .. }, Told::Unregistered, true) => Some(false),
         (Call::Open { .. }, Told::Opened, true) => Some(true),
         (Call::Open { .. }, Told::NoTarget, false) => Some(false),
@@ -110,7 +111,7 @@ fn come_and_go<R: Threads + Wait + Sync>(rt: &R, alloc: Global) -> Result<(), Wr
     let targets = recorders(alloc, &ends)?;
     let play = Play::Jobs((Job::Registers, Job::Opens), 0);
     let seen = named(rt, alloc, limits, play, targets)?;
-    holds(ends.load(Ordering::SeqCst) == 20 && seen.history.len() == 241)?;
+    holds(ends.load(Ordering::SeqCst) == 20 && seen.history.len() == 231)?;
     holds(seen.counts.0 == 20 && opened(&seen.history) == Some(seen.counts.1))?;
     let fresh = recorders(alloc, &ends)?;
     let _most = replayed(alloc, limits, &seen.history, fresh)?;

@@ -1,7 +1,7 @@
 //! What a client does in a thread of its own.
 use crate::tests::refusals::{bears, refuses};
 use crate::tests::words::{Told, Wrong, answer, empty, holds, told_by};
-use comm_core::{Reply, Unavailable};
+use comm_core::Unavailable;
 use comm_manager::{Client, Manager, Naming, Stamp};
 use comm_targets::Target;
 use comm_value::Text;
@@ -12,7 +12,7 @@ use std::thread::yield_now;
 /// What a client does.
 #[derive(Clone, Copy)]
 pub enum Job {
-    /// Registers each target that it is handed as "t", and unregisters it.
+    /// Registers each target that it is handed as "t": each second one in the place of the one before, and then unregisters it.
     Registers,
     /// Opens 200 comms of different ids towards "t".
     Opens,
@@ -28,22 +28,21 @@ pub enum Job {
     Bears,
 }
 
-/// Registers an idle target as "t".
+/// Registers an idle target as "t", which is told so.
 pub fn register<J: Naming, T: Target, R: Wait>(
     rt: &R,
     alloc: Global,
     manager: &Manager<J, T>,
     client: &mut Client<J>,
     target: T,
+    told: Told,
 ) -> Result<(), Wrong> {
     let name = Text::copy_of(alloc, "t")?;
     if !target.idle() {
         return Err(Wrong);
     }
     match client.register(rt, manager, name, target) {
-        Ok((answered, back)) => holds(
-            matches!(answered.reply, Reply::Registered) && back.is_none(),
-        ),
+        Ok(answered) => holds(told_by(&answered.reply) == told),
         Err(_) => Err(Wrong),
     }
 }
@@ -55,14 +54,15 @@ fn pause() {
     }
 }
 
-fn registers_once<J: Naming, T: Target, R: Wait>(
+// Registers it in the place of another, and takes it out.
+fn replaces_once<J: Naming, T: Target, R: Wait>(
     rt: &R,
     alloc: Global,
     manager: &Manager<J, T>,
     client: &mut Client<J>,
     target: T,
 ) -> Result<(), Wrong> {
-    register(rt, alloc, manager, client, target)?;
+    register(rt, alloc, manager, client, target, Told::Replaced)?;
     pause();
     let name = Text::copy_of(alloc, "t")?;
     let gone = answer(client.unregister(rt, manager, name));
@@ -79,8 +79,15 @@ fn registers<J: Naming, T: Target, R: Wait>(
     targets: Vec<T>,
 ) -> Result<u64, Wrong> {
     let mut count = 0u64;
+    let mut is_there = false;
     for target in targets {
-        registers_once(rt, alloc, manager, client, target)?;
+        if is_there {
+            replaces_once(rt, alloc, manager, client, target)?;
+        } else {
+            register(rt, alloc, manager, client, target, Told::Registered)?;
+            pause();
+        }
+        is_there = !is_there;
         count = count.saturating_add(1);
     }
     Ok(count)

@@ -3,9 +3,10 @@ ghost use Rattle.std.specs.Prelude.{◌≡◌};
 ghost use Rattle.comm_manager.specs.Names.{Named};
 
 use crate::tests::jobs::{Job, register};
+use crate::tests::replacing::{Closing, replaces};
 use crate::tests::threads::all_three;
 use crate::tests::waiting::{Moments, waits};
-use crate::tests::words::{Wrong, holds};
+use crate::tests::words::{Told, Wrong, holds};
 use comm_core::{Entry, Limits};
 use comm_manager::{Client, Farewell, Manager, Naming, Opening, Publisher, ShutdownRefused};
 use comm_targets::Target;
@@ -21,6 +22,8 @@ pub enum Play {
     Jobs((Job, Job), usize),
     /// A read and a take while a change is with its target.
     Waiting(Arc<Moments>),
+    /// Two reads while a target is replaced.
+    Replacing(Arc<Closing>),
 }
 
 /// What was counted, and whose changes were taken.
@@ -51,7 +54,7 @@ fn begin<J: Naming, T: Target, R: Wait>(
     match job {
         Job::Visits(_) | Job::Refuses => {
             let target = targets.pop().ok_or(Wrong)?;
-            register(rt, alloc, manager, client, target)
+            register(rt, alloc, manager, client, target, Told::Registered)
         }
         _ => Ok(()),
     }
@@ -98,6 +101,7 @@ fn played<J: Naming + Send + Sync, T: Target, R: Threads + Wait + Sync>(
         Play::Waiting(moments) => waits(
             rt, alloc, manager, zero, one, publisher, &moments, targets,
         ),
+        Play::Replacing(closing) => replaces(rt, alloc, manager, zero, one, &closing, targets),
     }
 }
 

@@ -67,7 +67,6 @@ fn written(alloc: Global, history: &[Arc<Entry, Global>]) -> Result<Vec<u8>, Wro
 
 // Registers a fresh target.
 fn registers<T: Target>(
-    alloc: Global,
     core: &mut Core<T>,
     name: &Text,
     targets: &mut Vec<T>,
@@ -81,10 +80,7 @@ fn registers<T: Target>(
         return Err(Wrong);
     }
     match core.register(name, target) {
-        Ok((reply, back)) => {
-            drop(back);
-            Ok((reply, Vec::new(alloc)))
-        }
+        Ok(answered) => Ok(answered),
         Err((_, target)) => {
             drop(target);
             Err(Wrong)
@@ -103,7 +99,7 @@ fn steps<T: Target>(
     ensures { core.new.settled ≡ true }
 {
     match call {
-        Call::Register { name, .. } => registers(alloc, core, name, targets),
+        Call::Register { name, .. } => registers(core, name, targets),
         other => {
             let call = other.copy(alloc)?;
             Ok(core.step(call)?)

@@ -22,8 +22,8 @@ pub struct Moments {
     is_read: AtomicBool,
 }
 
-// Waits until it is set, at most so many turns.
-fn awaited(flag: &AtomicBool) {
+/// Waits until it is set, at most so many turns.
+pub fn awaited(flag: &AtomicBool) {
     for _ in 0..1_000_000_000u64 {
         if flag.load(Ordering::SeqCst) {
             return;
@@ -100,7 +100,7 @@ fn begin<J: Naming, T: Target, R: Wait>(
 ) -> Result<(), Wrong> {
     let mut targets = targets;
     let target = targets.pop().ok_or(Wrong)?;
-    register(rt, alloc, manager, zero, target)?;
+    register(rt, alloc, manager, zero, target, Told::Registered)?;
     let id = Text::copy_of(alloc, "a")?;
     let name = Text::copy_of(alloc, "t")?;
     match zero.open_comm(rt, manager, id, name, None, valued(alloc, 1)?) {

@@ -73,6 +73,7 @@ pub fn valued(alloc: Global, number: i128) -> Result<Body, Wrong> {
 #[derive(Clone, Copy, PartialEq, Eq, Debug)]
 pub enum Told {
     Registered,
+    Replaced,
     Opened,
     NoTarget,
     TooManyComms,
@@ -90,6 +91,7 @@ pub enum Told {
 pub fn told_by(reply: &Reply) -> Told {
     match reply {
         Reply::Registered => Told::Registered,
+        Reply::Replaced(_) => Told::Replaced,
         Reply::Opened => Told::Opened,
         Reply::OpenRefused(Refusal::NoTarget) => Told::NoTarget,
         Reply::OpenRefused(Refusal::TooManyComms) => Told::TooManyComms,

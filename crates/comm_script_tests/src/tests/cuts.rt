@@ -1,5 +1,5 @@
 // Scripts that are cut after each of their bytes: the whole lines are answered, and a part of a line isn't JSON.
-use super::{BOTH, Over, ROOM, Row, frontends, kernels, limits, play_over, widgets};
+use super::{BOTH, Over, ROOM, Row, echoes, frontends, kernels, limits, play_over, widgets};
 use comm_fakes::{Pieces, Sink, Then};
 use std::alloc::Global;
 use std::io::ErrorKind;
@@ -157,4 +157,16 @@ fn cut_scripts_of_kernels_give_their_whole_lines(rt: HostRuntime) -> Result<(), 
 #[test]
 fn cut_scripts_of_widgets_give_their_whole_lines(rt: HostRuntime) -> Result<(), Fail> {
     all_are_cut(&rt, rt.alloc(), &widgets::ROWS)
+}
+
+#[test]
+fn cut_scripts_of_widgets_that_echo_give_their_whole_lines(rt: HostRuntime) -> Result<(), Fail> {
+    all_are_cut(&rt, rt.alloc(), &echoes::ROWS)
+}
+
+#[test]
+fn cut_scripts_of_widgets_that_echo_as_others_give_their_whole_lines(
+    rt: HostRuntime,
+) -> Result<(), Fail> {
+    all_are_cut(&rt, rt.alloc(), &echoes::AS_OTHERS)
 }

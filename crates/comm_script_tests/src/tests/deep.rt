@@ -49,7 +49,7 @@ const COMMANDS: Deep = Deep {
 "#,
     answers: br#"reply 1 registered
 reply 2 launched
-out {"buffers":["AQI="],"call":2,"client":0,"content":{"comm_id":"67e55044-10b1-426f-9247-bb680e5fe0c8","data":{"buffer_paths":[["s"@,0]],"state":{"s":<[null]>}},"target_name":"w"},"header":{"msg_type":"comm_open"},"metadata":{"version":"2.0.0"}}
+out {"buffers":["AQI="],"call":2,"client":0,"content":{"comm_id":"67e55044-10b1-426f-9247-bb680e5fe0c8","data":{"buffer_paths":[["s"@,0]],"state":{"s":<[null]>}},"target_name":"w"},"header":{"msg_type":"comm_open"},"metadata":{"version":"2.1.0"}}
 reply 3 delivered
 out {"buffers":["/w=="],"call":3,"client":0,"content":{"comm_id":"67e55044-10b1-426f-9247-bb680e5fe0c8","data":{"buffer_paths":[["s"@,0]],"method":"update","state":{"s":<[null]>,"t":1}}},"header":{"msg_type":"comm_msg"},"metadata":{}}
 state 3 {"buffer_paths":[["s"@,0]],"buffers":["/w=="],"state":{"s":<[null]>,"t":1}}
@@ -87,7 +87,29 @@ reply 7 closed
 "#,
 };
 
-const SCRIPTS: [Deep; 2] = [COMMANDS, MESSAGES];
+/// The same of a widget that echoes what the updates bring.
+const ECHOED: Deep = Deep {
+    levels: 122,
+    script: br#"{"call":"register","kind":"widget_echo","name":"w"}
+{"header":{"msg_type":"comm_open"},"content":{"comm_id":"a","target_name":"w","data":{"state":{"k":1}}},"metadata":{"version":"2"}}
+{"header":{"msg_type":"comm_msg"},"content":{"comm_id":"a","data":{"method":"update","state":{"s":<[null]>},"buffer_paths":[["s"@,0]]}},"buffers":["AQI="]}
+{"header":{"msg_type":"comm_msg"},"content":{"comm_id":"a","data":{"method":"update","state":{"t":<[7]>,"u":<[]>}}}}
+{"header":{"msg_type":"comm_msg"},"content":{"comm_id":"a","data":{"method":"update","state":{"t":<[[7]]>}}}}
+{"header":{"msg_type":"comm_msg"},"content":{"comm_id":"a","data":{"method":"request_state"}}}
+"#,
+    answers: br#"reply 1 registered
+reply 2 opened
+reply 3 delivered
+out {"buffers":["AQI="],"call":3,"client":0,"content":{"comm_id":"a","data":{"buffer_paths":[["s"@,0]],"method":"echo_update","state":{"s":<[null]>}}},"header":{"msg_type":"comm_msg"},"metadata":{}}
+reply 4 delivered
+out {"buffers":[],"call":4,"client":0,"content":{"comm_id":"a","data":{"buffer_paths":[],"method":"echo_update","state":{"t":<[7]>,"u":<[]>}}},"header":{"msg_type":"comm_msg"},"metadata":{}}
+bad 5 not_json
+reply 5 delivered
+out {"buffers":["AQI="],"call":5,"client":0,"content":{"comm_id":"a","data":{"buffer_paths":[["s"@,0]],"method":"update","state":{"k":1,"s":<[null]>,"t":<[7]>,"u":<[]>}}},"header":{"msg_type":"comm_msg"},"metadata":{}}
+"#,
+};
+
+const SCRIPTS: [Deep; 3] = [COMMANDS, MESSAGES, ECHOED];
 
 fn extend_so_often(bytes: &mut Vec<u8>, part: &[u8], levels: u8) -> Result<(), AllocError> {
     for _ in 0..levels {

@@ -1,7 +1,7 @@
 // The kernel's own commands.
 use super::{MOST, Row};
 
-pub const ROWS: [Row; 4] = [
+pub const ROWS: [Row; 6] = [
     Row {
         name: "unregister closes the comms in the order of opening",
         comms: MOST,
@@ -25,7 +25,7 @@ reply 7 no_target
 "#,
     },
     Row {
-        name: "a target that is refused comes back into the stock",
+        name: "a target that is replaced doesn't come back into the stock",
         comms: MOST,
         script: br#"{"call":"register","kind":"echo","name":"t"}
 {"call":"register","kind":"echo","name":"t"}
@@ -33,9 +33,49 @@ reply 7 no_target
 {"call":"register","kind":"echo","name":"v"}
 "#,
         answers: br#"reply 1 registered
-reply 2 name_taken
-reply 3 registered
+reply 2 replaced []
+bad 3 no_stock
 bad 4 no_stock
+"#,
+    },
+    Row {
+        name: "a register of a taken name closes the comms and replaces the target",
+        comms: MOST,
+        script: br#"{"call":"register","kind":"echo","name":"t"}
+{"header":{"msg_type":"comm_open"},"content":{"comm_id":"b","target_name":"t","data":{}}}
+{"header":{"msg_type":"comm_open"},"content":{"comm_id":"a","target_name":"t","data":{}}}
+{"call":"register","kind":"counter","name":"t"}
+{"header":{"msg_type":"comm_msg"},"content":{"comm_id":"a","data":{}}}
+{"header":{"msg_type":"comm_open"},"content":{"comm_id":"a","target_name":"t","data":{}}}
+{"header":{"msg_type":"comm_msg"},"content":{"comm_id":"a","data":{}}}
+"#,
+        answers: br#"reply 1 registered
+reply 2 opened
+reply 3 opened
+reply 4 replaced ["b","a"]
+out {"buffers":[],"call":4,"client":0,"content":{"comm_id":"b","data":{}},"header":{"msg_type":"comm_close"},"metadata":{}}
+out {"buffers":[],"call":4,"client":0,"content":{"comm_id":"a","data":{}},"header":{"msg_type":"comm_close"},"metadata":{}}
+reply 5 no_comm
+reply 6 opened
+reply 7 delivered
+out {"buffers":[],"call":7,"client":0,"content":{"comm_id":"a","data":{"count":1}},"header":{"msg_type":"comm_msg"},"metadata":{}}
+"#,
+    },
+    Row {
+        name: "where no target of the kind is left, the one that has the name stays",
+        comms: MOST,
+        script: br#"{"call":"register","kind":"echo","name":"t"}
+{"call":"register","kind":"echo","name":"u"}
+{"header":{"msg_type":"comm_open"},"content":{"comm_id":"a","target_name":"t","data":{}}}
+{"call":"register","kind":"echo","name":"t"}
+{"header":{"msg_type":"comm_msg"},"content":{"comm_id":"a","data":{"n":1}}}
+"#,
+        answers: br#"reply 1 registered
+reply 2 registered
+reply 3 opened
+bad 4 no_stock
+reply 4 delivered
+out {"buffers":[],"call":4,"client":0,"content":{"comm_id":"a","data":{"n":1}},"header":{"msg_type":"comm_msg"},"metadata":{}}
 "#,
     },
     Row {
@@ -51,7 +91,7 @@ bad 4 no_stock
 "#,
         answers: br#"reply 1 registered
 reply 2 launched
-out {"buffers":[],"call":2,"client":0,"content":{"comm_id":"67e55044-10b1-426f-9247-bb680e5fe0c8","data":{"buffer_paths":[],"state":{"value":1}},"target_name":"jupyter.widget"},"header":{"msg_type":"comm_open"},"metadata":{"version":"2.0.0"}}
+out {"buffers":[],"call":2,"client":0,"content":{"comm_id":"67e55044-10b1-426f-9247-bb680e5fe0c8","data":{"buffer_paths":[],"state":{"value":1}},"target_name":"jupyter.widget"},"header":{"msg_type":"comm_open"},"metadata":{"version":"2.1.0"}}
 reply 3 delivered
 out {"buffers":[],"call":3,"client":0,"content":{"comm_id":"67e55044-10b1-426f-9247-bb680e5fe0c8","data":{"buffer_paths":[],"method":"update","state":{"value":5}}},"header":{"msg_type":"comm_msg"},"metadata":{}}
 reply 4 closed

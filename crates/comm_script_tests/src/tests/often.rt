@@ -80,6 +80,11 @@ const PATH_BEFORE: &[u8] = br#"{"call":"register","kind":"widget","name":"jupyte
 {"header":{"msg_type":"comm_open"},"content":{"comm_id":"a","target_name":"jupyter.widget","data":{"state":{"k":1}}},"metadata":{"version":"2.0.0"}}
 {"header":{"msg_type":"comm_msg"},"content":{"comm_id":"a","data":{"method":"update","state":{"l":[null]},"buffer_paths":[["d""#;
 
+const ECHOED_PATH_BEFORE: &[u8] =
+    br#"{"call":"register","kind":"widget_echo","name":"jupyter.widget"}
+{"header":{"msg_type":"comm_open"},"content":{"comm_id":"a","target_name":"jupyter.widget","data":{"state":{"k":1}}},"metadata":{"version":"2.0.0"}}
+{"header":{"msg_type":"comm_msg"},"content":{"comm_id":"a","data":{"method":"update","state":{"l":[null]},"buffer_paths":[["d""#;
+
 const PATH_BEHIND: &[u8] = br#"]]}},"buffers":["AQI="]}
 {"call":"state","id":"a"}
 "#;
@@ -90,17 +95,19 @@ reply 3 fault bad_path 0
 state 3 {"buffer_paths":[],"buffers":[],"state":{"k":1}}
 "#;
 
-/// A path of 100,000 steps leads nowhere.
+/// A path of 100,000 steps leads nowhere, and nothing is told of the update.
 #[test]
 fn a_long_path_changes_nothing(rt: HostRuntime) -> Result<(), Fail> {
     let alloc = rt.alloc();
-    let script = filled(alloc, PATH_BEFORE, b",\"d\"", 99_999, PATH_BEHIND)?;
-    for over in BOTH {
-        let mut reader = Pieces::new(script.as_slice(), 4096, 0, ErrorKind::Other);
-        let mut writer = Sink::new(alloc, ROOM, ROOM, 0, Then::TakeNothing)?;
-        let result = play_over(&rt, alloc, over, &mut reader, &mut writer, limits(MOST));
-        assert!(rt; result == Ok(()), "{over:?}");
-        assert!(rt; writer.taken() == PATH_ANSWERS, "{over:?}");
+    for before in [PATH_BEFORE, ECHOED_PATH_BEFORE] {
+        let script = filled(alloc, before, b",\"d\"", 99_999, PATH_BEHIND)?;
+        for over in BOTH {
+            let mut reader = Pieces::new(script.as_slice(), 4096, 0, ErrorKind::Other);
+            let mut writer = Sink::new(alloc, ROOM, ROOM, 0, Then::TakeNothing)?;
+            let result = play_over(&rt, alloc, over, &mut reader, &mut writer, limits(MOST));
+            assert!(rt; result == Ok(()), "{over:?}");
+            assert!(rt; writer.taken() == PATH_ANSWERS, "{over:?}");
+        }
     }
     Ok(())
 }

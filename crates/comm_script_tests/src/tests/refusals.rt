@@ -64,6 +64,9 @@ const SCRIPT: &[u8] = br#"{"call":"register","kind":"widget","name":"jupyter.wid
 {"call":"send","id":"a","data":{"n":1}}
 {"call":"state","id":"a"}
 {"header":{"msg_type":"comm_info_request"}}
+{"call":"register","kind":"widget_echo","name":"jupyter.widget"}
+{"header":{"msg_type":"comm_open"},"content":{"comm_id":"b","target_name":"jupyter.widget","data":{"state":{"k":1}}},"metadata":{"version":"2"}}
+{"header":{"msg_type":"comm_msg"},"content":{"comm_id":"b","data":{"method":"update","state":{"k":[2]},"buffer_paths":[["x"]]}},"buffers":["AQI="]}
 {"call":"unregister","name":"jupyter.widget"}
 {"#;
 
@@ -73,9 +76,14 @@ reply 3 delivered
 out {"buffers":[],"call":3,"client":0,"content":{"comm_id":"a","data":{"n":1}},"header":{"msg_type":"comm_msg"},"metadata":{}}
 state 3 {"buffer_paths":[["x"]],"buffers":["AQI="],"state":{"l":[1],"n":null}}
 out {"buffers":[],"client":0,"content":{"comms":{"a":{"target_name":"jupyter.widget"}},"status":"ok"},"front":3,"header":{"msg_type":"comm_info_reply"},"metadata":{}}
-reply 4 unregistered ["a"]
+reply 4 replaced ["a"]
 out {"buffers":[],"call":4,"client":0,"content":{"comm_id":"a","data":{}},"header":{"msg_type":"comm_close"},"metadata":{}}
-bad 7 not_json
+reply 5 opened
+reply 6 delivered
+out {"buffers":["AQI="],"call":6,"client":0,"content":{"comm_id":"b","data":{"buffer_paths":[["x"]],"method":"echo_update","state":{"k":[2]}}},"header":{"msg_type":"comm_msg"},"metadata":{}}
+reply 7 unregistered ["b"]
+out {"buffers":[],"call":7,"client":0,"content":{"comm_id":"b","data":{}},"header":{"msg_type":"comm_close"},"metadata":{}}
+bad 10 not_json
 "#;
 
 /// An allocation is refused. Tells whether there were fewer. The arena for lines asks again for less where it is refused a chunk, so a

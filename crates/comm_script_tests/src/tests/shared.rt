@@ -34,36 +34,32 @@ fn a_full_history_is_said(rt: HostRuntime) -> Result<(), Fail> {
     Ok(())
 }
 
-/// Two counters are in stock. One that isn't registered comes back, be it that its name is taken or that the history is full: else the third
-/// of the lines that ask for one would find none.
+/// Two counters are in stock, and one takes the echo's name. The other comes back where it isn't registered, since the history is full: else
+/// the second of the lines that then ask for one would find none.
 const RETURNED: &[u8] = br#"{"call":"register","kind":"echo","name":"t"}
 {"call":"register","kind":"counter","name":"t"}
 {"call":"register","kind":"counter","name":"t"}
-{"call":"register","kind":"counter","name":"t"}
-{"call":"register","kind":"counter","name":"v"}
 {"call":"register","kind":"counter","name":"v"}
 {"call":"register","kind":"counter","name":"v"}
 "#;
 
 const RETURNED_ANSWERS: &[u8] = br#"reply 1 registered
-reply 2 name_taken
-reply 3 name_taken
-reply 4 name_taken
+reply 2 replaced []
+unavailable 3 history_full
+unavailable 4 history_full
 unavailable 5 history_full
-unavailable 6 history_full
-unavailable 7 history_full
 "#;
 
 #[test]
 fn a_refused_target_comes_back(rt: HostRuntime) -> Result<(), Fail> {
     let alloc = rt.alloc();
-    let four = Limits {
-        history: 4,
+    let two = Limits {
+        history: 2,
         ..limits(MOST)
     };
     let mut reader = Pieces::new(RETURNED, 7, 0, ErrorKind::Other);
     let mut writer = Sink::new(alloc, ROOM, 3, 0, Then::TakeNothing)?;
-    let result = play_over(&rt, alloc, Over::Shared, &mut reader, &mut writer, four);
+    let result = play_over(&rt, alloc, Over::Shared, &mut reader, &mut writer, two);
     assert!(rt; result == Ok(()));
     assert!(rt; writer.taken() == RETURNED_ANSWERS);
     Ok(())

@@ -1,9 +1,12 @@
-// Worked cases of the protocol, played on a widget. Buffers are given in base64 and shown by their bytes: AQI= is 1 and 2, /w== is 255.
-ghost use Rattle.std.specs.Prelude.{◌≡◌, [], ◌∷◌, None, OnOk, codes};
-ghost use Rattle.comm_targets.specs.Meaning.{IsAskable};
+// Worked cases of the protocol, played on a widget, and on one that echoes. Buffers are given in base64 and shown by their bytes: AQI= is 1 and 2, /w== is 255.
+ghost use Rattle.std.specs.Prelude.{◌≡◌, true, [], ◌∷◌, None, OnOk, codes};
+ghost use Rattle.comm_targets.specs.Meaning.{IsAskable, is_widget};
 ghost use Rattle.comm_tests.specs.After.{after};
+ghost use Rattle.comm_tests.specs.Fresh.{with_ids};
 
+mod pushes;
 mod taken_back;
+mod updates;
 
 use comm_messages::{Body, Incoming, read_message};
 use comm_targets::{Answer, Event, Kind, Target, TargetFault};
@@ -11,6 +14,9 @@ use comm_value::{Buffers, Dict, Path, Separated, Text, paths_val, separate};
 use std::alloc::{AllocError, Global};
 use std::test::Fail;
 use widget_target::WidgetTarget;
+
+/// The kinds of widgets.
+const KINDS: [Kind; 2] = [Kind::Widget, Kind::WidgetEcho];
 
 // The body of a message.
 fn body_of(alloc: Global, incoming: &Incoming) -> Result<Body, AllocError> {
@@ -72,8 +78,9 @@ fn have_done<T: Target>(target: &mut T, event: &Event) -> Result<(), TargetFault
 
 // Opens the comm `a` of a widget that has none.
 fn launch<T: Target>(alloc: Global, widget: &mut T) -> Result<(), TargetFault>
-    requires { T.means widget.old ≡ record { kind = Kind.Widget; notes = 0; ids = []; staged = None } }
-    ensures { OnOk result (T.means widget.new ≡ record { kind = Kind.Widget; notes = 0; ids = codes "a" ∷ []; staged = None }) }
+    requires new { T.means widget.old ≡ with_ids (T.means widget.old).kind [] }
+    requires kind { is_widget (T.means widget.old).kind ≡ true }
+    ensures { OnOk result (T.means widget.new ≡ with_ids (T.means widget.old).kind (codes "a" ∷ [])) }
 {
     let id = Text::copy_of(alloc, "a")?;
     let launch = Event::Launch {
@@ -92,40 +99,58 @@ fn later_answer<T: Target>(
     event: &Event,
     now: &Dict,
 ) -> Result<Answer, TargetFault>
-    requires new { T.means widget ≡ record { kind = Kind.Widget; notes = 0; ids = []; staged = None } }
-    requires askable { IsAskable (record { kind = Kind.Widget; notes = 0; ids = codes "a" ∷ []; staged = None }) event.now }
+    requires new { T.means widget ≡ with_ids (T.means widget).kind [] }
+    requires kind { is_widget (T.means widget).kind ≡ true }
+    requires askable { IsAskable (with_ids (T.means widget).kind (codes "a" ∷ [])) event.now }
 {
     launch(alloc, &mut widget)?;
     widget.prepare(event, Some(now))
 }
 
-// The answer of a new widget to an opening.
-fn opened(alloc: Global, version: Option<&str>, body: Body) -> Result<Answer, TargetFault> {
-    let widget: Box<dyn Target> = Box::new(alloc, WidgetTarget::new(alloc))?;
+// The answer of a new widget of this kind to an opening.
+fn opened(
+    alloc: Global,
+    kind: Kind,
+    version: Option<&str>,
+    body: Body,
+) -> Result<Answer, TargetFault> {
+    let silent: Box<dyn Target> = Box::new(alloc, WidgetTarget::new(alloc))?;
+    let echoing: Box<dyn Target> = Box::new(alloc, WidgetTarget::with_echo(alloc))?;
     let version = copy_of(alloc, version)?;
     let id = Text::copy_of(alloc, "a")?;
     let opening = Event::Open { id, version, body };
-    let given = answer(widget, &opening, None);
+    let given = match kind {
+        Kind::WidgetEcho => answer(echoing, &opening, None),
+        _ => answer(silent, &opening, None),
+    };
     drop(opening);
     given
 }
 
 // The answer to a message, where the comm's state is `now`.
-fn told(alloc: Global, now: &Dict, body: Body) -> Result<Answer, TargetFault> {
-    let widget: Box<dyn Target> = Box::new(alloc, WidgetTarget::new(alloc))?;
+fn told(alloc: Global, kind: Kind, now: &Dict, body: Body) -> Result<Answer, TargetFault> {
+    let silent: Box<dyn Target> = Box::new(alloc, WidgetTarget::new(alloc))?;
+    let echoing: Box<dyn Target> = Box::new(alloc, WidgetTarget::with_echo(alloc))?;
     let id = Text::copy_of(alloc, "a")?;
     let message = Event::Msg { id, body };
-    let given = later_answer(alloc, widget, &message, now);
+    let given = match kind {
+        Kind::WidgetEcho => later_answer(alloc, echoing, &message, now),
+        _ => later_answer(alloc, silent, &message, now),
+    };
     drop(message);
     given
 }
 
 // The answer to a push of these keys, where the comm's state is `now`.
-fn pushed(alloc: Global, now: &Dict, keys: Dict) -> Result<Answer, TargetFault> {
-    let widget: Box<dyn Target> = Box::new(alloc, WidgetTarget::new(alloc))?;
+fn pushed(alloc: Global, kind: Kind, now: &Dict, keys: Dict) -> Result<Answer, TargetFault> {
+    let silent: Box<dyn Target> = Box::new(alloc, WidgetTarget::new(alloc))?;
+    let echoing: Box<dyn Target> = Box::new(alloc, WidgetTarget::with_echo(alloc))?;
     let id = Text::copy_of(alloc, "a")?;
     let push = Event::Push { id, state: keys };
-    let given = later_answer(alloc, widget, &push, now);
+    let given = match kind {
+        Kind::WidgetEcho => later_answer(alloc, echoing, &push, now),
+        _ => later_answer(alloc, silent, &push, now),
+    };
     drop(push);
     given
 }
@@ -202,10 +227,10 @@ fn shown(alloc: Global, answer: Result<Answer, TargetFault>) -> Result<String, F
 }
 
 // What an opening with this data and these buffers is answered.
-fn opens(alloc: Global, data: &str, buffers: &str) -> Result<String, Fail> {
+fn opens(alloc: Global, kind: Kind, data: &str, buffers: &str) -> Result<String, Fail> {
     shown(
         alloc,
-        opened(alloc, Some("2.0.0"), body(alloc, data, buffers)?),
+        opened(alloc, kind, Some("2.0.0"), body(alloc, data, buffers)?),
     )
 }
 
@@ -216,13 +241,20 @@ fn given_state(answer: Answer) -> Result<Dict, Fail> {
 // The state of a widget that was opened with this data and these buffers.
 fn state_of(alloc: Global, data: &str, buffers: &str) -> Result<Dict, Fail> {
     let body = body(alloc, data, buffers)?;
-    given_state(opened(alloc, Some("2.0.0"), body)?)
+    given_state(opened(alloc, Kind::Widget, Some("2.0.0"), body)?)
 }
 
 // What this message is answered, on the comm of a widget that was opened with the first data.
-fn tells(alloc: Global, first: &str, message: &str, buffers: &str) -> Result<String, Fail> {
+fn tells(
+    alloc: Global,
+    kind: Kind,
+    first: &str,
+    message: &str,
+    buffers: &str,
+) -> Result<String, Fail> {
     let now = state_of(alloc, first, "[]")?;
-    shown(alloc, told(alloc, &now, body(alloc, message, buffers)?))
+    let body = body(alloc, message, buffers)?;
+    shown(alloc, told(alloc, kind, &now, body))
 }
 
 const ONE: &str = r#"{"state":{"k":1}}"#;
@@ -230,97 +262,70 @@ const ONE: &str = r#"{"state":{"k":1}}"#;
 #[test]
 fn an_opening_places_its_buffers(rt: HostRuntime) -> Result<(), Fail> {
     let data = r#"{"state":{"y":{"z":[null]}},"buffer_paths":[["x"],["y","z",0]]}"#;
-    let found = opens(rt.alloc(), data, r#"["AQI=","/w=="]"#)?;
     let wanted = r#"state {"y":{"z":[null]}} [["x"],["y","z",0]] 1.2. 255.;"#;
-    assert_eq!(rt; found.as_str(), wanted);
-    Ok(())
-}
-
-#[test]
-fn only_version_two_is_spoken(rt: HostRuntime) -> Result<(), Fail> {
-    let alloc = rt.alloc();
-    for (version, wanted) in [
-        (Some("1.0.0"), "WrongVersion"),
-        (None, "WrongVersion"),
-        (Some("2"), "state {} [];"),
-        (Some("2.1.0"), "state {} [];"),
-        (Some("20.0"), "WrongVersion"),
-        (Some(""), "WrongVersion"),
-    ] {
-        let found = opened(alloc, version, plain_body(alloc, r#"{"state":{}}"#)?);
-        assert_eq!(rt; shown(alloc, found)?.as_str(), wanted, "at {version:?}");
+    for kind in KINDS {
+        let found = opens(rt.alloc(), kind, data, r#"["AQI=","/w=="]"#)?;
+        assert_eq!(rt; found.as_str(), wanted, "of {kind:?}");
     }
     Ok(())
 }
 
+const VERSIONS: [(Option<&str>, &str); 6] = [
+    (Some("1.0.0"), "WrongVersion"),
+    (None, "WrongVersion"),
+    (Some("2"), "state {} [];"),
+    (Some("2.1.0"), "state {} [];"),
+    (Some("20.0"), "WrongVersion"),
+    (Some(""), "WrongVersion"),
+];
+
+#[test]
+fn only_version_two_is_spoken(rt: HostRuntime) -> Result<(), Fail> {
+    let alloc = rt.alloc();
+    for kind in KINDS {
+        for (version, wanted) in VERSIONS {
+            let found = opened(alloc, kind, version, plain_body(alloc, r#"{"state":{}}"#)?);
+            assert_eq!(rt;
+                shown(alloc, found)?.as_str(),
+                wanted,
+                "of {kind:?} at {version:?}"
+            );
+        }
+    }
+    Ok(())
+}
+
+const WITHOUT_STATES: [(&str, &str); 3] = [
+    ("{}", "NoState"),
+    (r#"{"state":[]}"#, "BadState"),
+    (r#"{"state":null}"#, "BadState"),
+];
+
 #[test]
 fn an_opening_needs_a_dict_as_its_state(rt: HostRuntime) -> Result<(), Fail> {
-    let alloc = rt.alloc();
-    for (data, wanted) in [
-        ("{}", "NoState"),
-        (r#"{"state":[]}"#, "BadState"),
-        (r#"{"state":null}"#, "BadState"),
-    ] {
-        assert_eq!(rt; opens(alloc, data, "[]")?.as_str(), wanted, "at {data}");
+    for kind in KINDS {
+        for (data, wanted) in WITHOUT_STATES {
+            let found = opens(rt.alloc(), kind, data, "[]")?;
+            assert_eq!(rt; found.as_str(), wanted, "of {kind:?} at {data}");
+        }
     }
     Ok(())
 }
 
 #[test]
 fn the_greatest_number_is_kept(rt: HostRuntime) -> Result<(), Fail> {
-    let found = opens(rt.alloc(), r#"{"state":{"v":18446744073709551615}}"#, "[]")?;
-    assert_eq!(rt; found.as_str(), r#"state {"v":18446744073709551615} [];"#);
-    Ok(())
-}
-
-#[test]
-fn update_changes_key_by_key(rt: HostRuntime) -> Result<(), Fail> {
-    let first = r#"{"state":{"value":1,"min":0},"buffer_paths":[]}"#;
-    let update = r#"{"method":"update","state":{"value":2,"max":9}}"#;
-    let found = tells(rt.alloc(), first, update, "[]")?;
-    assert_eq!(rt; found.as_str(), r#"state {"max":9,"min":0,"value":2} [];"#);
-    Ok(())
-}
-
-const ONE_BUFFER: &str = r#"["AQI="]"#;
-
-const TWO_BUFFERS: &str = r#"["AQI=","/w=="]"#;
-
-/// An update's state, paths and buffers, and the answer.
-const UPDATES: [(&str, &str, &str, &str); 8] = [
-    ("{}", r#"[["x"],["y"]]"#, ONE_BUFFER, "BufferMissing(1)"),
-    (
-        "{}",
-        r#"[["x"]]"#,
-        TWO_BUFFERS,
-        r#"state {"k":1} [["x"]] 1.2.;"#,
-    ),
-    (
-        "{}",
-        r#"[["x"],["x"]]"#,
-        TWO_BUFFERS,
-        r#"state {"k":1} [["x"]] 255.;"#,
-    ),
-    ("{}", "[[]]", ONE_BUFFER, "BadPath(0)"),
-    (r#"{"l":[null]}"#, r#"[["l",1]]"#, ONE_BUFFER, "BadPath(0)"),
-    ("{}", r#"[["p"],["p","q"]]"#, TWO_BUFFERS, "BadPath(1)"),
-    ("[]", "7", ONE_BUFFER, "BadState"),
-    ("{}", "7", ONE_BUFFER, "BadPath(0)"),
-];
-
-fn updates(alloc: Global, state: &str, paths: &str, buffers: &str) -> Result<String, Fail> {
-    let update = format!(in alloc;
-        r#"{{"method":"update","state":{state},"buffer_paths":{paths}}}"#
-    )?;
-    tells(alloc, ONE, update.as_str(), buffers)
-}
-
-#[test]
-fn buffers_of_an_update_are_placed_or_refused(rt: HostRuntime) -> Result<(), Fail> {
-    let alloc = rt.alloc();
-    for (state, paths, buffers, wanted) in &UPDATES {
-        let found = updates(alloc, state, paths, buffers)?;
-        assert_eq!(rt; found.as_str(), *wanted, "at {state} {paths}");
+    for kind in KINDS {
+        let found = opens(
+            rt.alloc(),
+            kind,
+            r#"{"state":{"v":18446744073709551615}}"#,
+            "[]",
+        )?;
+        assert_eq!(rt;
+            found.as_str(),
+            r#"state {"v":18446744073709551615} [];"#,
+            "of {kind:?}"
+        );
     }
     Ok(())
 }
@@ -330,57 +335,46 @@ fn request_state_tells_the_state_and_its_buffers(rt: HostRuntime) -> Result<(), 
     let alloc = rt.alloc();
     let first = r#"{"state":{"y":{"z":[null]}},"buffer_paths":[["x"],["y","z",0]]}"#;
     let now = state_of(alloc, first, r#"["AQI=","/w=="]"#)?;
-    let request = plain_body(alloc, r#"{"method":"request_state"}"#)?;
-    let found = shown(alloc, told(alloc, &now, request))?;
     let wanted =
         r#"message {"buffer_paths":[["x"],["y","z",0]],"method":"update","state":{"y":{"z":[null]}}} 1.2. 255.;"#;
-    assert_eq!(rt; found.as_str(), wanted);
+    for kind in KINDS {
+        let request = plain_body(alloc, r#"{"method":"request_state"}"#)?;
+        let found = shown(alloc, told(alloc, kind, &now, request))?;
+        assert_eq!(rt; found.as_str(), wanted, "of {kind:?}");
+    }
     Ok(())
 }
 
 #[test]
 fn custom_hands_over_its_content(rt: HostRuntime) -> Result<(), Fail> {
     let custom = r#"{"method":"custom","content":{"go":true}}"#;
-    let found = tells(rt.alloc(), ONE, custom, r#"["AQI="]"#)?;
-    assert_eq!(rt; found.as_str(), r#"custom {"go":true} 1.2.;"#);
-    Ok(())
-}
-
-#[test]
-fn other_messages_change_nothing_or_are_refused(rt: HostRuntime) -> Result<(), Fail> {
-    let alloc = rt.alloc();
-    for (message, wanted) in [
-        (r#"{"method":"update"}"#, ""),
-        (r#"{"method":"custom"}"#, ""),
-        (r#"{"method":"zap"}"#, "UnknownMethod"),
-        (r#"{"method":"echo_update","state":{}}"#, "UnknownMethod"),
-        ("{}", "NoMethod"),
-        (r#"{"method":7}"#, "NoMethod"),
-    ] {
-        let found = tells(alloc, ONE, message, "[]")?;
-        assert_eq!(rt; found.as_str(), wanted, "at {message}");
+    for kind in KINDS {
+        let found = tells(rt.alloc(), kind, ONE, custom, r#"["AQI="]"#)?;
+        assert_eq!(rt;
+            found.as_str(),
+            r#"custom {"go":true} 1.2.;"#,
+            "of {kind:?}"
+        );
     }
     Ok(())
 }
 
-// What a push of the keys of the second data is answered, on the comm of a widget that was opened with the first.
-fn pushes(alloc: Global, first: &str, keys: &str) -> Result<String, Fail> {
-    let now = state_of(alloc, first, "[]")?;
-    let keys = state_of(alloc, keys, "[]")?;
-    let answer = pushed(alloc, &now, keys);
-    drop(now);
-    shown(alloc, answer)
-}
+const OTHERS: [(&str, &str); 6] = [
+    (r#"{"method":"update"}"#, ""),
+    (r#"{"method":"custom"}"#, ""),
+    (r#"{"method":"zap"}"#, "UnknownMethod"),
+    (r#"{"method":"echo_update","state":{}}"#, "UnknownMethod"),
+    ("{}", "NoMethod"),
+    (r#"{"method":7}"#, "NoMethod"),
+];
 
 #[test]
-fn a_push_tells_just_its_keys(rt: HostRuntime) -> Result<(), Fail> {
-    let found = pushes(
-        rt.alloc(),
-        r#"{"state":{"value":1,"min":0}}"#,
-        r#"{"state":{"value":5}}"#,
-    )?;
-    let wanted =
-        r#"state {"min":0,"value":5} [];message {"buffer_paths":[],"method":"update","state":{"value":5}};"#;
-    assert_eq!(rt; found.as_str(), wanted);
+fn other_messages_change_nothing_or_are_refused(rt: HostRuntime) -> Result<(), Fail> {
+    for kind in KINDS {
+        for (message, wanted) in OTHERS {
+            let found = tells(rt.alloc(), kind, ONE, message, "[]")?;
+            assert_eq!(rt; found.as_str(), wanted, "of {kind:?} at {message}");
+        }
+    }
     Ok(())
 }

@@ -1,11 +1,11 @@
-//! Each call of a client once, with a widget.
+//! Each call of a client once, with a widget, and with one that echoes.
 ghost use Rattle.comm_targets.specs.Meaning.{IsIdle};
 
 use crate::tests::named::{Play, named};
 use crate::tests::words::{Told, Wrong, answer, empty, holds, limits, value_of, valued};
 use comm_core::Reply;
 use comm_manager::{Client, Manager, Naming};
-use comm_targets::{Kind, Target};
+use comm_targets::Target;
 use comm_value::Text;
 use std::alloc::Global;
 use std::sync::Wait;
@@ -13,7 +13,7 @@ use std::test::*;
 use uuid::Uuid;
 use widget_target::WidgetTarget;
 
-// A client registers a widget, and a second one of that name comes back.
+// A client registers a widget, and then a second one in its place.
 fn registers<J: Naming, T: Target, R: Wait>(
     rt: &R,
     alloc: Global,
@@ -27,20 +27,12 @@ fn registers<J: Naming, T: Target, R: Wait>(
 {
     let name = Text::copy_of(alloc, "w")?;
     match client.register(rt, manager, name, target) {
-        Ok((answered, back)) => holds(
-            matches!(answered.reply, Reply::Registered) && answered.number == 1 && back.is_none(),
-        )?,
+        Ok(answered) => holds(matches!(answered.reply, Reply::Registered) && answered.number == 1)?,
         Err(_) => return Err(Wrong),
     }
     let name = Text::copy_of(alloc, "w")?;
     match client.register(rt, manager, name, other) {
-        Ok((answered, back)) => {
-            holds(matches!(answered.reply, Reply::NameTaken) && answered.number == 2)?;
-            match back {
-                Some(target) => holds(matches!(target.kind(), Kind::Widget) && target.idle()),
-                None => Err(Wrong),
-            }
-        }
+        Ok(answered) => holds(matches!(answered.reply, Reply::Replaced(_)) && answered.number == 2),
         Err(_) => Err(Wrong),
     }
 }
@@ -137,5 +129,10 @@ fn each_call_once(rt: HostRuntime) -> Result<(), Fail> {
     let other = WidgetTarget::new(alloc);
     named(&rt, alloc, limits(2, 100, 64), Play::Tour, target, other).map_err(|_| Fail::new(
         "each call once",
+    ))?;
+    let target = WidgetTarget::with_echo(alloc);
+    let other = WidgetTarget::with_echo(alloc);
+    named(&rt, alloc, limits(2, 100, 64), Play::Tour, target, other).map_err(|_| Fail::new(
+        "each call once, of a widget that echoes",
     ))
 }

@@ -137,6 +137,7 @@ impl Target for Counted {
 #[derive(Clone, Copy)]
 pub enum How {
     Unregister,
+    Replace,
     Shutdown,
     Discard,
 }
@@ -170,6 +171,23 @@ fn unregistered<J: Naming, T: Target, R: Wait>(
     holds(answer(client.unregister(rt, manager, name)) == Told::Unregistered(3))
 }
 
+// Another target takes its place.
+fn replaced<J: Naming, T: Target, R: Wait>(
+    rt: &R,
+    alloc: Global,
+    manager: &Manager<J, T>,
+    client: &mut Client<J>,
+    other: T,
+) -> Result<(), Wrong>
+    requires { IsIdle (T.means other) }
+{
+    let name = Text::copy_of(alloc, "t")?;
+    match client.register(rt, manager, name, other) {
+        Ok(answered) => holds(answer(Ok(answered)) == Told::Replaced(3)),
+        Err(_) => Err(Wrong),
+    }
+}
+
 // The manager ends as it is told.
 fn ended<J: Naming, T: Target, R: Wait>(
     rt: &R,
@@ -183,7 +201,7 @@ fn ended<J: Naming, T: Target, R: Wait>(
             let farewell = shut(rt, manager, clients, publisher)?;
             holds(farewell.history.len() == 3 && farewell.untaken.len() == 3)
         }
-        How::Unregister | How::Discard => {
+        How::Unregister | How::Replace | How::Discard => {
             manager.discard(rt);
             Ok(())
         }
@@ -199,8 +217,10 @@ pub fn ending<J: Naming, T: Target, R: Wait>(
     publisher: Publisher<J>,
     how: How,
     target: T,
+    other: T,
 ) -> Result<(), Wrong>
-    requires { IsIdle (T.means target) }
+    requires target { IsIdle (T.means target) }
+    requires other { IsIdle (T.means other) }
 {
     let mut clients = clients;
     let Some(mut client) = clients.pop() else {
@@ -210,6 +230,7 @@ pub fn ending<J: Naming, T: Target, R: Wait>(
     let done = begun(rt, alloc, &manager, &mut client, target);
     let gone = match how {
         How::Unregister => unregistered(rt, alloc, &manager, &mut client),
+        How::Replace => replaced(rt, alloc, &manager, &mut client, other),
         How::Shutdown | How::Discard => Ok(()),
     };
     let is_back = clients.push(client).is_ok();
@@ -220,8 +241,13 @@ pub fn ending<J: Naming, T: Target, R: Wait>(
     holds(is_back)
 }
 
-// The target ends once, when no comm of it is open.
-fn ends_once<R: Threads + Wait + Sync>(rt: &R, alloc: Global, how: How) -> Result<(), Wrong> {
+// So many targets end, each once, when no comm of it is open.
+fn end_once<R: Threads + Wait + Sync>(
+    rt: &R,
+    alloc: Global,
+    how: How,
+    count: u64,
+) -> Result<(), Wrong> {
     let ends = Arc::new(alloc, AtomicU64::new(0))?;
     let target = Counted::new(alloc, Arc::try_clone(&ends)?);
     let other = Counted::new(alloc, Arc::try_clone(&ends)?);
@@ -233,20 +259,25 @@ fn ends_once<R: Threads + Wait + Sync>(rt: &R, alloc: Global, how: How) -> Resul
         target,
         other,
     )?;
-    holds(ends.load(Ordering::SeqCst) == 1)
+    holds(ends.load(Ordering::SeqCst) == count)
 }
 
 #[test]
 fn a_target_ends_at_an_unregister(rt: HostRuntime) -> Result<(), Fail> {
-    ends_once(&rt, rt.alloc(), How::Unregister).map_err(|_| Fail::new("at an unregister"))
+    end_once(&rt, rt.alloc(), How::Unregister, 1).map_err(|_| Fail::new("at an unregister"))
+}
+
+#[test]
+fn a_target_ends_where_it_is_replaced(rt: HostRuntime) -> Result<(), Fail> {
+    end_once(&rt, rt.alloc(), How::Replace, 2).map_err(|_| Fail::new("where it is replaced"))
 }
 
 #[test]
 fn a_target_ends_at_a_shutdown(rt: HostRuntime) -> Result<(), Fail> {
-    ends_once(&rt, rt.alloc(), How::Shutdown).map_err(|_| Fail::new("at a shutdown"))
+    end_once(&rt, rt.alloc(), How::Shutdown, 1).map_err(|_| Fail::new("at a shutdown"))
 }
 
 #[test]
 fn a_target_ends_at_a_discard(rt: HostRuntime) -> Result<(), Fail> {
-    ends_once(&rt, rt.alloc(), How::Discard).map_err(|_| Fail::new("at a discard"))
+    end_once(&rt, rt.alloc(), How::Discard, 1).map_err(|_| Fail::new("at a discard"))
 }

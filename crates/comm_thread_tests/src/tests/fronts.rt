@@ -26,7 +26,7 @@ fn registered<J: Naming, T: Target, R: Wait>(
 {
     let name = Text::copy_of(alloc, "w")?;
     match client.register(rt, manager, name, target) {
-        Ok((answered, back)) => holds(answered.number == 1 && back.is_none()),
+        Ok(answered) => holds(answered.number == 1),
         Err(_) => Err(Wrong),
     }
 }
@@ -128,6 +128,11 @@ fn what_is_heard_is_read(rt: HostRuntime) -> Result<(), Fail> {
     let other = WidgetTarget::new(alloc);
     named(&rt, alloc, limits(3, 100, 64), Play::Hearing, target, other).map_err(|_| Fail::new(
         "what is heard is read",
+    ))?;
+    let target = WidgetTarget::with_echo(alloc);
+    let other = WidgetTarget::with_echo(alloc);
+    named(&rt, alloc, limits(3, 100, 64), Play::Hearing, target, other).map_err(|_| Fail::new(
+        "what is heard of a widget that echoes is read",
     ))
 }
 

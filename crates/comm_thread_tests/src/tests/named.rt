@@ -48,7 +48,7 @@ fn opened<J: Naming + Send + Sync, T: Target, R: Threads + Wait + Sync>(
         Play::Threads => threaded(rt, alloc, manager, clients, publisher, target),
         Play::Limit(limit) => limited(rt, alloc, manager, clients, publisher, limit),
         Play::ShutTwice => shut_twice(rt, manager, clients, publisher),
-        Play::Ending(how) => ending(rt, alloc, manager, clients, publisher, how, target),
+        Play::Ending(how) => ending(rt, alloc, manager, clients, publisher, how, target, other),
         Play::Tour => toured(rt, alloc, manager, clients, target, other),
         Play::Hearing => heard(rt, alloc, manager, clients, target),
         Play::HeldOpen(moments) => held_open(rt, alloc, manager, clients, target, moments),

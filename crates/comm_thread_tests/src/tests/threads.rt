@@ -63,7 +63,7 @@ fn registered<J: Naming, T: Target, R: Wait>(
 {
     let name = Text::copy_of(alloc, "n")?;
     match client.register(rt, manager, name, target) {
-        Ok((answered, back)) => holds(answered.number == 1 && back.is_none()),
+        Ok(answered) => holds(answered.number == 1),
         Err(_) => Err(Wrong),
     }
 }

@@ -90,6 +90,7 @@ pub fn empty(alloc: Global) -> Body {
 /// What a change answered: its number, or why it wasn't made.
 #[derive(Clone, Copy, PartialEq, Eq, Debug)]
 pub enum Told {
+    Replaced(u64),
     Opened(u64),
     Launched(u64),
     Delivered(u64),
@@ -105,6 +106,7 @@ pub enum Told {
 pub fn answer<J: Naming>(given: Result<Answered<J>, Unavailable<Stamp<J>>>) -> Told {
     match given {
         Ok(answered) => match answered.reply {
+            Reply::Replaced(_) => Told::Replaced(answered.number),
             Reply::Opened => Told::Opened(answered.number),
             Reply::Launched => Told::Launched(answered.number),
             Reply::Delivered(None) => Told::Delivered(answered.number),

@@ -11,6 +11,9 @@ returns-in-Nothing g c = not_staged _ _ _ _ c.requires.distinct c.requires.stage
 pub returns-in-Register : goal.returns-in-Register
 returns-in-Register g c = not_staged _ _ _ _ c.requires.distinct c.requires.staged.4 c.in-Register.is (λ name. refl)
 
+pub returns-in-Replace : goal.returns-in-Replace
+returns-in-Replace g c = not_staged _ _ _ _ c.requires.distinct c.requires.staged.4 c.in-Replace.is (λ name. refl)
+
 pub returns-in-Unregister : goal.returns-in-Unregister
 returns-in-Unregister g c = not_staged _ _ _ _ c.requires.distinct c.requires.staged.4 c.in-Unregister.is (λ name. refl)
 

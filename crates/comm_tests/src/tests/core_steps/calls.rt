@@ -3,12 +3,15 @@ ghost use Rattle.std.specs.Prelude.{◌≡◌, true, [], None};
 ghost use Rattle.comm_targets.specs.Meaning.{IsIdle};
 
 use crate::tests::core_steps::calls::rows::{
-    ASKED, FULL, IN_TWO, LEFT_OPEN, TAKEN_BACK, TO_ASKED, TO_FULL, TO_IN_TWO, TO_LEFT_OPEN,
-    TO_TAKEN_BACK, TO_UNREGISTERED, UNREGISTERED,
+    ASKED, CLOSED, FULL, IN_TWO, LEFT_OPEN, OPENED_AGAIN, STILL_OPEN, TAKEN_BACK, TO_ASKED,
+    TO_FULL, TO_IN_TWO, TO_LEFT_OPEN, TO_OPENED_AGAIN, TO_REPLACED, TO_TAKEN_BACK, TO_UNREGISTERED,
+    UNREGISTERED,
 };
 use crate::tests::core_steps::diary::Diary;
-use crate::tests::core_steps::steps::{answer_in_two, answers, limits, register, take_back};
-use crate::tests::core_steps::words::{holds, same};
+use crate::tests::core_steps::steps::{
+    answer_in_two, answers, limits, register, register_taken_back, take_back,
+};
+use crate::tests::core_steps::words::same;
 use comm_core::Core;
 use comm_targets::{Answer, Event, Kind, OpenComms, Target, TargetFault};
 use comm_value::Dict;
@@ -16,6 +19,16 @@ use std::alloc::Global;
 use std::test::Fail;
 
 mod rows;
+
+/// How the first target ends.
+#[derive(Clone, Copy, Drop)]
+enum Ending {
+    Unregistered,
+    /// With the manager.
+    Stopped,
+    /// By the second target.
+    Replaced,
+}
 
 /// A target of kind Free that notes each call of it, but for those that only ask what it is. It refuses to open without data, with
 /// code 7, and each message on the comm `deaf`, with code 8. Its answers are empty.
@@ -125,12 +138,19 @@ fn conversation<T: Target>(alloc: Global, core: &mut Core<T>) -> Result<(), Fail
     answers(alloc, core, &UNREGISTERED)
 }
 
-fn in_a_manager<T: Target>(
-    alloc: Global,
-    target: T,
-    second: T,
-    is_stopped: bool,
-) -> Result<(), Fail>
+// The second target takes the name of the first, which has comms: once that is taken back, and then it is made.
+fn replaced<T: Target>(alloc: Global, core: &mut Core<T>, second: T) -> Result<(), Fail>
+    requires settled { core.old.settled ≡ true }
+    requires idle { IsIdle (T.means second) }
+    ensures { core.new.settled ≡ true }
+{
+    let second = register_taken_back(alloc, core, "t", second)?;
+    answers(alloc, core, &STILL_OPEN)?;
+    register(alloc, core, "t", second, "replaced b c a", &CLOSED)?;
+    answers(alloc, core, &OPENED_AGAIN)
+}
+
+fn in_a_manager<T: Target>(alloc: Global, target: T, second: T, ending: Ending) -> Result<(), Fail>
     requires first { IsIdle (T.means target) }
     requires second { IsIdle (T.means second) }
 {
@@ -138,47 +158,47 @@ fn in_a_manager<T: Target>(
         Ok(core) => core,
         Err(_) => return Err(Fail::new("no core")),
     };
-    let done = with_targets(alloc, &mut core, target, second, is_stopped);
+    let done = with_targets(alloc, &mut core, target, second, ending);
     core.stop_all();
     done
 }
 
-// A second target finds the name taken.
 fn with_targets<T: Target>(
     alloc: Global,
     core: &mut Core<T>,
     target: T,
     second: T,
-    is_stopped: bool,
+    ending: Ending,
 ) -> Result<(), Fail>
     requires settled { core.old.settled ≡ true }
     requires first { IsIdle (T.means target) }
     requires second { IsIdle (T.means second) }
     ensures { core.new.settled ≡ true }
 {
-    let _back = register(alloc, core, "t", target, "registered")?;
-    let is_back = register(alloc, core, "t", second, "name_taken")?;
-    holds(is_back)?;
-    if is_stopped {
-        answers(alloc, core, &LEFT_OPEN)
-    } else {
-        conversation(alloc, core)
+    register(alloc, core, "t", target, "registered", &[])?;
+    match ending {
+        Ending::Unregistered => conversation(alloc, core),
+        Ending::Stopped => answers(alloc, core, &LEFT_OPEN),
+        Ending::Replaced => {
+            answers(alloc, core, &LEFT_OPEN)?;
+            replaced(alloc, core, second)
+        }
     }
 }
 
-fn calls(alloc: Global, is_stopped: bool) -> Result<(String, String), Fail> {
+fn calls(alloc: Global, ending: Ending) -> Result<(String, String), Fail> {
     let first = Diary::new(alloc)?;
     let second = Diary::new(alloc)?;
     let target: Box<dyn Target> = Box::new(alloc, Noted::new(alloc, first.share()?))?;
-    let refused: Box<dyn Target> = Box::new(alloc, Noted::new(alloc, second.share()?))?;
-    in_a_manager(alloc, target, refused, is_stopped)?;
+    let successor: Box<dyn Target> = Box::new(alloc, Noted::new(alloc, second.share()?))?;
+    in_a_manager(alloc, target, successor, ending)?;
     Ok((first.text(alloc)?, second.text(alloc)?))
 }
 
 #[test]
 fn a_target_is_called_once_for_each_thing(rt: HostRuntime) -> Result<(), Fail> {
     let alloc = rt.alloc();
-    let (first, second) = calls(alloc, false)?;
+    let (first, second) = calls(alloc, Ending::Unregistered)?;
     let mut want = String::from_str(alloc, TO_ASKED)?;
     for text in [TO_IN_TWO, TO_FULL, TO_TAKEN_BACK, TO_UNREGISTERED] {
         want.push_str(text)?;
@@ -190,7 +210,17 @@ fn a_target_is_called_once_for_each_thing(rt: HostRuntime) -> Result<(), Fail> {
 #[test]
 fn a_target_hears_of_each_close_before_it_stops(rt: HostRuntime) -> Result<(), Fail> {
     let alloc = rt.alloc();
-    let (first, second) = calls(alloc, true)?;
+    let (first, second) = calls(alloc, Ending::Stopped)?;
     same(alloc, first.as_str(), TO_LEFT_OPEN)?;
     same(alloc, second.as_str(), "")
+}
+
+#[test]
+fn a_target_that_is_replaced_hears_of_each_close_before_it_stops(
+    rt: HostRuntime,
+) -> Result<(), Fail> {
+    let alloc = rt.alloc();
+    let (first, second) = calls(alloc, Ending::Replaced)?;
+    same(alloc, first.as_str(), TO_REPLACED)?;
+    same(alloc, second.as_str(), TO_OPENED_AGAIN)
 }

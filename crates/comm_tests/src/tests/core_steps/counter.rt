@@ -115,7 +115,7 @@ fn counted<T: Target>(alloc: Global, core: &mut Core<T>, target: T) -> Result<()
     requires idle { IsIdle (T.means target) }
     ensures { core.new.settled ≡ true }
 {
-    let _back = register(alloc, core, "n", target, "registered")?;
+    register(alloc, core, "n", target, "registered", &[])?;
     answers(alloc, core, &COUNTED)?;
     reads(alloc, core)?;
     answers(alloc, core, &OWN_CALLS)

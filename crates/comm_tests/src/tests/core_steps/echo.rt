@@ -3,7 +3,7 @@ ghost use Rattle.std.specs.Prelude.{◌≡◌, true};
 ghost use Rattle.comm_targets.specs.Meaning.{IsIdle};
 
 use crate::tests::core_steps::steps::{Asked, Step, answers, limits, register};
-use crate::tests::core_steps::words::{Sent, holds};
+use crate::tests::core_steps::words::Sent;
 use comm_core::Core;
 use comm_targets::{Echo, Target};
 use std::alloc::Global;
@@ -71,10 +71,8 @@ fn echoed<T: Target>(alloc: Global, core: &mut Core<T>, first: T, second: T) -> 
     requires second { IsIdle (T.means second) }
     ensures { core.new.settled ≡ true }
 {
-    let is_back = register(alloc, core, "t", first, "registered")?;
-    holds(!is_back)?;
-    let is_back = register(alloc, core, "t", second, "name_taken")?;
-    holds(is_back)?;
+    register(alloc, core, "t", first, "registered", &[])?;
+    register(alloc, core, "t", second, "replaced", &[])?;
     answers(alloc, core, &ECHOED)
 }
 

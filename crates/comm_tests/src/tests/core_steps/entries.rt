@@ -16,7 +16,7 @@ use widget_target::WidgetTarget;
 
 mod words;
 
-/// Calls in turn, each with its entry. The widget `w` is registered before them, then the free target `t`.
+/// Calls in turn, each with its entry. The widget `w` is registered before them, then the free target `t`, which takes the first call and is replaced.
 const CALLED: [(Asked, &str); 11] = [
     (
         Asked::OpenWith {
@@ -52,7 +52,7 @@ const CALLED: [(Asked, &str); 11] = [
     (
         Asked::Launch("w"),
         r#"2 9 launch 67e55044-10b1-426f-9247-bb680e5fe0c8 w {}; state {}; launched
-{"buffers":[],"call":7,"client":0,"content":{"comm_id":"67e55044-10b1-426f-9247-bb680e5fe0c8","data":{"buffer_paths":[],"state":{}},"target_name":"w"},"header":{"msg_type":"comm_open"},"metadata":{"version":"2.0.0"}}"#,
+{"buffers":[],"call":7,"client":0,"content":{"comm_id":"67e55044-10b1-426f-9247-bb680e5fe0c8","data":{"buffer_paths":[],"state":{}},"target_name":"w"},"header":{"msg_type":"comm_open"},"metadata":{"version":"2.1.0"}}"#,
     ),
     (
         Asked::Push("67e55044-10b1-426f-9247-bb680e5fe0c8"),
@@ -80,6 +80,34 @@ const CALLED: [(Asked, &str); 11] = [
         "2 9 unregister t; nobody was asked; no_target",
     ),
 ];
+
+/// An update of the comm that is launched.
+const UPDATE: Asked = Asked::MessageWith {
+    id: "67e55044-10b1-426f-9247-bb680e5fe0c8",
+    data: r#"{"method":"update","state":{"k":1}}"#,
+};
+
+/// The entries of a widget's register, and of its update.
+#[derive(Drop)]
+struct Widgets {
+    registered: &'static str,
+    updated: &'static str,
+}
+
+const SILENT: Widgets = Widgets {
+    registered: "2 9 register w Widget 0; nobody was asked; registered",
+    updated: r#"2 9 msg 67e55044-10b1-426f-9247-bb680e5fe0c8 {"method":"update","state":{"k":1}} 1.2.; state {"k":1}; delivered"#,
+};
+
+const ECHOING: Widgets = Widgets {
+    registered: "2 9 register w WidgetEcho 0; nobody was asked; registered",
+    updated: r#"2 9 msg 67e55044-10b1-426f-9247-bb680e5fe0c8 {"method":"update","state":{"k":1}} 1.2.; state {"k":1}, message {"buffer_paths":[],"method":"echo_update","state":{"k":1}}; delivered
+{"buffers":[],"call":7,"client":0,"content":{"comm_id":"67e55044-10b1-426f-9247-bb680e5fe0c8","data":{"buffer_paths":[],"method":"echo_update","state":{"k":1}}},"header":{"msg_type":"comm_msg"},"metadata":{}}"#,
+};
+
+/// The entry of the register that replaces a free target with the comm `a`.
+const REPLACED: &str = r#"2 9 register t Free 0; nobody was asked; replaced a
+{"buffers":[],"call":7,"client":0,"content":{"comm_id":"a","data":{}},"header":{"msg_type":"comm_close"},"metadata":{}}"#;
 
 // The entry's text, and the change is made.
 fn entry_of<T: Target>(alloc: Global, core: &mut Core<T>, ready: Ready<T>) -> Result<String, Fail>
@@ -140,33 +168,61 @@ fn called<T: Target>(alloc: Global, core: &mut Core<T>) -> Result<(), Fail>
     Ok(())
 }
 
+// A widget is registered, launched, updated and closed.
+fn widget_called<T: Target>(
+    alloc: Global,
+    core: &mut Core<T>,
+    widget: T,
+    widgets: &Widgets,
+) -> Result<(), Fail>
+    requires settled { core.old.settled ≡ true }
+    requires idle { IsIdle (T.means widget) }
+    ensures { core.new.settled ≡ true }
+{
+    registered(alloc, core, "w", widget, widgets.registered)?;
+    has_entry(alloc, core, &CALLED[4].0, CALLED[4].1)?;
+    has_entry(alloc, core, &UPDATE, widgets.updated)?;
+    has_entry(alloc, core, &CALLED[7].0, CALLED[7].1)
+}
+
 fn conversation<T: Target>(
     alloc: Global,
     core: &mut Core<T>,
     widget: T,
+    widgets: &Widgets,
+    first: T,
     free: T,
 ) -> Result<(), Fail>
     requires settled { core.old.settled ≡ true }
     requires widget { IsIdle (T.means widget) }
+    requires first { IsIdle (T.means first) }
     requires free { IsIdle (T.means free) }
     ensures { core.new.settled ≡ true }
 {
-    let widget_is = "2 9 register w Widget 0; nobody was asked; registered";
-    registered(alloc, core, "w", widget, widget_is)?;
+    widget_called(alloc, core, widget, widgets)?;
     let free_is = "2 9 register t Free 0; nobody was asked; registered";
-    registered(alloc, core, "t", free, free_is)?;
+    registered(alloc, core, "t", first, free_is)?;
+    has_entry(alloc, core, &CALLED[0].0, CALLED[0].1)?;
+    registered(alloc, core, "t", free, REPLACED)?;
     called(alloc, core)
 }
 
-fn in_a_manager<T: Target>(alloc: Global, widget: T, free: T) -> Result<(), Fail>
+fn in_a_manager<T: Target>(
+    alloc: Global,
+    widget: T,
+    widgets: &Widgets,
+    first: T,
+    free: T,
+) -> Result<(), Fail>
     requires widget { IsIdle (T.means widget) }
+    requires first { IsIdle (T.means first) }
     requires free { IsIdle (T.means free) }
 {
     let mut core = match Core::new(alloc, limits(4_096)) {
         Ok(core) => core,
         Err(_) => return Err(Fail::new("no core")),
     };
-    let done = conversation(alloc, &mut core, widget, free);
+    let done = conversation(alloc, &mut core, widget, widgets, first, free);
     core.stop_all();
     done
 }
@@ -175,6 +231,11 @@ fn in_a_manager<T: Target>(alloc: Global, widget: T, free: T) -> Result<(), Fail
 fn what_stands_ready_gives_its_entry(rt: HostRuntime) -> Result<(), Fail> {
     let alloc = rt.alloc();
     let widget: Box<dyn Target> = Box::new(alloc, WidgetTarget::new(alloc))?;
+    let first: Box<dyn Target> = Box::new(alloc, Giving::new(alloc))?;
     let free: Box<dyn Target> = Box::new(alloc, Giving::new(alloc))?;
-    in_a_manager(alloc, widget, free)
+    in_a_manager(alloc, widget, &SILENT, first, free)?;
+    let echoing: Box<dyn Target> = Box::new(alloc, WidgetTarget::with_echo(alloc))?;
+    let first: Box<dyn Target> = Box::new(alloc, Giving::new(alloc))?;
+    let free: Box<dyn Target> = Box::new(alloc, Giving::new(alloc))?;
+    in_a_manager(alloc, echoing, &ECHOING, first, free)
 }

@@ -182,7 +182,7 @@ fn free_scenario<T: Target>(
     requires idle { IsIdle (T.means target) }
     ensures { core.new.settled ≡ true }
 {
-    let _back = register(alloc, core, "t", target, "registered")?;
+    register(alloc, core, "t", target, "registered", &[])?;
     answers(alloc, core, &OPENED)?;
     has_state(core, a)?;
     answers(alloc, core, &UNREGISTERED)?;

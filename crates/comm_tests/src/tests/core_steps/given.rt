@@ -268,7 +268,7 @@ fn conversation<T: Target>(alloc: Global, core: &mut Core<T>, target: T) -> Resu
     requires idle { IsIdle (T.means target) }
     ensures { core.new.settled ≡ true }
 {
-    let _back = register(alloc, core, "t", target, "registered")?;
+    register(alloc, core, "t", target, "registered", &[])?;
     answers(alloc, core, &OPENED)?;
     all_refused(alloc, core)?;
     all_told(alloc, core)?;

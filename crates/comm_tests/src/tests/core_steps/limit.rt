@@ -63,7 +63,7 @@ fn limited_in<T: Target>(alloc: Global, core: &mut Core<T>, target: T) -> Result
     requires idle { IsIdle (T.means target) }
     ensures { core.new.settled ≡ true }
 {
-    let _back = register(alloc, core, "t", target, "registered")?;
+    register(alloc, core, "t", target, "registered", &[])?;
     answers(alloc, core, &LIMITED)
 }
 

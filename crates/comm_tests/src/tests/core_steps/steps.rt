@@ -3,7 +3,7 @@ ghost use Rattle.std.specs.Prelude.{◌≡◌, true, IfOk};
 ghost use Rattle.comm_targets.specs.Meaning.{IsIdle};
 ghost use Rattle.comm_core.specs.Ready.{HandsNothingIn, IsReady};
 
-use crate::tests::core_steps::words::{Sent, body, same, shown, wanted, words};
+use crate::tests::core_steps::words::{Sent, body, same, shown, wanted};
 use crate::tests::targets::one_buffer;
 use crate::tests::writing;
 use comm_core::{Call, Core, Finished, Limits, Outgoings, Ready, Reply};
@@ -159,9 +159,15 @@ pub(super) fn call_of(alloc: Global, asked: &Asked) -> Result<Call, Fail>
 }
 
 // The reply and the messages, and copies of them.
-fn is_wanted(alloc: Global, reply: &Reply, outgoing: &[Outgoing], step: &Step) -> Result<(), Fail> {
+fn is_wanted(
+    alloc: Global,
+    reply: &Reply,
+    outgoing: &[Outgoing],
+    words: &str,
+    messages: &[Sent],
+) -> Result<(), Fail> {
     let got = shown(alloc, reply, outgoing)?;
-    let want = wanted(alloc, step.reply, step.messages)?;
+    let want = wanted(alloc, words, messages)?;
     same(alloc, &got, &want)?;
     let copy = copies(alloc, reply, outgoing)?;
     same(alloc, &copy, &want)
@@ -179,7 +185,7 @@ fn answer<T: Target>(alloc: Global, core: &mut Core<T>, step: &Step) -> Result<(
 {
     let call = call_of(alloc, &step.asked)?;
     let (reply, outgoing) = core.step(call)?;
-    let done = is_wanted(alloc, &reply, &outgoing, step);
+    let done = is_wanted(alloc, &reply, &outgoing, step.reply, step.messages);
     drop(reply);
     drop(outgoing);
     done
@@ -209,7 +215,6 @@ pub(super) fn made<T: Target>(core: &mut Core<T>, ready: Ready<T>) -> (Reply, Ve
         reply,
         outgoing,
         ended,
-        back: _,
     } = core.finish(ready);
     if let Some(held) = ended {
         held.end();
@@ -229,7 +234,7 @@ pub(super) fn answer_in_two<T: Target>(
     let call = call_of(alloc, &step.asked)?;
     let ready = core.begin(call)?;
     let (reply, outgoing) = made(core, ready);
-    let done = is_wanted(alloc, &reply, &outgoing, step);
+    let done = is_wanted(alloc, &reply, &outgoing, step.reply, step.messages);
     drop(reply);
     drop(outgoing);
     done
@@ -250,33 +255,49 @@ pub(super) fn take_back<T: Target>(
     Ok(())
 }
 
-fn is_said(alloc: Global, reply: &Reply, want: &str) -> Result<(), Fail> {
-    let got = words(alloc, reply)?;
-    same(alloc, &got, want)
-}
-
-/// Registers a target, and says whether it came back.
+/// Registers a target.
 pub(super) fn register<T: Target>(
     alloc: Global,
     core: &mut Core<T>,
     name: &str,
     target: T,
-    want: &str,
-) -> Result<bool, Fail>
+    words: &str,
+    messages: &[Sent],
+) -> Result<(), Fail>
     requires settled { core.old.settled ≡ true }
     requires idle { IsIdle (T.means target) }
     ensures { core.new.settled ≡ true }
 {
     let name = Text::copy_of(alloc, name)?;
     match core.register(name, target) {
-        Ok((reply, back)) => {
-            let said = is_said(alloc, &reply, want);
+        Ok((reply, outgoing)) => {
+            let done = is_wanted(alloc, &reply, &outgoing, words, messages);
             drop(reply);
-            let is_back = back.is_some();
-            drop(back);
-            said?;
-            Ok(is_back)
+            drop(outgoing);
+            done
         }
+        Err(_) => Err(Fail::new("out of memory")),
+    }
+}
+
+/// Readies the register of a target, and takes it back.
+pub(super) fn register_taken_back<T: Target>(
+    alloc: Global,
+    core: &mut Core<T>,
+    name: &str,
+    target: T,
+) -> Result<T, Fail>
+    requires settled { core.old.settled ≡ true }
+    requires idle { IsIdle (T.means target) }
+    ensures settled { core.new.settled ≡ true }
+    ensures idle { IfOk result (λ t. IsIdle (T.means t)) }
+{
+    let name = Text::copy_of(alloc, name)?;
+    match core.begin_register(name, target) {
+        Ok(ready) => match core.withdraw(ready) {
+            Some(target) => Ok(target),
+            None => Err(Fail::new("the target doesn't come back")),
+        },
         Err(_) => Err(Fail::new("out of memory")),
     }
 }

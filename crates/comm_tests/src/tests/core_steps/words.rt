@@ -30,7 +30,7 @@ pub(super) fn body(alloc: Global, empty: bool) -> Result<Body, Fail> {
 pub(super) fn words(alloc: Global, reply: &Reply) -> Result<String, AllocError> {
     match reply {
         Reply::Registered => String::from_str(alloc, "registered"),
-        Reply::NameTaken => String::from_str(alloc, "name_taken"),
+        Reply::Replaced(ids) => with_ids(alloc, "replaced", ids.as_slice()),
         Reply::Opened => String::from_str(alloc, "opened"),
         Reply::IdInUse => String::from_str(alloc, "id_in_use"),
         Reply::OpenRefused(Refusal::NoTarget) => String::from_str(alloc, "refused no_target"),
@@ -44,7 +44,7 @@ pub(super) fn words(alloc: Global, reply: &Reply) -> Result<String, AllocError> 
         Reply::Fault(fault) => format!(in alloc; "fault, {fault}"),
         Reply::NoComm => String::from_str(alloc, "no_comm"),
         Reply::Closed => String::from_str(alloc, "closed"),
-        Reply::Unregistered(ids) => unregistered(alloc, ids.as_slice()),
+        Reply::Unregistered(ids) => with_ids(alloc, "unregistered", ids.as_slice()),
         Reply::NoTarget => String::from_str(alloc, "no_target"),
         Reply::Launched => String::from_str(alloc, "launched"),
         Reply::NotWidget => String::from_str(alloc, "not_widget"),
@@ -78,8 +78,8 @@ pub(super) fn state_words(alloc: Global, state: &StateAnswer) -> Result<String, 
     }
 }
 
-fn unregistered(alloc: Global, ids: &[Text]) -> Result<String, AllocError> {
-    let mut text = String::from_str(alloc, "unregistered")?;
+fn with_ids(alloc: Global, word: &str, ids: &[Text]) -> Result<String, AllocError> {
+    let mut text = String::from_str(alloc, word)?;
     for id in ids {
         text.push_str(" ")?;
         text.push_str(id.as_str())?;

@@ -1,6 +1,5 @@
-use Rattle.std.proofs.Common.{ap, sym, ◌∙◌, refl, cond}
+use Rattle.std.proofs.Common.{ap, sym, ◌∙◌, refl}
 use Rattle.comm_core.specs.Ready.{CoreValue}
-use Rattle.comm_core.specs.declared.plan.Plan.TheVariants.{Nothing, Register}
 use Rattle.comm_core.proofs.Readying.{sound-settled, register_ready, ready_allowed, ready_staged, ready_step, came_machine, undone_is}
 use Rattle.comm_core.proofs.manager.Core.begin_register.Goals as goal
 
@@ -17,8 +16,7 @@ pub returns-clause-ready : goal.returns-clause-ready
 returns-clause-ready g c =
     rw c.of.ensures (
     register_ready _ _ _ _ _ _ _ (rw c.make_room.ensures.boxes (c.self.invariant.nothing_staged (ap (λ (s : CoreValue). s.settled) c.self.view_is ∙ c.requires.settled))) (sym c.kind-kind.ensures) (sym c.notes-notes.ensures) c.requires.idle
-    c.contains-taken.result _ _ _ c.contains-taken.ensures c.registering-reply.ensures.reply c.new.ensures.items
-    (c.registering-reply.ensures.plan ∙ ap (λ t. cond c.contains-taken.result Nothing (Register t c.kind-kind.result c.notes-notes.result)) c.in-Ok.ensures)
+    _ _ _ c.in-Ok.ensures.verdict c.in-Ok.ensures.plan
     )
 
 pub returns-clause-machine : goal.returns-clause-machine

@@ -1,4 +1,4 @@
-use Rattle.comm_core.proofs.Readying.{finished_step, finished_ended, finished_back, staged_now, suits_now}
+use Rattle.comm_core.proofs.Readying.{finished_step, finished_ended, staged_now, suits_now}
 use Rattle.comm_core.proofs.Staging.{boxes_mean}
 use Rattle.comm_core.proofs.manager.Core.finish_begun.Goals as goal
 
@@ -13,9 +13,6 @@ returns-clause-step g c = finished_step _ _ _ _ _ _ _ _ _ _ _ _ c.self.view_is c
 
 pub returns-clause-ended : goal.returns-clause-ended
 returns-clause-ended g c = finished_ended _ _ _ _ _ _ _ _ _ _ _ _ c.self.view_is c.begun.view_is c.requires.ready _ c.make-ended.ensures.ended
-
-pub returns-clause-back : goal.returns-clause-back
-returns-clause-back g c = finished_back _ _ _ _ _ _ _ _ _ _ _ _ c.self.view_is c.begun.view_is c.requires.ready _ c.make-ended.ensures.back
 
 pub returns-clause-means : goal.returns-clause-means
 returns-clause-means g c = boxes_mean c.make-ended.new.boxes.all c.make-ended.new.comms.all c.make-ended.ensures.carried.0 c.make-ended.ensures.carried.1

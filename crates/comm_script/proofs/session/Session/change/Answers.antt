@@ -12,7 +12,7 @@ returns-clause-stands g c = on_ok_weaker c.answer-answered.result (λ _. λ limi
     let S : Stepped = record { reply = c.in_ok-reply.reply; outgoing = c.in_ok-reply.outgoing.items; next = core.machine c.step.new.self } in
     let done = c.in_ok-reply.ensures.step in
     let counted = c.answer-answered.ensures.counted in
-    stands_called limits now c.args.client c.args.call (λ reply. now.stock) S c.args.self.now c.answer-answered.new.self stands
+    stands_called limits now c.args.client c.args.call now.stock S c.args.self.now c.answer-answered.new.self stands
     (step_of limits now c.args.self.now c.args.call done.0 S c.exact_machines_leave_no_choice.ensures stands done.1 done.2) inside c.requires.client
     (ap (λ (s : Session g.row.T.Denot). s.limits) counted) (ap (λ (s : Session g.row.T.Denot). s.core.limit) counted ∙ c.step.ensures.limit) (ap (λ (s : Session g.row.T.Denot). core.machine s.core) counted)
     (c.steps_keep_machines_exact.ensures c.args.self.now.core.limit (core.machine c.args.self.now.core) c.args.call done.0 S stands.exact (handless_free c.args.call c.requires.call) done.2)

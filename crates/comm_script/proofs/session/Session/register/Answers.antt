@@ -1,19 +1,16 @@
 use Rattle.std.proofs.lemmas.Result.{on_ok_weaker}
-use Rattle.std.proofs.Common.{◌≡◌, ◌<◌, ◌++◌, [], length, None, Some, arith, ap, sym, subst, ◌∙◌, List}
-use Rattle.std.specs.Prelude.{option_map, option_to_list}
+use Rattle.std.proofs.Common.{◌≡◌, ◌<◌, length, None, Some, arith, ap, sym, subst, ◌∙◌}
 use Rattle.comm_targets.specs.Meaning.{Meaning}
 use Rattle.comm_core.specs.declared.call.Call.{Call}
 use Rattle.comm_core.specs.declared.call.Call.TheVariants as call
-use Rattle.comm_core.specs.declared.reply.Reply.{Reply}
-use Rattle.comm_core.specs.Machine.{Registered}
 use Rattle.comm_core.specs.Step.{Stepped}
 use Rattle.comm_core.specs.Ready as core
 use Rattle.comm_core.specs.Tables.{registered_of}
 use Rattle.comm_script.specs.Stock.{first_of, rest_of}
-use Rattle.comm_script.specs.Played.{Turn, registered, restocked}
+use Rattle.comm_script.specs.Played.{Turn, registered}
 use Rattle.comm_script.specs.Session.{Stands}
 use Rattle.comm_script.specs.declared.session.Session.{Session}
-use Rattle.comm_script.proofs.Turns.{step_of, stands_called, first_fits, rest_without, restocked_is, mapped, unasked}
+use Rattle.comm_script.proofs.Turns.{step_of, stands_called, first_fits, rest_without, unasked}
 use Rattle.comm_script.proofs.session.Session.register.Goals as goal
 
 pub returns-in_ok-append_bad-in-None-clause-stands : goal.returns-in_ok-append_bad-in-None-clause-stands
@@ -37,19 +34,14 @@ returns-in-Ok-clause-stands g c = on_ok_weaker c.answer-answered.result (λ _. �
     let inside : c.args.client < length c.args.self.now.made = omega arith in
     let m : Meaning = g.T.Target.means c.in-Some.target in
     let asked : Call = call.Register c.args.name m.kind m.notes in
-    let S : Stepped = record { reply = c.in-Ok.reply; outgoing = []; next = core.machine c.register.new.self } in
+    let S : Stepped = record { reply = c.in-Ok.reply; outgoing = c.in-Ok.outgoing.items; next = core.machine c.register.new.self } in
     let counted = c.answer-answered.ensures.counted in
     let first : first_of c.args.kind now.stock ≡ Some (registered_of m) = ap (first_of c.args.kind) (sym stands.stock) ∙ sym c.in-Some.ensures.taken in
     let is = step_of limits now c.args.self.now asked None S c.exact_machines_leave_no_choice.ensures stands (unasked c.args.self.now.core.limit (core.machine c.args.self.now.core) c.args.name m.kind m.notes) c.in-Ok.ensures.step in
-    let left : Reply → List Registered = restocked (registered_of m) (rest_of c.args.kind now.stock) in
-    let shelf : c.put_back.new.self.targets ≡ left S.reply =
-    c.put_back.ensures
-    ∙ ap (λ rest. rest ++ option_to_list (option_map (λ t. registered_of (g.T.Target.means t)) c.in-Ok.back)) (c.in-Some.ensures.targets ∙ ap (rest_of c.args.kind) stands.stock)
-    ∙ ap (λ o. rest_of c.args.kind now.stock ++ option_to_list o) (mapped g.T.Target.means c.in-Ok.back ∙ ap (option_map registered_of) c.in-Ok.ensures.back)
-    ∙ sym (restocked_is m (rest_of c.args.kind now.stock) S.reply) in
+    let shelf : c.take.new.self.targets ≡ rest_of c.args.kind now.stock = c.in-Some.ensures.targets ∙ ap (rest_of c.args.kind) stands.stock in
     subst (λ (t : Turn). Stands limits t.after c.answer-answered.new.self)
     (sym (ap (registered limits now c.args.number c.args.client c.args.kind c.args.name) first))
-    (stands_called limits now c.args.client asked left S c.args.self.now c.answer-answered.new.self stands is inside c.requires.client (ap (λ (s : Session g.row.T.Denot). s.limits) counted)
+    (stands_called limits now c.args.client asked (rest_of c.args.kind now.stock) S c.args.self.now c.answer-answered.new.self stands is inside c.requires.client (ap (λ (s : Session g.row.T.Denot). s.limits) counted)
     (ap (λ (s : Session g.row.T.Denot). s.core.limit) counted ∙ c.register.ensures.limit) (ap (λ (s : Session g.row.T.Denot). core.machine s.core) counted)
     (c.steps_keep_machines_exact.ensures c.args.self.now.core.limit (core.machine c.args.self.now.core) asked None S stands.exact
     (first_fits c.args.kind c.args.self.now.stock.targets (registered_of m) (sym c.in-Some.ensures.taken)) c.in-Ok.ensures.step) (ap (λ (s : Session g.row.T.Denot). s.stock.targets) counted ∙ shelf)

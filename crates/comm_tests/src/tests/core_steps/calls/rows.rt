@@ -224,3 +224,56 @@ pub(super) const TAKEN_BACK: [Asked; 4] = [
     Asked::Close("a"),
     Asked::Unregister("t"),
 ];
+
+/// What is asked after these opens, where a register of the name was taken back.
+pub(super) const STILL_OPEN: [Step; 1] = [Step {
+    asked: Asked::Message("a"),
+    reply: "delivered",
+    messages: &[],
+}];
+
+/// What goes out where it isn't.
+pub(super) const CLOSED: [Sent; 3] = [
+    Sent {
+        kind: "comm_close",
+        id: "b",
+        data: "{}",
+    },
+    Sent {
+        kind: "comm_close",
+        id: "c",
+        data: "{}",
+    },
+    Sent {
+        kind: "comm_close",
+        id: "a",
+        data: "{}",
+    },
+];
+
+pub(super) const TO_REPLACED: &str =
+    "open:b commit open:c commit open:a commit message:a commit close:b close:c close:a stop ";
+
+/// What is asked of the new target, with whose one comm the manager ends.
+pub(super) const OPENED_AGAIN: [Step; 3] = [
+    Step {
+        asked: Asked::Message("a"),
+        reply: "no_comm",
+        messages: &[],
+    },
+    Step {
+        asked: Asked::Open {
+            id: "a",
+            target: "t",
+        },
+        reply: "opened",
+        messages: &[],
+    },
+    Step {
+        asked: Asked::Message("a"),
+        reply: "delivered",
+        messages: &[],
+    },
+];
+
+pub(super) const TO_OPENED_AGAIN: &str = "open:a commit message:a commit close:a stop ";
