@@ -2,7 +2,7 @@
 ghost use Rattle.std.specs.Prelude.{◌≡◌, ◌+◌, ◌<◌, ◌≤◌, ◌++◌, [], ◌∷◌, length, true, false, ◌⊎◌, IfOk, IfErr, OnErr, OnOk, MatchOption, MatchResult, Some, option_map};
 ghost use mathlib.Core.List.{IsPrefix};
 ghost use Rattle.std.specs.Arc.{arc_value};
-ghost use Rattle.comm_core.specs.History.{IsLegal, has_end, mine, replay};
+ghost use Rattle.comm_core.specs.History.{IsLegal, mine, replay};
 ghost use Rattle.comm_core.specs.Step.{step};
 ghost use Rattle.comm_core.specs.Ready.{CoreValue, IsReady, machine};
 ghost use Rattle.comm_core.specs.Tables.{IdleWhere};
@@ -32,20 +32,6 @@ pub struct Made<J: Naming, T: Target> {
     pub ended: Option<Held<T>>,
 }
 
-/// A change that stands ready, with its entry for the history and for the queue.
-struct Staged<T: Target> {
-    ready: Ready<T>,
-    kept: Arc<Entry, Global>,
-    sent: Arc<Entry, Global>,
-}
-
-/// What is left of a change once the tables have it: its entry for the queue, and what it came to.
-struct Done<T: Target> {
-    sent: Arc<Entry, Global>,
-    reply: Reply,
-    ended: Option<Held<T>>,
-}
-
 // The entry of what stands ready, twice; and once more, with its row, among what is to be published. The last step alone changes anything.
 fn grow<J: Naming, T: Target>(
     alloc: Global,
@@ -70,62 +56,29 @@ fn grow<J: Naming, T: Target>(
     Ok((kept, sent))
 }
 
-// Readies what is asked, with its entry, or leaves everything as it was.
-fn stage<J: Naming, T: Target>(
-    alloc: Global,
-    core: &mut Core<T>,
-    writer: &mut VersionWriter<J>,
-    who: (u8, u64),
-    request: Request<T>,
-) -> Result<Staged<T>, Option<T>>
-    requires rests { Rests J.limits.comms writer.old.front core.old }
-    requires pending { writer.old.pending ≡ [] }
-    requires legal { IsLegal J.limits.clients J.limits.comms writer.old.front × (has_end writer.old.front ≡ false) }
-    requires who { (who.0 < J.limits.clients) × (who.1 ≡ length (mine writer.old.front who.0) + 1) }
-    requires may { MayAsk T.means request }
-    ensures ready { IfOk result (λ s. IsReady core.new s.ready) }
-    ensures call { IfOk result (λ s. s.ready.call ≡ call_of T.means request) }
-    ensures boxed { IfOk result (λ s. s.ready.boxed ≡ boxed_of T.means request) }
-    ensures kept { IfOk result (λ s. arc_value s.kept ≡ entry_of who.0 who.1 s.ready) }
-    ensures sent { IfOk result (λ s. arc_value s.sent ≡ arc_value s.kept) }
-    ensures front { writer.new.front ≡ writer.old.front }
-    ensures pending { MatchResult result (λ s. writer.new.pending ≡ arc_value s.kept ∷ []) (λ _. writer.new.pending ≡ []) }
-    ensures legal { IfOk result (λ s. IsLegal J.limits.clients J.limits.comms (writer.old.front ++ arc_value s.kept ∷ [])) }
-    ensures machine { OnOk result (machine core.new ≡ machine core.old) }
-    ensures limit { core.new.limit ≡ core.old.limit }
-    ensures err { OnErr result (core.new ≡ core.old) }
-    ensures back { IfErr result (λ e. option_map T.means e ≡ boxed_of T.means request) }
-{
-    legal_histories_grow();
-    match request.begin(core) {
-        Ok(ready) => match grow(alloc, &ready, writer, who) {
-            Ok((kept, sent)) => Ok(Staged { ready, kept, sent }),
-            Err(_) => Err(core.withdraw(ready)),
-        },
-        Err(back) => Err(back),
-    }
-}
-
 // Makes the change that stands ready, and adds its entry to the history. Nothing here takes memory or can fail.
-fn carry_out<T: Target>(core: &mut Core<T>, journal: &mut Journal, staged: Staged<T>) -> Done<T>
-    requires ready { IsReady core.old staged.ready }
+fn carry_out<T: Target>(
+    core: &mut Core<T>,
+    journal: &mut Journal,
+    ready: Ready<T>,
+    kept: Arc<Entry, Global>,
+) -> (Reply, Option<Held<T>>)
+    requires ready { IsReady core.old ready }
     requires room { journal.old.room ≡ true }
-    ensures step { step core.old.limit (machine core.old) staged.ready.call staged.ready.outcome ≡ Some (record { reply = staged.ready.reply; outgoing = staged.ready.outgoing; next = machine core.new }) }
-    ensures reply { result.reply ≡ staged.ready.reply }
+    ensures step { step core.old.limit (machine core.old) ready.call ready.outcome ≡ Some (record { reply = ready.reply; outgoing = ready.outgoing; next = machine core.new }) }
+    ensures reply { result.0 ≡ ready.reply }
     ensures settled { core.new.settled ≡ true }
     ensures limit { core.new.limit ≡ core.old.limit }
-    ensures history { journal.new.all ≡ journal.old.all ++ arc_value staged.kept ∷ [] }
-    ensures sent { arc_value result.sent ≡ arc_value staged.sent }
-    ensures idle { IdleWhere result.ended }
+    ensures history { journal.new.all ≡ journal.old.all ++ arc_value kept ∷ [] }
+    ensures idle { IdleWhere result.1 }
 {
-    let Staged { ready, kept, sent } = staged;
     let Finished {
         reply,
         outgoing: _outgoing,
         ended,
     } = core.finish(ready);
     journal.add(kept);
-    Done { sent, reply, ended }
+    (reply, ended)
 }
 
 // Publishes what is pending, and lets the reader hear of it.
@@ -217,6 +170,7 @@ pub fn perform<J: Naming, T: Target, R: Wait>(
     ensures boxed { IfErr result (λ e. option_map T.means e.1 ≡ boxed_of T.means request) }
 {
     replays_grow();
+    legal_histories_grow();
     if let Some(why) = refusal(rt, limits, writer, outbox) {
         return Err((why, request.into_boxed()));
     }
@@ -226,21 +180,24 @@ pub fn perform<J: Naming, T: Target, R: Wait>(
     compare(rt, reader, journal.len());
     books.audit(ticket);
     let who = (ticket.client(), ticket.number() + 1);
-    match stage(alloc, core, writer, who, request) {
-        Ok(staged) => {
-            let Done { sent, reply, ended } = carry_out(core, journal, staged);
-            let stamp = tell(rt, writer, reader);
-            outbox.put(rt, sent);
-            books.count(ticket);
-            Ok(Made {
-                answered: Answered {
-                    number: stamp.number(),
-                    reply,
-                    stamp,
-                },
-                ended,
-            })
-        }
+    match request.begin(core) {
+        Ok(ready) => match grow(alloc, &ready, writer, who) {
+            Ok((kept, sent)) => {
+                let (reply, ended) = carry_out(core, journal, ready, kept);
+                let stamp = tell(rt, writer, reader);
+                outbox.put(rt, sent);
+                books.count(ticket);
+                Ok(Made {
+                    answered: Answered {
+                        number: stamp.number(),
+                        reply,
+                        stamp,
+                    },
+                    ended,
+                })
+            }
+            Err(_) => Err((Unavailable::Memory, core.withdraw(ready))),
+        },
         Err(back) => Err((Unavailable::Memory, back)),
     }
 }
