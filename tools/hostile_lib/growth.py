@@ -10,15 +10,51 @@ from .play import WAYS
 from .script import msg, update, with_echo, with_widget
 
 SIZES = (1, 4, 16, 64)  # MB
-COUNTS = (2_000, 4_000, 8_000, 16_000)
+
+
+def shapes(size):
+    """What is echoed: a line that is so long of each shape."""
+    for name, shape in SHAPES.items():
+        yield name, with_echo(), msg(f'{{"x":{shape(size)}}}').encode()
+    yield "one buffer", with_echo(), msg("{}", f',"buffers":["{buffer(size)}"]').encode()
+    yield "refused", with_echo(), b'{"x":' + b"[1]," * (size // 4)
+
+
+def in_one_list(count, given):
+    return update(f'{{"l":{listed(["0"] * count)}}}', listed(f'["l",{it}]' for it in range(count)), given)
+
+
+def in_one_dict(count, given):
+    return update('{"d":{}}', listed(f'["d","{it:07}"]' for it in range(count)), given)
+
+
+def at_keys(count, given):
+    return update("{}", listed(f'["{it:07}"]' for it in range(count)), given)
+
+
+def at_one_place(count, given):
+    return update("{}", listed(['["x"]'] * count), given)
+
+
+PLACES = {
+    "buffers placed in one list": in_one_list,
+    "buffers placed in one dict of the state": in_one_dict,
+    "buffers placed at keys of the state": at_keys,
+    "buffers placed at one place": at_one_place,
+}
+
+
+def placed(size):
+    """Updates of a widget, of lines that are so long, which place as many buffers of two bytes as go into them."""
+    for name, at in PLACES.items():
+        few = 10_000
+        count = size * few // len(at(few, listed(['"AQI="'] * few)))
+        yield name, with_widget(), at(count, listed(['"AQI="'] * count)).encode()
 
 
 def scripts(size):
-    """What is echoed: a line that is so long of each shape."""
-    for name, shape in SHAPES.items():
-        yield name, msg(f'{{"x":{shape(size)}}}').encode()
-    yield "one buffer", msg("{}", f',"buffers":["{buffer(size)}"]').encode()
-    yield "refused", b'{"x":' + b"[1]," * (size // 4)
+    yield from shapes(size)
+    yield from placed(size)
 
 
 def peak_of(process):
@@ -26,15 +62,6 @@ def peak_of(process):
     with open(f"/proc/{process.pid}/status") as status:
         told = next(line for line in status if line.startswith("VmHWM:"))
     return int(told.split()[1]) / 1024
-
-
-def placed(count):
-    """Updates of a widget that place so many buffers."""
-    given = listed(['"AQI="'] * count)
-    yield "in one list", update(f'{{"l":{listed(["0"] * count)}}}', listed(f'["l",{it}]' for it in range(count)), given).encode()
-    yield "in one dict of the state", update('{"d":{}}', listed(f'["d","{it:06}"]' for it in range(count)), given).encode()
-    yield "at keys of the state", update("{}", listed(f'["{it:06}"]' for it in range(count)), given).encode()
-    yield "at one place", update("{}", listed(['["x"]'] * count), given).encode()
 
 
 def measured(words, start, line):
@@ -68,22 +95,14 @@ def row(name, cells, form):
 
 
 def told(program):
-    """Tables in the form of docs/PERFORMANCE.md."""
+    """A table for each manager, in the form of docs/PERFORMANCE.md."""
     for way in WAYS:
         words, who = [program, *way], "over the shared manager" if way else "over that of one thread"
         print(f"\nLines of {', '.join(map(str, SIZES))} MB, {who}:\n\n| Line | CPU ms a MB | peak memory, MB a MB |\n|---|---|---|")
         lines = {}
         for size in SIZES:
-            for name, line in scripts(size << 20):
-                lines.setdefault(name, []).append([it / size for it in least(words, with_echo(), line)])
+            for name, start, line in scripts(size << 20):
+                lines.setdefault(name, []).append([it / size for it in least(words, start, line)])
         for name, cells in lines.items():
             row(name, [it[0] * 1000 for it in cells], ".1f")
-            print(f" {', '.join(f'{it[1]:.1f}' for it in cells)} |")
-        print(f"\n{', '.join(f'{it:,}' for it in COUNTS)} buffers in one update, {who}:\n\n| Placed | CPU µs a buffer |\n|---|---|")
-        counts = {}
-        for count in COUNTS:
-            for name, line in placed(count):
-                counts.setdefault(name, []).append(least(words, with_widget(), line)[0] / count * 1e6)
-        for name, cells in counts.items():
-            row(name, cells, ".1f")
-            print(flush=True)
+            print(f" {', '.join(f'{it[1]:.1f}' for it in cells)} |", flush=True)
