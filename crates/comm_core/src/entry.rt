@@ -4,7 +4,7 @@ ghost use Rattle.std.specs.Arc.{arc_value};
 ghost use Rattle.comm_core.specs.declared.entry.Entry.TheVariants.{Change};
 
 use crate::call::Call;
-use crate::manager::Ready;
+use crate::manager::{Begun, Ready};
 use crate::reply::Reply;
 use comm_messages::Outgoing;
 use comm_targets::{Answer, Target, TargetFault};
@@ -107,15 +107,24 @@ impl<T: Target> Ready<T> {
     ) -> Result<Arc<Entry, Global>, AllocError>
         ensures { IfOk result (λ e. arc_value e ≡ Change client number self.now.call self.now.outcome self.now.reply self.now.outgoing) }
     {
-        let outgoing = Outgoings::copy_of(alloc, &self.begun.outgoing)?;
-        let reply = self.begun.reply.copy(alloc)?;
-        let Ok(outcome) = outcome_copy(alloc, &self.begun.outcome) else {
-            drop(reply);
-            return Err(AllocError);
-        };
-        let Ok(call) = self.call.copy(alloc) else {
-            drop(outcome);
-            drop(reply);
+        self.begun
+            .entry(alloc, client, number, self.call.copy(alloc)?)
+    }
+}
+
+impl<T: Target> Begun<T> {
+    /// The same, of a change that has spent its call: the caller hands in the copy that it kept.
+    pub fn entry(
+        &self,
+        alloc: Global,
+        client: u8,
+        number: u64,
+        call: Call,
+    ) -> Result<Arc<Entry, Global>, AllocError>
+        ensures { IfOk result (λ e. arc_value e ≡ Change client number call self.now.outcome self.now.reply self.now.outgoing) }
+    {
+        let Ok((outcome, reply, outgoing)) = self.result_copy(alloc) else {
+            drop(call);
             return Err(AllocError);
         };
         Ok(Arc::new(
@@ -129,5 +138,23 @@ impl<T: Target> Ready<T> {
                 outgoing,
             },
         )?)
+    }
+
+    // What the target gave, the reply and what goes out, shared.
+    fn result_copy(
+        &self,
+        alloc: Global,
+    ) -> Result<(Option<Result<Answer, TargetFault>>, Reply, Outgoings), AllocError>
+        ensures { IfOk result (λ r. r ≡ (self.now.outcome, self.now.reply, self.now.outgoing)) }
+    {
+        let outgoing = Outgoings::copy_of(alloc, &self.outgoing)?;
+        let reply = self.reply.copy(alloc)?;
+        match outcome_copy(alloc, &self.outcome) {
+            Ok(outcome) => Ok((outcome, reply, outgoing)),
+            Err(fault) => {
+                drop(reply);
+                Err(fault)
+            }
+        }
     }
 }

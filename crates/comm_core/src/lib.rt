@@ -40,7 +40,7 @@ pub use laws::{
     steps_keep_machines_exact, widgets_have_their_opening_state_merged_with_their_updates,
 };
 pub use limits::{Limits, NewFault};
-pub use manager::{Core, Finished, Ready};
+pub use manager::{Begun, Core, Finished, Ready};
 pub use question::Question;
 pub use reply::{Refusal, Reply, StateAnswer};
 pub use row::{OpenComm, Row};

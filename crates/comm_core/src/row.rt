@@ -6,7 +6,7 @@ ghost use Rattle.comm_core.specs.Row.{closed_row, ended_row, put_row, row_in, st
 
 use crate::call::Call;
 use crate::ids::Ids;
-use crate::manager::Ready;
+use crate::manager::{Begun, Ready};
 use crate::plan::Plan;
 use crate::question::Question;
 use crate::reply::Reply;
@@ -192,7 +192,15 @@ impl<T: Target> Ready<T> {
     pub fn row(&self, alloc: Global) -> Result<Row, AllocError>
         ensures { (s : CoreValue) → IsReady s self.now → IfOk result (λ r. r ≡ row_in (machine s) self.now.call self.now.outcome self.now.reply) }
     {
-        let begun = &self.begun;
-        planned(alloc, &begun.plan, &begun.outcome, &self.call, &begun.reply)
+        self.begun.row(alloc, &self.call)
+    }
+}
+
+impl<T: Target> Begun<T> {
+    /// The same, of a change that has spent its call: the caller shows the copy that it kept.
+    pub fn row(&self, alloc: Global, call: &Call) -> Result<Row, AllocError>
+        ensures { (s : CoreValue) → IsReady s self.now → call.now ≡ self.now.call → IfOk result (λ r. r ≡ row_in (machine s) self.now.call self.now.outcome self.now.reply) }
+    {
+        planned(alloc, &self.plan, &self.outcome, call, &self.reply)
     }
 }

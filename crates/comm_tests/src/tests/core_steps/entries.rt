@@ -1,13 +1,13 @@
 //! What stands ready gives its entry of a history: who asked, the call, what the target gave, the reply and what goes out.
 ghost use Rattle.std.specs.Prelude.{◌≡◌, true};
-ghost use Rattle.comm_core.specs.Ready.{IsReady};
+ghost use Rattle.comm_core.specs.Ready.{HandsNothingIn, IsReady};
 ghost use Rattle.comm_targets.specs.Meaning.{IsIdle};
 
 use crate::tests::core_steps::entries::words::entry_words;
 use crate::tests::core_steps::given::Giving;
 use crate::tests::core_steps::steps::{Asked, call_of, limits, made};
 use crate::tests::core_steps::words::same;
-use comm_core::{Core, Ready};
+use comm_core::{Call, Core, Finished, Ready};
 use comm_targets::Target;
 use comm_value::Text;
 use std::alloc::{AllocError, Global};
@@ -158,12 +158,62 @@ fn registered<T: Target>(
     }
 }
 
+// The entry's text of a call that is spent: it is readied and withdrawn, then readied again and made.
+fn spent_entry<T: Target>(
+    alloc: Global,
+    core: &mut Core<T>,
+    call: Call,
+    again: Call,
+    kept: Call,
+) -> Result<String, Fail>
+    requires settled { core.old.settled ≡ true }
+    requires call { HandsNothingIn call }
+    requires again { HandsNothingIn again }
+    ensures { core.new.settled ≡ true }
+{
+    let begun = core.begin_spent(call)?;
+    if core.withdraw_begun(begun).is_some() {
+        return Err(Fail::new("a target came back"));
+    }
+    let begun = core.begin_spent(again)?;
+    let row = begun.row(alloc, &kept);
+    let entry = begun.entry(alloc, 2, 9, kept);
+    let Finished {
+        reply,
+        outgoing,
+        ended,
+    } = core.finish_begun(begun);
+    if let Some(held) = ended {
+        held.end();
+    }
+    drop((reply, outgoing));
+    drop(row?);
+    let entry = entry?;
+    entry_words(alloc, &entry)
+}
+
+fn has_spent_entry<T: Target>(
+    alloc: Global,
+    core: &mut Core<T>,
+    asked: &Asked,
+    want: &str,
+) -> Result<(), Fail>
+    requires settled { core.old.settled ≡ true }
+    ensures { core.new.settled ≡ true }
+{
+    let call = call_of(alloc, asked)?;
+    let again = call_of(alloc, asked)?;
+    let kept = call.copy(alloc)?;
+    let text = spent_entry(alloc, core, call, again, kept)?;
+    same(alloc, text.as_str(), want)
+}
+
 fn called<T: Target>(alloc: Global, core: &mut Core<T>) -> Result<(), Fail>
     requires settled { core.old.settled ≡ true }
     ensures { core.new.settled ≡ true }
 {
     for call in &CALLED {
-        has_entry(alloc, core, &call.0, call.1)?;
+        has_spent_entry(alloc, core, &call.0, call.1)?;
     }
     Ok(())
 }

@@ -1,15 +1,11 @@
 use Rattle.std.specs.Prelude.{IfOk}
-use Rattle.std.proofs.Common.{◌≡◌, ◌∙◌, ap, sym, subst}
-use Rattle.comm_core.specs.Planned.{planned_row}
-use Rattle.comm_core.specs.Ready.{Readied}
-use Rattle.comm_core.specs.declared.call.Call.{Call}
+use Rattle.std.proofs.Common.{◌≡◌, sym, subst}
+use Rattle.comm_core.specs.Ready.{IsReady, Readied, machine}
+use Rattle.comm_core.specs.Row.{row_in}
 use Rattle.comm_core.specs.declared.row.Row.{Row}
-use Rattle.comm_core.proofs.Planning.{planned_is}
 use Rattle.comm_core.proofs.manager.Ready.row.Goals as goal
 
 pub returns : goal.returns
 returns g c s ready =
-    let b = c.begun.inside in
-    let call = c.self.invariant ∙ sym (ap (λ (r : Readied). r.call) c.begun.view_is) in
-    let same = ap (λ (r : Readied). planned_row r.plan r.outcome r.call r.reply) (c.begun.view_is ∙ c.self.view_is) in
-    subst (λ (x : Row). IfOk c.planned.result (λ r. r ≡ x)) (ap (λ (x : Call). planned_row b.plan b.outcome x b.reply) call ∙ same ∙ planned_is s c.args.self.now ready) c.planned.ensures
+    let begun = subst (λ (r : Readied). IsReady s r) (sym c.self.view_is) ready in
+    subst (λ (r : Readied). IfOk c.row.result (λ (x : Row). x ≡ row_in (machine s) r.call r.outcome r.reply)) c.self.view_is (c.row.ensures s begun c.self.invariant)
