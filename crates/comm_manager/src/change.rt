@@ -1,10 +1,10 @@
 //! One change, in its order.
-ghost use Rattle.std.specs.Prelude.{◌≡◌, ◌+◌, ◌<◌, ◌≤◌, ◌++◌, [], ◌∷◌, length, true, false, ◌⊎◌, IfOk, IfErr, OnErr, OnOk, MatchOption, MatchResult, Some, option_map};
+ghost use Rattle.std.specs.Prelude.{◌≡◌, ◌+◌, ◌<◌, ◌≤◌, ◌++◌, [], ◌∷◌, length, true, false, ◌⊎◌, IfOk, IfErr, OnErr, OnOk, MatchOption, MatchResult, Some, option_map, slice_index};
 ghost use mathlib.Core.List.{IsPrefix};
 ghost use Rattle.std.specs.Arc.{arc_value};
 ghost use Rattle.comm_core.specs.History.{IsLegal, mine, replay};
 ghost use Rattle.comm_core.specs.Step.{step};
-ghost use Rattle.comm_core.specs.Ready.{CoreValue, IsReady, machine};
+ghost use Rattle.comm_core.specs.Ready.{CoreValue, IsReady, machine, undone};
 ghost use Rattle.comm_core.specs.Tables.{IdleWhere};
 ghost use Rattle.comm_manager.specs.Asked.{IsNext, MayAsk, boxed_of, call_of, entry_of};
 ghost use Rattle.comm_manager.specs.Kept.{IsKept, Puts, Rests};
@@ -17,8 +17,8 @@ use crate::ledger::{Books, Ticket};
 use crate::naming::Naming;
 use crate::request::Request;
 use comm_core::{
-    Core, Entry, Finished, Limits, Ready, Reply, Unavailable, legal_histories_grow, replays_grow,
-    rows_are_what_entries_change,
+    Begun, Call, Core, Entry, Finished, Limits, Reply, Unavailable, legal_histories_grow,
+    replays_grow, rows_are_what_entries_change,
 };
 use comm_outbox::Outbox;
 use comm_targets::{Held, Target};
@@ -35,21 +35,23 @@ pub struct Made<J: Naming, T: Target> {
 // The entry of what stands ready, twice; and once more, with its row, among what is to be published. The last step alone changes anything.
 fn grow<J: Naming, T: Target>(
     alloc: Global,
-    ready: &Ready<T>,
+    call: Call,
+    begun: &Begun<T>,
     writer: &mut VersionWriter<J>,
     who: (u8, u64),
 ) -> Result<(Arc<Entry, Global>, Arc<Entry, Global>), AllocError>
-    requires legal { IsLegal J.limits.clients J.limits.comms ((writer.old.front ++ writer.old.pending) ++ entry_of who.0 who.1 ready.now ∷ []) }
-    requires ready { (core : CoreValue) × IsReady core ready.now × (machine core ≡ replay J.limits.comms (writer.old.front ++ writer.old.pending)) }
-    ensures kept { IfOk result (λ r. arc_value r.0 ≡ entry_of who.0 who.1 ready.now) }
+    requires call { call ≡ begun.now.call }
+    requires legal { IsLegal J.limits.clients J.limits.comms ((writer.old.front ++ writer.old.pending) ++ entry_of who.0 who.1 begun.now ∷ []) }
+    requires ready { (core : CoreValue) × IsReady core begun.now × (machine core ≡ replay J.limits.comms (writer.old.front ++ writer.old.pending)) }
+    ensures kept { IfOk result (λ r. arc_value r.0 ≡ entry_of who.0 who.1 begun.now) }
     ensures sent { IfOk result (λ r. arc_value r.1 ≡ arc_value r.0) }
     ensures front { writer.new.front ≡ writer.old.front }
-    ensures pending { MatchResult result (λ _. writer.new.pending ≡ writer.old.pending ++ entry_of who.0 who.1 ready.now ∷ []) (λ _. writer.new.pending ≡ writer.old.pending) }
+    ensures pending { MatchResult result (λ _. writer.new.pending ≡ writer.old.pending ++ entry_of who.0 who.1 begun.now ∷ []) (λ _. writer.new.pending ≡ writer.old.pending) }
 {
     rows_are_what_entries_change();
     let (client, number) = who;
-    let entry = ready.entry(alloc, client, number)?;
-    let row = ready.row(alloc)?;
+    let row = begun.row(alloc, &call)?;
+    let entry = begun.entry(alloc, client, number, call)?;
     let kept = Arc::try_clone(&entry)?;
     let sent = Arc::try_clone(&entry)?;
     writer.append(Change::new(entry, row))?;
@@ -60,13 +62,13 @@ fn grow<J: Naming, T: Target>(
 fn carry_out<T: Target>(
     core: &mut Core<T>,
     journal: &mut Journal,
-    ready: Ready<T>,
+    begun: Begun<T>,
     kept: Arc<Entry, Global>,
 ) -> (Reply, Option<Held<T>>)
-    requires ready { IsReady core.old ready }
+    requires ready { IsReady core.old begun }
     requires room { journal.old.room ≡ true }
-    ensures step { step core.old.limit (machine core.old) ready.call ready.outcome ≡ Some (record { reply = ready.reply; outgoing = ready.outgoing; next = machine core.new }) }
-    ensures reply { result.0 ≡ ready.reply }
+    ensures step { step core.old.limit (machine core.old) begun.call begun.outcome ≡ Some (record { reply = begun.reply; outgoing = begun.outgoing; next = machine core.new }) }
+    ensures reply { result.0 ≡ begun.reply }
     ensures settled { core.new.settled ≡ true }
     ensures limit { core.new.limit ≡ core.old.limit }
     ensures history { journal.new.all ≡ journal.old.all ++ arc_value kept ∷ [] }
@@ -76,7 +78,7 @@ fn carry_out<T: Target>(
         reply,
         outgoing: _outgoing,
         ended,
-    } = core.finish(ready);
+    } = core.finish_begun(begun);
     journal.add(kept);
     (reply, ended)
 }
@@ -105,18 +107,19 @@ fn tell<J: Naming, R: Wait>(
 fn refusal<J: Naming, R: Wait>(
     rt: &R,
     limits: &Limits,
+    made: usize,
     writer: &VersionWriter<J>,
     outbox: &mut Outbox,
 ) -> Option<Unavailable<Stamp<J>>>
     requires limits { limits.now ≡ J.limits }
-    requires few { length writer.now.front ≤ J.limits.history }
+    requires made { made ≡ length writer.now.front }
+    requires few { made ≤ J.limits.history }
     requires puts { Puts J.queue J.limits writer.now.front outbox.old }
     ensures why { MatchOption result ((length writer.now.front < J.limits.history) × (2 ≤ outbox.new.room)) (λ e. Because J.limits e) }
     ensures puts { Puts J.queue J.limits writer.now.front outbox.new }
 {
-    let stamp = writer.stamp();
-    if stamp.number() >= limits.history {
-        return Some(Unavailable::HistoryFull(stamp));
+    if made as u64 >= limits.history {
+        return Some(Unavailable::HistoryFull(writer.stamp()));
     }
     let waiting = outbox.waiting(rt);
     if waiting >= limits.outbox as u64 {
@@ -135,6 +138,65 @@ fn compare<J: Naming, R: Wait>(rt: &R, reader: &VersionReader<J>, made: usize)
     }
     for _ in rt.forever() {}
     unreachable!()
+}
+
+// Makes the change that stands ready, of which `call` is the call: its entry is made, and is to be published; the change is made, and its
+// entry added; it is published, its client hears of it, and it goes out. Want of memory comes before the change is made.
+fn conclude<J: Naming, T: Target, R: Wait>(
+    rt: &R,
+    alloc: Global,
+    core: &mut Core<T>,
+    journal: &mut Journal,
+    writer: &mut VersionWriter<J>,
+    outbox: &mut Outbox,
+    books: &mut Books<J>,
+    reader: &mut VersionReader<J>,
+    ticket: &mut Ticket<J>,
+    call: Call,
+    begun: Begun<T>,
+) -> Result<Made<J, T>, (Unavailable<Stamp<J>>, Option<T>)>
+    requires kept { IsKept J.limits journal.old.all (undone core.old) writer.old books.old }
+    requires machine { machine core.old ≡ machine (undone core.old) }
+    requires room { journal.old.room ≡ true }
+    requires few { length journal.old.all < J.limits.history }
+    requires places { 2 ≤ outbox.old.room }
+    requires puts { Puts J.queue J.limits journal.old.all outbox.old }
+    requires below { ticket.old.client < J.limits.clients }
+    requires known { (ticket.old.client < 4) × (slice_index books.old ticket.old.client ≡ ticket.old.number) }
+    requires seen { length reader.old ≤ length journal.old.all }
+    requires ready { IsReady core.old begun }
+    requires call { call ≡ begun.call }
+    ensures kept { IsKept J.limits journal.new.all core.new writer.new books.new }
+    ensures puts { Puts J.queue J.limits journal.new.all outbox.new }
+    ensures next { IfOk result (λ m. IsNext journal.old.all journal.new.all ticket.old.client (ticket.old.number + 1) begun.call m.answered.reply) }
+    ensures stamp { IfOk result (λ m. (m.answered.stamp ≡ journal.new.all) × (m.answered.number ≡ length journal.new.all)) }
+    ensures seen { IfOk result (λ m. (reader.new ≡ journal.new.all) × IsPrefix reader.old journal.old.all) }
+    ensures ticket { OnOk result ((ticket.new ≡ tally ticket.old.client (ticket.old.number + 1)) × (length (mine journal.old.all ticket.old.client) ≡ ticket.old.number)) }
+    ensures idle { IfOk result (λ m. IdleWhere m.ended) }
+    ensures err { OnErr result ((ticket.new ≡ ticket.old) × (reader.new ≡ reader.old) × (journal.new.all ≡ journal.old.all)) }
+    ensures why { IfErr result (λ e. Because J.limits e.0) }
+    ensures boxed { IfErr result (λ e. option_map T.means e.1 ≡ begun.boxed) }
+{
+    replays_grow();
+    legal_histories_grow();
+    let who = (ticket.client(), ticket.number() + 1);
+    match grow(alloc, call, &begun, writer, who) {
+        Ok((kept, sent)) => {
+            let (reply, ended) = carry_out(core, journal, begun, kept);
+            let stamp = tell(rt, writer, reader);
+            outbox.put(rt, sent);
+            books.count(ticket);
+            Ok(Made {
+                answered: Answered {
+                    number: stamp.number(),
+                    reply,
+                    stamp,
+                },
+                ended,
+            })
+        }
+        Err(_) => Err((Unavailable::Memory, core.withdraw_begun(begun))),
+    }
 }
 
 /// One change of a client, in its order: room in the history and in the queue; what is asked is readied; the entry is made, and is to be
@@ -169,35 +231,39 @@ pub fn perform<J: Naming, T: Target, R: Wait>(
     ensures why { IfErr result (λ e. Because J.limits e.0) }
     ensures boxed { IfErr result (λ e. option_map T.means e.1 ≡ boxed_of T.means request) }
 {
-    replays_grow();
-    legal_histories_grow();
-    if let Some(why) = refusal(rt, limits, writer, outbox) {
+    let made = journal.len();
+    if let Some(why) = refusal(rt, limits, made, writer, outbox) {
         return Err((why, request.into_boxed()));
     }
     if journal.reserve().is_err() {
         return Err((Unavailable::Memory, request.into_boxed()));
     }
-    compare(rt, reader, journal.len());
+    compare(rt, reader, made);
     books.audit(ticket);
-    let who = (ticket.client(), ticket.number() + 1);
-    match request.begin(core) {
-        Ok(ready) => match grow(alloc, &ready, writer, who) {
-            Ok((kept, sent)) => {
-                let (reply, ended) = carry_out(core, journal, ready, kept);
-                let stamp = tell(rt, writer, reader);
-                outbox.put(rt, sent);
-                books.count(ticket);
-                Ok(Made {
-                    answered: Answered {
-                        number: stamp.number(),
-                        reply,
-                        stamp,
-                    },
-                    ended,
-                })
+    match request {
+        Request::Asked(call) => match call.copy(alloc) {
+            Ok(kept) => match core.begin_spent(call) {
+                Ok(begun) => conclude(
+                    rt, alloc, core, journal, writer, outbox, books, reader, ticket, kept, begun,
+                ),
+                Err(_) => {
+                    drop(kept);
+                    Err((Unavailable::Memory, None))
+                }
+            },
+            Err(_) => {
+                drop(call);
+                Err((Unavailable::Memory, None))
             }
-            Err(_) => Err((Unavailable::Memory, core.withdraw(ready))),
         },
-        Err(back) => Err((Unavailable::Memory, back)),
+        Request::Registering(name, boxed) => match core.begin_register(name, boxed) {
+            Ok(ready) => {
+                let (call, begun) = ready.into_parts();
+                conclude(
+                    rt, alloc, core, journal, writer, outbox, books, reader, ticket, call, begun,
+                )
+            }
+            Err((_, boxed)) => Err((Unavailable::Memory, Some(boxed))),
+        },
     }
 }

@@ -3,7 +3,9 @@ use Rattle.std.specs.Arc.{arc_value}
 use Rattle.comm_core.specs.History.{replay}
 use Rattle.comm_core.specs.Machine.{Machine}
 use Rattle.comm_core.specs.Row.{row_in, row_of, rows, with_row}
+use Rattle.comm_core.specs.declared.call.Call.{Call}
 use Rattle.comm_core.specs.declared.entry.Entry.{Entry}
+use Rattle.comm_core.specs.declared.entry.Entry.TheVariants.{Change}
 use Rattle.comm_core.specs.declared.row.Row.{Row}
 use Rattle.comm_manager.specs.Asked.{entry_of}
 use Rattle.comm_manager.proofs.change.grow.Goals as goal
@@ -11,12 +13,12 @@ use Rattle.comm_manager.proofs.change.grow.Goals as goal
 pub append-requires-clause-row : goal.append-requires-clause-row
 append-requires-clause-row g c =
     let limits = g.J.History.limits in
-    let r = c.args.ready.now in
+    let r = c.args.begun.now in
     let es = c.args.writer.now.front ++ c.args.writer.now.pending in
     let e = entry_of c.args.who.0 c.args.who.1 r in
     let m = replay limits.comms es in
     let row : c.new.result.row ≡ row_of m e =
-    c.new.ensures.row ∙ c.in_ok-row.ensures c.requires.ready.0 c.requires.ready.1 ∙ ap (λ (k : Machine). row_in k r.call r.outcome r.reply) c.requires.ready.2 in
+    c.new.ensures.row ∙ c.in_ok-row.ensures c.requires.ready.0 c.requires.ready.1 c.requires.call ∙ ap (λ (k : Machine). row_in k r.call r.outcome r.reply) c.requires.ready.2 in
     ap (λ (k : Row). with_row k (rows m)) row
     ∙ (c.rows_are_what_entries_change.ensures limits.clients limits.comms es e c.requires.legal
-    ∙ ap (λ (k : Entry). rows (replay limits.comms (es ++ k ∷ []))) (sym (ap arc_value c.new.ensures.entry ∙ c.in_ok-entry.ensures)))
+    ∙ ap (λ (k : Entry). rows (replay limits.comms (es ++ k ∷ []))) (sym (ap arc_value c.new.ensures.entry ∙ c.in_ok-entry.ensures ∙ ap (λ (k : Call). Change c.args.who.0 c.args.who.1 k r.outcome r.reply r.outgoing) c.requires.call)))

@@ -1,106 +1,16 @@
-use Rattle.std.proofs.Common.{◌≡◌, ℕ, ◌+◌, ◌++◌, ◌∷◌, [], ◌<◌, ◌≤◌, List, length, slice_set, refl, ap, sym, subst, ◌∙◌, arith}
-use Rattle.std.proofs.lemmas.List.{append-nil}
-use Rattle.std.specs.Arc.{arc_value}
-use Rattle.comm_core.specs.History.{IsLegal, mine, replay}
+use Rattle.std.proofs.Common.{◌≡◌, ◌+◌, List, length, subst}
+use Rattle.std.specs.Prelude.{OnOk}
+use Rattle.comm_core.specs.History.{mine}
 use Rattle.comm_core.specs.declared.entry.Entry.{Entry}
-use Rattle.comm_manager.specs.Asked.{entry_of}
-use Rattle.comm_manager.specs.Tally.{Tally}
-use Rattle.comm_manager.proofs.Growing.{count_is, small, here, legal_more, rests_more, kept_more}
-use Rattle.comm_manager.proofs.Made.{heard}
+use Rattle.comm_manager.specs.Tally.{Tally, tally}
 use Rattle.comm_manager.proofs.change.perform.Goals as goal
 
-pub overflow_add-who : goal.overflow_add-who
-overflow_add-who g c =
-    let t = c.args.ticket.now in
-    let few = small g.J.History.limits c.args.journal.now.all c.args.core.now c.args.writer.now c.args.books.now t.client t.number c.requires.kept c.audit.ensures.known.0 c.audit.ensures.known.1 in
-    let same : c.audit.new.ticket.number ≡ t.number = ap (λ (x : Tally). x.number) c.audit.ensures.same.1 in
-    omega arith
+pub returns-in-Ok-begin_spent-clause-ticket : goal.returns-in-Ok-begin_spent-clause-ticket
+returns-in-Ok-begin_spent-clause-ticket g c =
+    subst (λ (x : Tally × List Entry). OnOk c.conclude.result ((c.conclude.new.ticket ≡ tally x.0.client (x.0.number + 1)) × (length (mine x.1 x.0.client) ≡ x.0.number)))
+    (λ i. (c.audit.ensures.same.1 i, c.reserve.ensures.all i)) c.conclude.ensures.ticket
 
-pub count-requires : goal.count-requires
-count-requires g c =
-    let t = c.args.ticket.now in
-    let few = small g.J.History.limits c.args.journal.now.all c.args.core.now c.args.writer.now c.args.books.now t.client t.number c.requires.kept c.audit.ensures.known.0 c.audit.ensures.known.1 in
-    let same : c.audit.new.ticket.number ≡ t.number = ap (λ (x : Tally). x.number) c.audit.ensures.same.1 in
-    omega arith
-
-pub grow-requires-clause-legal : goal.grow-requires-clause-legal
-grow-requires-clause-legal g c κs live =
-    let limits = g.J.History.limits in
-    let t = c.args.ticket.now in
-    let h = c.args.journal.now.all in
-    let w = c.args.writer.now in
-    let d = c.in-Ok.ready in
-    let b = c.in-Ok.ensures in
-    let kept = c.requires.kept in
-    let client : c.client.result ≡ t.client = c.client.ensures ∙ ap (λ (x : Tally). x.client) c.audit.ensures.same.1 in
-    let number : c.number.result ≡ t.number = c.number.ensures ∙ ap (λ (x : Tally). x.number) c.audit.ensures.same.1 in
-    let counted = count_is limits h c.args.core.now w c.args.books.now t.client t.number kept c.audit.ensures.known.0 c.audit.ensures.known.1 in
-    let whole : w.front ++ w.pending ≡ h = ap (λ (l : List Entry). w.front ++ l) kept.pending_is ∙ (append-nil w.front ∙ kept.front_is) in
-    subst (λ (x : List Entry × Entry). IsLegal limits.clients limits.comms (x.0 ++ x.1 ∷ [])) (λ i. (sym whole i, ap (λ (x : ℕ × ℕ). entry_of x.0 (x.1 + 1) d) (λ j. (sym client j, sym number j)) i))
-    (legal_more limits h c.args.core.now c.begin.new.core t.client (t.number + 1) d kept.rests b.ready b.machine b.limit
-    c.legal_histories_grow.ensures kept.legal kept.going c.requires.below (ap (λ (k : ℕ). k + 1) (sym counted)))
-
-pub grow-requires-clause-ready : goal.grow-requires-clause-ready
-grow-requires-clause-ready g c κs live =
-    let limits = g.J.History.limits in
-    let t = c.args.ticket.now in
-    let h = c.args.journal.now.all in
-    let w = c.args.writer.now in
-    let b = c.in-Ok.ensures in
-    let kept = c.requires.kept in
-    let whole : w.front ++ w.pending ≡ h = ap (λ (l : List Entry). w.front ++ l) kept.pending_is ∙ (append-nil w.front ∙ kept.front_is) in (
-      c.begin.new.core,
-      b.ready,
-      here limits h c.args.core.now c.begin.new.core t.client (t.number + 1) c.in-Ok.ready kept.rests b.ready b.machine b.limit ∙ ap (replay limits.comms) (sym whole),
-    )
-
-pub returns-in-Ok-grow-clause-kept : goal.returns-in-Ok-grow-clause-kept
-returns-in-Ok-grow-clause-kept g c =
-    let limits = g.J.History.limits in
-    let t = c.args.ticket.now in
-    let h = c.args.journal.now.all in
-    let w = c.args.writer.now in
-    let d = c.in-Ok.ready in
-    let b = c.in-Ok.ensures in
-    let grown = c.in-Ok-grow.ensures in
-    let out = c.carry_out-reply in
-    let kept = c.requires.kept in
-    let e = entry_of t.client (t.number + 1) d in
-    let client : c.client.result ≡ t.client = c.client.ensures ∙ ap (λ (x : Tally). x.client) c.audit.ensures.same.1 in
-    let number : c.number.result ≡ t.number = c.number.ensures ∙ ap (λ (x : Tally). x.number) c.audit.ensures.same.1 in
-    let counted = count_is limits h c.args.core.now w c.args.books.now t.client t.number kept c.audit.ensures.known.0 c.audit.ensures.known.1 in
-    let same : entry_of c.client.result (c.number.result + 1) d ≡ e = ap (λ (x : ℕ × ℕ). entry_of x.0 (x.1 + 1) d) (λ i. (client i, number i)) in
-    let his : out.new.journal.all ≡ h ++ e ∷ [] = out.ensures.history ∙ ap (λ (x : List Entry × Entry). x.0 ++ x.1 ∷ []) (λ i. (c.reserve.ensures.all i, (grown.kept ∙ same) i)) in
-    let pending : c.grow.new.writer.pending ≡ e ∷ [] = grown.pending ∙ ap (λ (x : List Entry × Entry). x.0 ++ x.1 ∷ []) (λ i. (kept.pending_is i, same i)) in
-    let front : c.tell-stamp.new.writer.front ≡ out.new.journal.all =
-    c.tell-stamp.ensures.front ∙ (ap (λ (x : List Entry × List Entry). x.0 ++ x.1) (λ i. ((c.grow.ensures.front ∙ kept.front_is) i, pending i)) ∙ sym his) in
-    let legal = legal_more limits h c.args.core.now c.begin.new.core t.client (t.number + 1) d kept.rests b.ready b.machine b.limit
-    c.legal_histories_grow.ensures kept.legal kept.going c.requires.below (ap (λ (k : ℕ). k + 1) (sym counted)) in
-    let rests = rests_more limits h c.args.core.now c.begin.new.core t.client (t.number + 1) d kept.rests b.ready b.machine b.limit out.new.core out.new.journal.all
-    c.replays_grow.ensures out.ensures.step out.ensures.settled out.ensures.limit his in
-    let books : c.count.new.self ≡ slice_set c.args.books.now t.client (t.number + 1) =
-    c.count.ensures.books ∙ ap (λ (x : List ℕ × Tally). slice_set x.0 x.1.client (x.1.number + 1)) (λ i. (c.audit.ensures.same.0 i, c.audit.ensures.same.1 i)) in
-    let room : length h < limits.history = subst (λ (l : List Entry). length l < limits.history) kept.front_is c.in_default.ensures.why.0 in
-    kept_more limits h out.new.journal.all c.args.core.now out.new.core w c.tell-stamp.new.writer c.args.books.now c.count.new.self t.client t.number d
-    kept c.audit.ensures.known.0 c.audit.ensures.known.1 legal rests room his front c.tell-stamp.ensures.pending books
-
-pub returns-in-Ok-grow-clause-seen : goal.returns-in-Ok-grow-clause-seen
-returns-in-Ok-grow-clause-seen g c =
-    let h = c.args.journal.now.all in
-    let kept = c.requires.kept in
-    let grown = c.in-Ok-grow.ensures in
-    let out = c.carry_out-reply in
-    let e = arc_value c.in-Ok-grow.kept in
-    let his : out.new.journal.all ≡ h ++ e ∷ [] = out.ensures.history ∙ ap (λ (l : List Entry). l ++ e ∷ []) c.reserve.ensures.all in
-    let pending : c.grow.new.writer.pending ≡ e ∷ [] = grown.pending ∙ ap (λ (x : List Entry × Entry). x.0 ++ x.1 ∷ []) (λ i. (kept.pending_is i, sym grown.kept i)) in
-    let stamp : c.tell-stamp.result ≡ h ++ e ∷ [] =
-    c.tell-stamp.ensures.stamp ∙ ap (λ (x : List Entry × List Entry). x.0 ++ x.1) (λ i. ((c.grow.ensures.front ∙ kept.front_is) i, pending i)) in
-    let le : length c.args.reader.now ≤ length h = omega (arith, c.compare.ensures, c.len.ensures, ap length c.reserve.ensures.all) in
-    let r = heard c.args.reader.now c.tell-stamp.new.reader c.tell-stamp.result h e stamp le c.tell-stamp.ensures.one c.tell-stamp.ensures.own c.tell-stamp.ensures.heard in
-    (r.0 ∙ (stamp ∙ sym his), r.1)
-
-pub returns-in-Ok-grow-clause-ticket : goal.returns-in-Ok-grow-clause-ticket
-returns-in-Ok-grow-clause-ticket g c =
-    let t = c.args.ticket.now in
-    let counted = count_is g.J.History.limits c.args.journal.now.all c.args.core.now c.args.writer.now c.args.books.now t.client t.number c.requires.kept c.audit.ensures.known.0 c.audit.ensures.known.1 in
-    (c.count.ensures.ticket ∙ ap (λ (x : Tally). record { client = x.client; number = x.number + 1 }) c.audit.ensures.same.1, counted)
+pub returns-in-Ok-begin_register-clause-ticket : goal.returns-in-Ok-begin_register-clause-ticket
+returns-in-Ok-begin_register-clause-ticket g c =
+    subst (λ (x : Tally × List Entry). OnOk c.conclude-in-Ok-begin_register.result ((c.conclude-in-Ok-begin_register.new.ticket ≡ tally x.0.client (x.0.number + 1)) × (length (mine x.1 x.0.client) ≡ x.0.number)))
+    (λ i. (c.audit.ensures.same.1 i, c.reserve.ensures.all i)) c.conclude-in-Ok-begin_register.ensures.ticket
