@@ -7,4 +7,5 @@ mod limits;
 mod named;
 mod queue;
 mod threads;
+mod turns;
 mod words;

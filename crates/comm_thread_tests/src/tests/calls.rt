@@ -2,11 +2,12 @@
 ghost use Rattle.comm_targets.specs.Meaning.{IsIdle};
 
 use crate::tests::named::{Play, named};
-use crate::tests::words::{Told, Wrong, answer, empty, holds, limits, value_of, valued};
-use comm_core::Reply;
+use crate::tests::turns::{
+    closes, hangs_up, launches, lists, opens, pushes, reads, registers, says, sends, unregisters,
+};
+use crate::tests::words::{Told, Wrong, empty, holds, limits, valued};
 use comm_manager::{Client, Manager, Naming};
 use comm_targets::Target;
-use comm_value::Text;
 use std::alloc::Global;
 use std::sync::Wait;
 use std::test::*;
@@ -14,7 +15,7 @@ use uuid::Uuid;
 use widget_target::WidgetTarget;
 
 // A client registers a widget, and then a second one in its place.
-fn registers<J: Naming, T: Target, R: Wait>(
+fn registered<J: Naming, T: Target, R: Wait>(
     rt: &R,
     alloc: Global,
     manager: &Manager<J, T>,
@@ -25,62 +26,55 @@ fn registers<J: Naming, T: Target, R: Wait>(
     requires target { IsIdle (T.means target) }
     requires other { IsIdle (T.means other) }
 {
-    let name = Text::copy_of(alloc, "w")?;
-    match client.register(rt, manager, name, target) {
-        Ok(answered) => holds(matches!(answered.reply, Reply::Registered) && answered.number == 1)?,
-        Err(_) => return Err(Wrong),
-    }
-    let name = Text::copy_of(alloc, "w")?;
-    match client.register(rt, manager, name, other) {
-        Ok(answered) => holds(matches!(answered.reply, Reply::Replaced(_)) && answered.number == 2),
-        Err(_) => Err(Wrong),
-    }
+    let first = registers(rt, alloc, manager, client, "w", target);
+    let second = registers(rt, alloc, manager, client, "w", other);
+    holds(first? == Told::Registered(1) && second? == Told::Replaced(2))
+}
+
+// The value 7 is pushed.
+fn is_pushed<J: Naming, T: Target, R: Wait>(
+    rt: &R,
+    alloc: Global,
+    manager: &Manager<J, T>,
+    client: &mut Client<J>,
+    id: &str,
+) -> Result<bool, Wrong> {
+    let (pushed, _stamp) = pushes(rt, alloc, manager, client, id, valued(alloc, 7)?)?;
+    Ok(pushed == Told::Delivered(4))
 }
 
 // The kernel's own calls on a comm that it launches.
-fn launches<J: Naming, T: Target, R: Wait>(
+fn launched<J: Naming, T: Target, R: Wait>(
     rt: &R,
     alloc: Global,
     manager: &Manager<J, T>,
     client: &mut Client<J>,
 ) -> Result<(), Wrong> {
     let id = Uuid::from_u128(0x67e5504410b1426f9247bb680e5fe0c8);
-    let name = Text::copy_of(alloc, "w")?;
-    let launched = client.launch(rt, manager, id, name, valued(alloc, 1)?);
-    holds(answer(launched) == Told::Launched(3))?;
-    let id = Text::copy_of(alloc, "67e55044-10b1-426f-9247-bb680e5fe0c8")?;
-    let pushed = client.push(rt, manager, id.copy()?, valued(alloc, 7)?);
-    holds(answer(pushed) == Told::Delivered(4))?;
-    let sent = client.send(rt, manager, id.copy()?, empty(alloc));
-    holds(answer(sent) == Told::Delivered(5))?;
-    let read = client.state(&id)?;
-    holds(read.front == 5 && value_of(&read.answer) == Some(7))?;
-    let hung_up = client.hang_up(rt, manager, id);
-    holds(answer(hung_up) == Told::Closed(6))
+    let launched = launches(rt, alloc, manager, client, id, "w", valued(alloc, 1)?)?;
+    holds(launched == Told::Launched(3))?;
+    let id = "67e55044-10b1-426f-9247-bb680e5fe0c8";
+    holds(is_pushed(rt, alloc, manager, client, id)?)?;
+    let sent = sends(rt, alloc, manager, client, id, empty(alloc))?;
+    holds(sent == Told::Delivered(5))?;
+    holds(reads(alloc, client, id)? == (5, Some(7)))?;
+    holds(hangs_up(rt, alloc, manager, client, id)? == Told::Closed(6))
 }
 
 // What the frontend asks for. A widget refuses an open without a state, and no comm has the id then.
-fn asks<J: Naming, T: Target, R: Wait>(
+fn asked<J: Naming, T: Target, R: Wait>(
     rt: &R,
     alloc: Global,
     manager: &Manager<J, T>,
     client: &mut Client<J>,
 ) -> Result<(), Wrong> {
-    let id = Text::copy_of(alloc, "a")?;
-    let name = Text::copy_of(alloc, "w")?;
-    let opened = client.open_comm(rt, manager, id, name, None, empty(alloc));
-    holds(answer(opened) == Told::Other(7))?;
-    let id = Text::copy_of(alloc, "a")?;
-    let said = client.message(rt, manager, id, empty(alloc));
-    holds(answer(said) == Told::NoComm(8))?;
-    let id = Text::copy_of(alloc, "a")?;
-    let closed = client.close_comm(rt, manager, id);
-    holds(answer(closed) == Told::NoComm(9))?;
-    let read = client.comm_info(alloc, None)?;
-    holds(read.front == 9 && read.comms.as_slice().is_empty())?;
-    let name = Text::copy_of(alloc, "w")?;
-    let unregistered = client.unregister(rt, manager, name);
-    holds(answer(unregistered) == Told::Unregistered(10))
+    let opened = opens(rt, alloc, manager, client, "a", "w", empty(alloc))?;
+    holds(opened == Told::Other(7))?;
+    let said = says(rt, alloc, manager, client, "a", empty(alloc))?;
+    holds(said == Told::NoComm(8))?;
+    holds(closes(rt, alloc, manager, client, "a")? == Told::NoComm(9))?;
+    holds(lists(alloc, client)? == (9, 0))?;
+    holds(unregisters(rt, alloc, manager, client, "w")? == Told::Unregistered(10))
 }
 
 // The whole tour, for the last client of two.
@@ -96,9 +90,9 @@ fn toured_by<J: Naming, T: Target, R: Wait>(
     requires other { IsIdle (T.means other) }
 {
     holds(client.id() == 1)?;
-    registers(rt, alloc, manager, client, target, other)?;
-    launches(rt, alloc, manager, client)?;
-    asks(rt, alloc, manager, client)
+    registered(rt, alloc, manager, client, target, other)?;
+    launched(rt, alloc, manager, client)?;
+    asked(rt, alloc, manager, client)
 }
 
 /// Each call once.
@@ -114,9 +108,9 @@ pub fn toured<J: Naming, T: Target, R: Wait>(
     requires other { IsIdle (T.means other) }
 {
     let mut clients = clients;
-    let done = match clients.pop() {
-        Some(mut client) => toured_by(rt, alloc, &manager, &mut client, target, other),
-        None => Err(Wrong),
+    let done = match clients.as_mut_slice() {
+        [_, client] => toured_by(rt, alloc, &manager, client, target, other),
+        _ => Err(Wrong),
     };
     manager.discard(rt);
     done

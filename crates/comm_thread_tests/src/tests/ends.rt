@@ -3,18 +3,44 @@ ghost use Rattle.std.specs.Prelude.{◌≡◌, [], None};
 ghost use Rattle.comm_targets.specs.Meaning.{IsIdle};
 
 use crate::tests::named::{Play, named};
-use crate::tests::words::{Told, Wrong, answer, empty, holds, limits, shut};
+use crate::tests::turns::{opens, registers, unregisters};
+use crate::tests::words::{Told, Wrong, empty, holds, limits, shut};
 use comm_core::Entry;
-use comm_manager::{Cause, Client, Manager, Naming, Publisher, ShutdownRefused};
+use comm_manager::{Cause, Client, Farewell, Manager, Naming, Publisher, ShutdownRefused};
 use comm_targets::{Answer, Echo, Event, Kind, Target, TargetFault};
-use comm_value::{Dict, Text};
+use comm_value::Dict;
 use std::alloc::Global;
 use std::sync::atomic::{AtomicU64, Ordering};
 use std::sync::{Arc, Wait};
 use std::test::*;
 use std::thread::Threads;
 
-// A shutdown without this client is refused, and one with it isn't: the history is an end alone.
+// The history is an end alone, which nobody took.
+fn is_end(farewell: &Farewell) -> bool {
+    match farewell.history.as_slice() {
+        [end] => matches!(&**end, Entry::End) && farewell.untaken.len() == 1,
+        _ => false,
+    }
+}
+
+// A shutdown that was refused for want of this client is tried again with it.
+fn shut_again<J: Naming, T: Target, R: Wait>(
+    rt: &R,
+    refused: ShutdownRefused<J, T>,
+    other: Client<J>,
+) -> Result<(), Wrong> {
+    let ShutdownRefused {
+        cause,
+        manager,
+        mut clients,
+        publisher,
+    } = refused;
+    let is_whole = clients.push(other).is_ok();
+    let farewell = shut(rt, manager, clients, publisher)?;
+    holds(cause == Cause::MissingClients && is_whole && is_end(&farewell))
+}
+
+// A shutdown without this client is refused, and one with it isn't.
 fn shut_with<J: Naming, T: Target, R: Wait>(
     rt: &R,
     manager: Manager<J, T>,
@@ -24,24 +50,7 @@ fn shut_with<J: Naming, T: Target, R: Wait>(
 ) -> Result<(), Wrong> {
     match manager.shutdown(rt, clients, publisher) {
         Ok(_) => Err(Wrong),
-        Err(refused) => {
-            let ShutdownRefused {
-                cause,
-                manager,
-                mut clients,
-                publisher,
-            } = refused;
-            let is_whole = clients.push(other).is_ok() && clients.len() == 2;
-            let farewell = shut(rt, manager, clients, publisher)?;
-            holds(cause == Cause::MissingClients)?;
-            holds(is_whole && farewell.history.len() == 1 && farewell.untaken.len() == 1)?;
-            holds(
-                farewell
-                    .history
-                    .first()
-                    .is_some_and(|it| matches!(&**it, Entry::End)),
-            )
-        }
+        Err(refused) => shut_again(rt, refused, other),
     }
 }
 
@@ -152,13 +161,9 @@ fn begun<J: Naming, T: Target, R: Wait>(
 ) -> Result<(), Wrong>
     requires { IsIdle (T.means target) }
 {
-    let name = Text::copy_of(alloc, "t")?;
-    let is_registered = client.register(rt, manager, name, target).is_ok();
-    holds(is_registered)?;
-    let id = Text::copy_of(alloc, "a")?;
-    let name = Text::copy_of(alloc, "t")?;
-    let opened = client.open_comm(rt, manager, id, name, None, empty(alloc));
-    holds(answer(opened) == Told::Opened(2))
+    let registered = registers(rt, alloc, manager, client, "t", target)?;
+    let opened = opens(rt, alloc, manager, client, "a", "t", empty(alloc))?;
+    holds(registered == Told::Registered(1) && opened == Told::Opened(2))
 }
 
 fn unregistered<J: Naming, T: Target, R: Wait>(
@@ -167,8 +172,7 @@ fn unregistered<J: Naming, T: Target, R: Wait>(
     manager: &Manager<J, T>,
     client: &mut Client<J>,
 ) -> Result<(), Wrong> {
-    let name = Text::copy_of(alloc, "t")?;
-    holds(answer(client.unregister(rt, manager, name)) == Told::Unregistered(3))
+    holds(unregisters(rt, alloc, manager, client, "t")? == Told::Unregistered(3))
 }
 
 // Another target takes its place.
@@ -181,11 +185,7 @@ fn replaced<J: Naming, T: Target, R: Wait>(
 ) -> Result<(), Wrong>
     requires { IsIdle (T.means other) }
 {
-    let name = Text::copy_of(alloc, "t")?;
-    match client.register(rt, manager, name, other) {
-        Ok(answered) => holds(answer(Ok(answered)) == Told::Replaced(3)),
-        Err(_) => Err(Wrong),
-    }
+    holds(registers(rt, alloc, manager, client, "t", other)? == Told::Replaced(3))
 }
 
 // The manager ends as it is told.
@@ -208,6 +208,30 @@ fn ended<J: Naming, T: Target, R: Wait>(
     }
 }
 
+// What the client does before the manager ends.
+fn worked<J: Naming, T: Target, R: Wait>(
+    rt: &R,
+    alloc: Global,
+    manager: &Manager<J, T>,
+    clients: &mut [Client<J>],
+    how: How,
+    target: T,
+    other: T,
+) -> Result<(), Wrong>
+    requires target { IsIdle (T.means target) }
+    requires other { IsIdle (T.means other) }
+{
+    let [client] = clients else {
+        return Err(Wrong);
+    };
+    begun(rt, alloc, manager, client, target)?;
+    match how {
+        How::Unregister => unregistered(rt, alloc, manager, client),
+        How::Replace => replaced(rt, alloc, manager, client, other),
+        How::Shutdown | How::Discard => Ok(()),
+    }
+}
+
 /// A manager ends in which a target has an open comm.
 pub fn ending<J: Naming, T: Target, R: Wait>(
     rt: &R,
@@ -223,22 +247,18 @@ pub fn ending<J: Naming, T: Target, R: Wait>(
     requires other { IsIdle (T.means other) }
 {
     let mut clients = clients;
-    let Some(mut client) = clients.pop() else {
-        manager.discard(rt);
-        return Err(Wrong);
-    };
-    let done = begun(rt, alloc, &manager, &mut client, target);
-    let gone = match how {
-        How::Unregister => unregistered(rt, alloc, &manager, &mut client),
-        How::Replace => replaced(rt, alloc, &manager, &mut client, other),
-        How::Shutdown | How::Discard => Ok(()),
-    };
-    let is_back = clients.push(client).is_ok();
+    let done = worked(
+        rt,
+        alloc,
+        &manager,
+        clients.as_mut_slice(),
+        how,
+        target,
+        other,
+    );
     let end = ended(rt, how, manager, clients, publisher);
     done?;
-    gone?;
-    end?;
-    holds(is_back)
+    end
 }
 
 // So many targets end, each once, when no comm of it is open.

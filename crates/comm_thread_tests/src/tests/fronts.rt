@@ -3,10 +3,12 @@ ghost use Rattle.std.specs.Prelude.{◌≡◌, [], None};
 ghost use Rattle.comm_targets.specs.Meaning.{IsIdle};
 
 use crate::tests::named::{Play, named};
-use crate::tests::words::{Told, Wrong, answer, body, holds, limits, value_of, valued};
+use crate::tests::turns::{lists, opens_widget, pushes, reads, registers, says};
+use crate::tests::words::{Told, Wrong, body, holds, limits, stated, valued};
 use comm_manager::{Client, Manager, Naming, Stamp};
+use comm_messages::Body;
 use comm_targets::{Answer, Event, Kind, Latest, Target, TargetFault};
-use comm_value::{Dict, Text, Val};
+use comm_value::Dict;
 use std::alloc::Global;
 use std::sync::atomic::{AtomicBool, Ordering};
 use std::sync::{Arc, Wait};
@@ -14,43 +16,21 @@ use std::test::*;
 use std::thread::{Threads, join, yield_now};
 use widget_target::WidgetTarget;
 
-// Registers the target as "w".
-fn registered<J: Naming, T: Target, R: Wait>(
+// A target is registered as "w", and "a" is opened towards it with this data. The stamp of that is the second.
+fn begun<J: Naming, T: Target, R: Wait>(
     rt: &R,
     alloc: Global,
     manager: &Manager<J, T>,
     client: &mut Client<J>,
     target: T,
-) -> Result<(), Wrong>
+    data: Body,
+) -> Result<Stamp<J>, Wrong>
     requires { IsIdle (T.means target) }
 {
-    let name = Text::copy_of(alloc, "w")?;
-    match client.register(rt, manager, name, target) {
-        Ok(answered) => holds(answered.number == 1),
-        Err(_) => Err(Wrong),
-    }
-}
-
-// Opens "a" with this data, and gives the stamp of the second change.
-fn opened<J: Naming, T: Target, R: Wait>(
-    rt: &R,
-    alloc: Global,
-    manager: &Manager<J, T>,
-    client: &mut Client<J>,
-    data: Dict,
-) -> Result<Stamp<J>, Wrong> {
-    let id = Text::copy_of(alloc, "a")?;
-    let name = Text::copy_of(alloc, "w")?;
-    let version = Text::copy_of(alloc, "2.0.0")?;
-    let given = client.open_comm(rt, manager, id, name, Some(version), body(alloc, data)?);
-    match given {
-        Ok(answered) => {
-            let stamp = answered.stamp.copy();
-            holds(answer(Ok(answered)) == Told::Opened(2) && stamp.number() == 2)?;
-            Ok(stamp)
-        }
-        Err(_) => Err(Wrong),
-    }
+    let registered = registers(rt, alloc, manager, client, "w", target);
+    let (opened, stamp) = opens_widget(rt, alloc, manager, client, "a", "w", data)?;
+    holds(registered? == Told::Registered(1) && opened == Told::Opened(2) && stamp.number() == 2)?;
+    Ok(stamp)
 }
 
 // A widget is opened with the value 1, and 7 is pushed. The stamp of that is the third.
@@ -63,19 +43,10 @@ fn pushed<J: Naming, T: Target, R: Wait>(
 ) -> Result<Stamp<J>, Wrong>
     requires { IsIdle (T.means target) }
 {
-    registered(rt, alloc, manager, client, target)?;
-    let state = Val::Dict(valued(alloc, 1)?);
-    let data = Dict::new().insert(alloc, Text::copy_of(alloc, "state")?, state)?;
-    let _stamp = opened(rt, alloc, manager, client, data)?;
-    let id = Text::copy_of(alloc, "a")?;
-    match client.push(rt, manager, id, valued(alloc, 7)?) {
-        Ok(answered) => {
-            let stamp = answered.stamp.copy();
-            holds(answer(Ok(answered)) == Told::Delivered(3))?;
-            Ok(stamp)
-        }
-        Err(_) => Err(Wrong),
-    }
+    let _stamp = begun(rt, alloc, manager, client, target, stated(alloc, 1)?)?;
+    let (pushed, stamp) = pushes(rt, alloc, manager, client, "a", valued(alloc, 7)?)?;
+    holds(pushed == Told::Delivered(3))?;
+    Ok(stamp)
 }
 
 // One hears of the change, and reads it; the other heard nothing, and reads no less in the same thread.
@@ -88,13 +59,24 @@ fn read_by<J: Naming>(
     holds(one.seen() == 0 && two.seen() == 0)?;
     one.hear(stamp);
     holds(one.seen() == 3)?;
-    let id = Text::copy_of(alloc, "a")?;
-    let read = one.state(&id)?;
-    holds(read.front == 3 && value_of(&read.answer) == Some(7) && one.seen() == 3)?;
-    let listed = one.comm_info(alloc, None)?;
-    holds(listed.front == 3 && listed.comms.as_slice().len() == 1)?;
-    let listed = two.comm_info(alloc, None)?;
-    holds(listed.front == 3 && listed.comms.as_slice().len() == 1 && two.seen() == 3)
+    holds(reads(alloc, one, "a")? == (3, Some(7)) && one.seen() == 3)?;
+    holds(lists(alloc, one)? == (3, 1))?;
+    holds(lists(alloc, two)? == (3, 1) && two.seen() == 3)
+}
+
+fn heard_by<J: Naming, T: Target, R: Wait>(
+    rt: &R,
+    alloc: Global,
+    manager: &Manager<J, T>,
+    zero: &mut Client<J>,
+    one: &mut Client<J>,
+    two: &mut Client<J>,
+    target: T,
+) -> Result<(), Wrong>
+    requires { IsIdle (T.means target) }
+{
+    let stamp = pushed(rt, alloc, manager, zero, target)?;
+    read_by(alloc, one, two, &stamp)
 }
 
 /// Three clients: what one changes, the second hears of and the third reads.
@@ -108,13 +90,8 @@ pub fn heard<J: Naming, T: Target, R: Wait>(
     requires { IsIdle (T.means target) }
 {
     let mut clients = clients;
-    let done = match (clients.pop(), clients.pop(), clients.pop()) {
-        (Some(mut two), Some(mut one), Some(mut zero)) => {
-            match pushed(rt, alloc, &manager, &mut zero, target) {
-                Ok(stamp) => read_by(alloc, &mut one, &mut two, &stamp),
-                Err(wrong) => Err(wrong),
-            }
-        }
+    let done = match clients.as_mut_slice() {
+        [zero, one, two] => heard_by(rt, alloc, &manager, zero, one, two, target),
         _ => Err(Wrong),
     };
     manager.discard(rt);
@@ -216,19 +193,15 @@ fn spoken<J: Naming, T: Target, R: Wait>(
     manager: &Manager<J, T>,
     client: &mut Client<J>,
 ) -> Result<(), Wrong> {
-    let id = Text::copy_of(alloc, "a")?;
-    let said = client.message(rt, manager, id, body(alloc, valued(alloc, 2)?)?);
-    holds(answer(said) == Told::Delivered(3))
-}
-
-fn speaks<J: Naming, T: Target, R: Wait>(
-    rt: &R,
-    alloc: Global,
-    manager: &Manager<J, T>,
-    mut client: Client<J>,
-) -> (Client<J>, bool) {
-    let is_well = spoken(rt, alloc, manager, &mut client).is_ok();
-    (client, is_well)
+    let said = says(
+        rt,
+        alloc,
+        manager,
+        client,
+        "a",
+        body(alloc, valued(alloc, 2)?)?,
+    )?;
+    holds(said == Told::Delivered(3))
 }
 
 // The state before the message.
@@ -237,37 +210,27 @@ fn read_meanwhile<J: Naming>(
     client: &mut Client<J>,
     moments: &Moments,
 ) -> Result<(), Wrong> {
-    let id = Text::copy_of(alloc, "a")?;
     awaited(&moments.is_asked);
-    let read = client.state(&id);
+    let read = reads(alloc, client, "a");
     moments.is_read.store(true, Ordering::SeqCst);
-    let read = read?;
-    holds(read.front == 2 && value_of(&read.answer) == Some(1))
+    holds(read? == (2, Some(1)))
 }
 
-fn reads<J: Naming>(
-    alloc: Global,
-    mut client: Client<J>,
-    moments: Arc<Moments>,
-) -> (Client<J>, bool) {
-    let is_well = read_meanwhile(alloc, &mut client, &moments).is_ok();
-    (client, is_well)
-}
-
-// One client speaks, and the other reads meanwhile.
+// One client speaks, and the other reads meanwhile. Tells whether both went well.
 fn at_once<J: Naming + Send + Sync, T: Target, R: Threads + Wait + Sync>(
     rt: &R,
     alloc: Global,
     manager: &Manager<J, T>,
-    clients: (Client<J>, Client<J>),
-    moments: Arc<Moments>,
-) -> ((Client<J>, bool), (Client<J>, bool)) {
-    let (zero, one) = clients;
-    join(
+    zero: &mut Client<J>,
+    one: &mut Client<J>,
+    moments: &Moments,
+) -> bool {
+    let (is_said, is_read) = join(
         rt,
-        move || speaks(rt, alloc, manager, zero),
-        move || reads(alloc, one, moments),
-    )
+        move || spoken(rt, alloc, manager, zero).is_ok(),
+        move || read_meanwhile(alloc, one, moments).is_ok(),
+    );
+    is_said && is_read
 }
 
 // A comm is open with the value 1, which both clients have seen.
@@ -281,8 +244,8 @@ fn shown<J: Naming, T: Target, R: Wait>(
 ) -> Result<(), Wrong>
     requires { IsIdle (T.means target) }
 {
-    registered(rt, alloc, manager, zero, target)?;
-    let stamp = opened(rt, alloc, manager, zero, valued(alloc, 1)?)?;
+    let data = body(alloc, valued(alloc, 1)?)?;
+    let stamp = begun(rt, alloc, manager, zero, target, data)?;
     one.hear(&stamp);
     Ok(())
 }
@@ -291,29 +254,17 @@ fn held_by<J: Naming + Send + Sync, T: Target, R: Threads + Wait + Sync>(
     rt: &R,
     alloc: Global,
     manager: &Manager<J, T>,
-    clients: Vec<Client<J>>,
+    zero: &mut Client<J>,
+    one: &mut Client<J>,
     target: T,
-    moments: Arc<Moments>,
+    moments: &Moments,
 ) -> Result<(), Wrong>
     requires { IsIdle (T.means target) }
 {
-    let mut clients = clients;
-    let mut one = clients.pop().ok_or(Wrong)?;
-    let mut zero = clients.pop().ok_or(Wrong)?;
-    shown(rt, alloc, manager, &mut zero, &mut one, target)?;
-    let ((mut zero, is_said), (mut one, is_read)) = at_once(
-        rt,
-        alloc,
-        manager,
-        (zero, one),
-        moments,
-    );
-    holds(is_said && is_read && zero.seen() == 3)?;
-    let id = Text::copy_of(alloc, "a")?;
-    let after = one.state(&id)?;
-    holds(after.front == 3 && value_of(&after.answer) == Some(2))?;
-    let after = zero.state(&id)?;
-    holds(after.front == 3 && value_of(&after.answer) == Some(2))
+    shown(rt, alloc, manager, zero, one, target)?;
+    holds(at_once(rt, alloc, manager, zero, one, moments) && zero.seen() == 3)?;
+    holds(reads(alloc, one, "a")? == (3, Some(2)))?;
+    holds(reads(alloc, zero, "a")? == (3, Some(2)))
 }
 
 /// A read is answered while a change is with its target.
@@ -327,7 +278,11 @@ pub fn held_open<J: Naming + Send + Sync, T: Target, R: Threads + Wait + Sync>(
 ) -> Result<(), Wrong>
     requires { IsIdle (T.means target) }
 {
-    let done = held_by(rt, alloc, &manager, clients, target, moments);
+    let mut clients = clients;
+    let done = match clients.as_mut_slice() {
+        [zero, one] => held_by(rt, alloc, &manager, zero, one, target, &moments),
+        _ => Err(Wrong),
+    };
     manager.discard(rt);
     done
 }

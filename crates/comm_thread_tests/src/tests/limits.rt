@@ -1,10 +1,10 @@
 //! Each limit is met and told.
 use crate::tests::named::{Play, named};
-use crate::tests::words::{Told, Wrong, answer, holds, limits};
+use crate::tests::turns::{closes, lists};
+use crate::tests::words::{Told, Wrong, holds, limits};
 use comm_core::{Limits, NewFault};
 use comm_manager::{Client, Manager, Naming, Opening, Publisher};
 use comm_targets::{Echo, Target};
-use comm_value::Text;
 use std::alloc::Global;
 use std::sync::Wait;
 use std::test::*;
@@ -15,9 +15,9 @@ fn closed<J: Naming, T: Target, R: Wait>(
     alloc: Global,
     manager: &Manager<J, T>,
     client: &mut Client<J>,
-) -> Result<Told, Wrong> {
-    let id = Text::copy_of(alloc, "q")?;
-    Ok(answer(client.close_comm(rt, manager, id)))
+    wanted: Told,
+) -> Result<(), Wrong> {
+    holds(closes(rt, alloc, manager, client, "q")? == wanted)
 }
 
 // With an outbox of 1: an entry must be taken before the next change.
@@ -28,10 +28,10 @@ fn one_waits<J: Naming, T: Target, R: Wait>(
     client: &mut Client<J>,
     publisher: &mut Publisher<J>,
 ) -> Result<(), Wrong> {
-    holds(closed(rt, alloc, manager, client)? == Told::NoComm(1))?;
-    holds(closed(rt, alloc, manager, client)? == Told::OutboxFull(1))?;
+    closed(rt, alloc, manager, client, Told::NoComm(1))?;
+    closed(rt, alloc, manager, client, Told::OutboxFull(1))?;
     holds(publisher.take(rt).is_some())?;
-    holds(closed(rt, alloc, manager, client)? == Told::NoComm(2))?;
+    closed(rt, alloc, manager, client, Told::NoComm(2))?;
     holds(publisher.take(rt).is_some() && publisher.take(rt).is_none())
 }
 
@@ -45,10 +45,10 @@ fn three_wait<J: Naming, T: Target, R: Wait>(
     before: u64,
 ) -> Result<(), Wrong> {
     for number in 1..4u64 {
-        let told = closed(rt, alloc, manager, client)?;
-        holds(told == Told::NoComm(before.saturating_add(number)))?;
+        let wanted = Told::NoComm(before.saturating_add(number));
+        closed(rt, alloc, manager, client, wanted)?;
     }
-    holds(closed(rt, alloc, manager, client)? == Told::OutboxFull(3))?;
+    closed(rt, alloc, manager, client, Told::OutboxFull(3))?;
     for _ in 0..3u8 {
         holds(publisher.take(rt).is_some())?;
     }
@@ -77,13 +77,12 @@ fn history_ends<J: Naming, T: Target, R: Wait>(
     client: &mut Client<J>,
     publisher: &mut Publisher<J>,
 ) -> Result<(), Wrong> {
-    holds(closed(rt, alloc, manager, client)? == Told::NoComm(1))?;
-    holds(closed(rt, alloc, manager, client)? == Told::NoComm(2))?;
-    holds(closed(rt, alloc, manager, client)? == Told::HistoryFull(2))?;
+    closed(rt, alloc, manager, client, Told::NoComm(1))?;
+    closed(rt, alloc, manager, client, Told::NoComm(2))?;
+    closed(rt, alloc, manager, client, Told::HistoryFull(2))?;
     holds(publisher.take(rt).is_some())?;
-    holds(closed(rt, alloc, manager, client)? == Told::HistoryFull(2))?;
-    let read = client.comm_info(alloc, None)?;
-    holds(read.front == 2 && read.comms.as_slice().is_empty())
+    closed(rt, alloc, manager, client, Told::HistoryFull(2))?;
+    holds(lists(alloc, client)? == (2, 0))
 }
 
 /// Which limit is tried.
@@ -92,6 +91,21 @@ pub enum Limit {
     One,
     Three,
     History,
+}
+
+fn met<J: Naming, T: Target, R: Wait>(
+    rt: &R,
+    alloc: Global,
+    manager: &Manager<J, T>,
+    client: &mut Client<J>,
+    publisher: &mut Publisher<J>,
+    limit: Limit,
+) -> Result<(), Wrong> {
+    match limit {
+        Limit::One => one_waits(rt, alloc, manager, client, publisher),
+        Limit::Three => always_three(rt, alloc, manager, client, publisher),
+        Limit::History => history_ends(rt, alloc, manager, client, publisher),
+    }
 }
 
 /// A client meets the limit, and is told.
@@ -104,13 +118,9 @@ pub fn limited<J: Naming, T: Target, R: Wait>(
     limit: Limit,
 ) -> Result<(), Wrong> {
     let mut clients = clients;
-    let done = match clients.pop() {
-        Some(mut client) => match limit {
-            Limit::One => one_waits(rt, alloc, &manager, &mut client, &mut publisher),
-            Limit::Three => always_three(rt, alloc, &manager, &mut client, &mut publisher),
-            Limit::History => history_ends(rt, alloc, &manager, &mut client, &mut publisher),
-        },
-        None => Err(Wrong),
+    let done = match clients.as_mut_slice() {
+        [client, ..] => met(rt, alloc, &manager, client, &mut publisher, limit),
+        [] => Err(Wrong),
     };
     manager.discard(rt);
     done

@@ -166,6 +166,43 @@ fn relayed<J: Line + Send + Sync, R: Threads + Wait + Sync>(
     are_all(&taken, untaken)
 }
 
+// As many changes as may wait, and one that is refused.
+fn fills<J: Line, R: Wait>(
+    rt: &R,
+    alloc: Global,
+    desk: &mut Desk<J>,
+    limit: u64,
+) -> Result<(), Wrong> {
+    for _ in 0..limit {
+        holds(desk.put(rt, alloc, "q").is_ok())?;
+    }
+    holds(matches!(desk.put(rt, alloc, "q"), Err(Unavailable::OutboxFull(n)) if n == limit))
+}
+
+// Whether the next entry is the change of this number.
+fn is_next<R: Wait>(rt: &R, publisher: &mut Publisher, number: u64) -> bool {
+    match publisher.take(rt) {
+        Some(entry) => whose(&entry) == (0, number),
+        None => false,
+    }
+}
+
+// As many entries as may wait are taken, and no more.
+fn empties<R: Wait>(
+    rt: &R,
+    publisher: &mut Publisher,
+    before: u64,
+    limit: u64,
+) -> Result<u64, Wrong> {
+    let mut last = before;
+    for _ in 0..limit {
+        last = last.saturating_add(1);
+        holds(is_next(rt, publisher, last))?;
+    }
+    holds(publisher.take(rt).is_none() && publisher.taken() == last)?;
+    Ok(last)
+}
+
 // Rounds of one thread: as many changes as may wait, one that is refused, and all are taken.
 fn limited<J: Line, R: Wait>(
     rt: &R,
@@ -180,16 +217,8 @@ fn limited<J: Line, R: Wait>(
     let mut desk = Desk::<J>::new(outbox, limit);
     let mut last = 0u64;
     for _ in 0..100u8 {
-        for _ in 0..limit {
-            holds(desk.put(rt, alloc, "q").is_ok())?;
-        }
-        holds(matches!(desk.put(rt, alloc, "q"), Err(Unavailable::OutboxFull(n)) if n == limit))?;
-        for _ in 0..limit {
-            let entry = publisher.take(rt).ok_or(Wrong)?;
-            last = last.saturating_add(1);
-            holds(whose(&entry) == (0, last))?;
-        }
-        holds(publisher.take(rt).is_none() && publisher.taken() == last)?;
+        fills(rt, alloc, &mut desk, limit)?;
+        last = empties(rt, &mut publisher, last, limit)?;
     }
     Ok(())
 }

@@ -2,11 +2,11 @@
 ghost use Rattle.comm_targets.specs.Meaning.{IsIdle};
 
 use crate::tests::named::{Play, named};
-use crate::tests::words::{Told, Wrong, answer, counted, empty, holds, limits, shut, whose};
+use crate::tests::turns::{closes, opens, registers, says};
+use crate::tests::words::{Told, Wrong, counted, empty, holds, limits, shut, whose};
 use comm_core::Entry;
 use comm_manager::{Client, Farewell, Manager, Naming, Publisher};
 use comm_targets::{Counter, Target};
-use comm_value::Text;
 use std::alloc::Global;
 use std::sync::{Arc, Wait};
 use std::test::*;
@@ -21,35 +21,31 @@ fn visit<J: Naming, T: Target, R: Wait>(
     id: &str,
     speaks: bool,
 ) -> Result<(), Wrong> {
-    let name = Text::copy_of(alloc, "n")?;
-    let key = Text::copy_of(alloc, id)?;
-    let opened = client.open_comm(rt, manager, key, name, None, empty(alloc));
-    holds(matches!(answer(opened), Told::Opened(_)))?;
+    let opened = opens(rt, alloc, manager, client, id, "n", empty(alloc))?;
+    holds(matches!(opened, Told::Opened(_)))?;
     if speaks {
-        let key = Text::copy_of(alloc, id)?;
-        let said = client.message(rt, manager, key, empty(alloc));
-        holds(matches!(answer(said), Told::Delivered(_)))?;
+        let said = says(rt, alloc, manager, client, id, empty(alloc))?;
+        holds(matches!(said, Told::Delivered(_)))?;
     }
-    let key = Text::copy_of(alloc, id)?;
-    let closed = client.close_comm(rt, manager, key);
-    holds(matches!(answer(closed), Told::Closed(_)))
+    let closed = closes(rt, alloc, manager, client, id)?;
+    holds(matches!(closed, Told::Closed(_)))
 }
 
-// A client in a thread of its own: 50 visits. It comes back, with whether all went well.
+// A client in a thread of its own: 50 visits. Tells whether all went well.
 fn worked<J: Naming, T: Target, R: Wait>(
     rt: &R,
     alloc: Global,
     manager: &Manager<J, T>,
-    mut client: Client<J>,
+    client: &mut Client<J>,
     id: &str,
     speaks: bool,
-) -> (Client<J>, bool) {
+) -> bool {
     for _ in 0..50u8 {
-        if visit(rt, alloc, manager, &mut client, id, speaks).is_err() {
-            return (client, false);
+        if visit(rt, alloc, manager, client, id, speaks).is_err() {
+            return false;
         }
     }
-    (client, true)
+    true
 }
 
 fn registered<J: Naming, T: Target, R: Wait>(
@@ -61,11 +57,7 @@ fn registered<J: Naming, T: Target, R: Wait>(
 ) -> Result<(), Wrong>
     requires { IsIdle (T.means target) }
 {
-    let name = Text::copy_of(alloc, "n")?;
-    match client.register(rt, manager, name, target) {
-        Ok(answered) => holds(answered.number == 1),
-        Err(_) => Err(Wrong),
-    }
+    holds(registers(rt, alloc, manager, client, "n", target)? == Told::Registered(1))
 }
 
 // Two clients work in threads of their own.
@@ -73,17 +65,18 @@ fn both<J: Naming + Send + Sync, T: Target, R: Threads + Wait + Sync>(
     rt: &R,
     alloc: Global,
     manager: &Manager<J, T>,
-    clients: (Client<J>, Client<J>),
+    zero: &mut Client<J>,
+    one: &mut Client<J>,
     ids: (&'static str, &'static str),
     speaks: bool,
-) -> ((Client<J>, bool), (Client<J>, bool)) {
-    let (zero, one) = clients;
+) -> bool {
     let (first, second) = ids;
-    join(
+    let (a, b) = join(
         rt,
         move || worked(rt, alloc, manager, zero, first, speaks),
         move || worked(rt, alloc, manager, one, second, speaks),
-    )
+    );
+    a && b
 }
 
 // Four clients do: two threads start two more.
@@ -91,61 +84,65 @@ fn all_four<J: Naming + Send + Sync, T: Target, R: Threads + Wait + Sync>(
     rt: &R,
     alloc: Global,
     manager: &Manager<J, T>,
-    first: (Client<J>, Client<J>),
-    second: (Client<J>, Client<J>),
-) -> (
-    ((Client<J>, bool), (Client<J>, bool)),
-    ((Client<J>, bool), (Client<J>, bool)),
-) {
-    join(
+    zero: &mut Client<J>,
+    one: &mut Client<J>,
+    two: &mut Client<J>,
+    three: &mut Client<J>,
+) -> bool {
+    let (a, b) = join(
         rt,
-        move || both(rt, alloc, manager, first, ("a", "b"), true),
-        move || both(rt, alloc, manager, second, ("c", "d"), true),
-    )
+        move || both(rt, alloc, manager, zero, one, ("a", "b"), true),
+        move || both(rt, alloc, manager, two, three, ("c", "d"), true),
+    );
+    a && b
 }
 
 fn played_by_two<J: Naming + Send + Sync, T: Target, R: Threads + Wait + Sync>(
     rt: &R,
     alloc: Global,
     manager: &Manager<J, T>,
-    clients: &mut Vec<Client<J>>,
+    zero: &mut Client<J>,
+    one: &mut Client<J>,
     target: T,
 ) -> Result<(), Wrong>
     requires { IsIdle (T.means target) }
 {
-    let one = clients.pop().ok_or(Wrong)?;
-    let mut zero = clients.pop().ok_or(Wrong)?;
-    let begun = registered(rt, alloc, manager, &mut zero, target);
-    let ((zero, a), (one, b)) = both(rt, alloc, manager, (zero, one), ("a", "b"), false);
-    clients.push(zero)?;
-    clients.push(one)?;
-    begun?;
-    holds(a && b)
+    registered(rt, alloc, manager, zero, target)?;
+    holds(both(rt, alloc, manager, zero, one, ("a", "b"), false))
 }
 
 fn played_by_four<J: Naming + Send + Sync, T: Target, R: Threads + Wait + Sync>(
     rt: &R,
     alloc: Global,
     manager: &Manager<J, T>,
-    clients: &mut Vec<Client<J>>,
+    zero: &mut Client<J>,
+    one: &mut Client<J>,
+    two: &mut Client<J>,
+    three: &mut Client<J>,
     target: T,
 ) -> Result<(), Wrong>
     requires { IsIdle (T.means target) }
 {
-    let three = clients.pop().ok_or(Wrong)?;
-    let two = clients.pop().ok_or(Wrong)?;
-    let one = clients.pop().ok_or(Wrong)?;
-    let mut zero = clients.pop().ok_or(Wrong)?;
-    let begun = registered(rt, alloc, manager, &mut zero, target);
-    let (first, second) = all_four(rt, alloc, manager, (zero, one), (two, three));
-    let ((zero, a), (one, b)) = first;
-    let ((two, c), (three, d)) = second;
-    clients.push(zero)?;
-    clients.push(one)?;
-    clients.push(two)?;
-    clients.push(three)?;
-    begun?;
-    holds(a && b && c && d)
+    registered(rt, alloc, manager, zero, target)?;
+    holds(all_four(rt, alloc, manager, zero, one, two, three))
+}
+
+fn played_by<J: Naming + Send + Sync, T: Target, R: Threads + Wait + Sync>(
+    rt: &R,
+    alloc: Global,
+    manager: &Manager<J, T>,
+    clients: &mut [Client<J>],
+    target: T,
+) -> Result<(), Wrong>
+    requires { IsIdle (T.means target) }
+{
+    match clients {
+        [zero, one] => played_by_two(rt, alloc, manager, zero, one, target),
+        [zero, one, two, three] => {
+            played_by_four(rt, alloc, manager, zero, one, two, three, target)
+        }
+        _ => Err(Wrong),
+    }
 }
 
 // Takes so many of the entries that nobody has taken.
@@ -207,25 +204,25 @@ fn messages(history: &[Arc<Entry, Global>]) -> Option<i128> {
 
 // 61 entries were taken, and the others weren't.
 fn all_there(
-    taken: Vec<Arc<Entry, Global>>,
-    farewell: Farewell,
+    taken: &[Arc<Entry, Global>],
+    farewell: &Farewell,
     length: usize,
 ) -> Result<(), Wrong> {
-    let Farewell { history, untaken } = farewell;
+    let history = farewell.history.as_slice();
     if history.len() != length || history.len() < 61 {
         return Err(Wrong);
     }
     let (first, rest) = history.split_at(61);
-    holds(are_same(&taken, first) && are_same(&untaken, rest))?;
+    holds(are_same(taken, first) && are_same(&farewell.untaken, rest))?;
     holds(matches!(&*history[length - 1], Entry::End))?;
-    let by_two = count_of(&history, 0) == Some(101)
-        && count_of(&history, 1) == Some(100)
-        && messages(&history) == Some(0);
-    let by_four = count_of(&history, 0) == Some(151)
-        && count_of(&history, 1) == Some(150)
-        && count_of(&history, 2) == Some(150)
-        && count_of(&history, 3) == Some(150)
-        && messages(&history) == Some(200);
+    let by_two = count_of(history, 0) == Some(101)
+        && count_of(history, 1) == Some(100)
+        && messages(history) == Some(0);
+    let by_four = count_of(history, 0) == Some(151)
+        && count_of(history, 1) == Some(150)
+        && count_of(history, 2) == Some(150)
+        && count_of(history, 3) == Some(150)
+        && messages(history) == Some(200);
     holds(by_two || by_four)
 }
 
@@ -241,21 +238,12 @@ pub fn threaded<J: Naming + Send + Sync, T: Target, R: Threads + Wait + Sync>(
     requires { IsIdle (T.means target) }
 {
     let mut clients = clients;
-    let (done, length) = if clients.len() == 2 {
-        (
-            played_by_two(rt, alloc, &manager, &mut clients, target),
-            202,
-        )
-    } else {
-        (
-            played_by_four(rt, alloc, &manager, &mut clients, target),
-            602,
-        )
-    };
+    let length = if clients.len() == 2 { 202 } else { 602 };
+    let done = played_by(rt, alloc, &manager, clients.as_mut_slice(), target);
     let taken = take(rt, alloc, &mut publisher, 61);
     let farewell = shut(rt, manager, clients, publisher);
     done?;
-    all_there(taken?, farewell?, length)
+    all_there(&taken?, &farewell?, length)
 }
 
 // Two counters, boxed: the first is registered.

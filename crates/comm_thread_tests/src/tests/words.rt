@@ -82,6 +82,15 @@ pub fn body(alloc: Global, data: Dict) -> Result<Body, Wrong> {
     Ok(Body::new(data, Buffers::none(alloc)))
 }
 
+/// A body whose data has this value in its state.
+pub fn stated(alloc: Global, number: i128) -> Result<Body, Wrong> {
+    let state = Val::Dict(valued(alloc, number)?);
+    body(
+        alloc,
+        Dict::new().insert(alloc, Text::copy_of(alloc, "state")?, state)?,
+    )
+}
+
 /// A body with no data and no buffers.
 pub fn empty(alloc: Global) -> Body {
     Body::new(Dict::new(), Buffers::none(alloc))
@@ -90,6 +99,7 @@ pub fn empty(alloc: Global) -> Body {
 /// What a change answered: its number, or why it wasn't made.
 #[derive(Clone, Copy, PartialEq, Eq, Debug)]
 pub enum Told {
+    Registered(u64),
     Replaced(u64),
     Opened(u64),
     Launched(u64),
@@ -103,18 +113,37 @@ pub enum Told {
     Memory,
 }
 
+// What this reply to a change of this number tells.
+fn what_is_told(number: u64, reply: &Reply) -> Told {
+    match reply {
+        Reply::Registered => Told::Registered(number),
+        Reply::Replaced(_) => Told::Replaced(number),
+        Reply::Opened => Told::Opened(number),
+        Reply::Launched => Told::Launched(number),
+        Reply::Delivered(None) => Told::Delivered(number),
+        Reply::Closed => Told::Closed(number),
+        Reply::Unregistered(_) => Told::Unregistered(number),
+        Reply::NoComm => Told::NoComm(number),
+        _ => Told::Other(number),
+    }
+}
+
+/// What was answered, and the stamp that tells of it.
+pub fn stamped<J: Naming>(answered: Answered<J>) -> (Told, Stamp<J>) {
+    let Answered {
+        number,
+        reply,
+        stamp,
+    } = answered;
+    (what_is_told(number, &reply), stamp)
+}
+
 pub fn answer<J: Naming>(given: Result<Answered<J>, Unavailable<Stamp<J>>>) -> Told {
     match given {
-        Ok(answered) => match answered.reply {
-            Reply::Replaced(_) => Told::Replaced(answered.number),
-            Reply::Opened => Told::Opened(answered.number),
-            Reply::Launched => Told::Launched(answered.number),
-            Reply::Delivered(None) => Told::Delivered(answered.number),
-            Reply::Closed => Told::Closed(answered.number),
-            Reply::Unregistered(_) => Told::Unregistered(answered.number),
-            Reply::NoComm => Told::NoComm(answered.number),
-            _ => Told::Other(answered.number),
-        },
+        Ok(answered) => {
+            let (told, _stamp) = stamped(answered);
+            told
+        }
         Err(Unavailable::HistoryFull(stamp)) => Told::HistoryFull(stamp.number()),
         Err(Unavailable::OutboxFull(waiting)) => Told::OutboxFull(waiting),
         Err(Unavailable::Memory) => Told::Memory,
