@@ -8,11 +8,12 @@ use Rattle.comm_core.specs.Machine.{Name, at, without}
 use Rattle.comm_core.specs.Row.{without_all}
 use Rattle.comm_core.specs.Tables.{Opens}
 use Rattle.comm_core.specs.declared.comm.Comm.{Comm}
-use Rattle.comm_versions.specs.Rows.{Piece, flat, AllBelow, AllFilled, IsAbsent, IsFound, IsInOrder, id_cmp, put}
-use Rattle.comm_versions.proofs.Flat.{opened, flat_cut, first_is}
+use Rattle.comm_versions.specs.Rows.{Piece, flat, spread, AllBelow, AllFilled, IsAbsent, IsFound, IsInOrder, id_cmp, put}
+use Rattle.comm_versions.proofs.Flat.{opened, flat_cut}
+use Rattle.comm_versions.proofs.Spread.{first_is}
 use Rattle.comm_versions.proofs.Ids.{below_front, put_piece, without_piece, at_piece, put_found, put_absent, without_found}
 
-first_of : (xs : Opens) (x : Name × Comm) → 0 < length xs → x ≡ get_or xs 0 x → xs ≡ x ∷ drop 1 xs
+pub first_of : (xs : Opens) (x : Name × Comm) → 0 < length xs → x ≡ get_or xs 0 x → xs ≡ x ∷ drop 1 xs
 first_of [] x h is = absurd (omega arith)
 first_of (y ∷ ys) x h is = ap (λ (z : Name × Comm). z ∷ ys) (sym is)
 
@@ -34,11 +35,11 @@ below_from k ps i p v xs x h is deref items some here o more =
 pub around : (ps : List Piece) (i : ℕ) (p : Piece) (v : Vec (Name × Comm) Global) (xs : Opens) → i < length ps → p ≡ get_or ps i p → v ≡ arc_value p → xs ≡ v.items → flat ps ≡ flat (take i ps) ++ (xs ++ flat (drop (i + 1) ps))
 around ps i p v xs h is deref items = flat_cut ps i ∙ ap (λ l. flat (take i ps) ++ l) (opened ps i p v xs h is deref items)
 
-none_of : (es : Opens) → length es ≡ 0 → es ≡ []
+none_of : {X : Type 0} (es : List X) → length es ≡ 0 → es ≡ []
 none_of [] h = refl
 none_of (e ∷ es) h = absurd (omega arith)
 
-pub empty_items : (xs : Vec (Name × Comm) Global) → true ≡ (vec_len xs == 0) → xs.items ≡ []
+pub empty_items : {X : Type 0} (xs : Vec X Global) → true ≡ (vec_len xs == 0) → xs.items ≡ []
 empty_items xs h =
     let none : vec_len xs ≡ 0 = grind (arith, nat_tests) in none_of xs.items (omega arith)
 
@@ -52,27 +53,29 @@ pub if_ok : {T E : Type 0} (P Q : T → Type 0) (r : Result T E) → ((x : T) �
 if_ok P Q (Ok x) f h = f x h
 if_ok P Q (Err e) f h = tt
 
--- the id stands in this piece, or would
-pub record Stands (ps : List Piece) (i : ℕ) (xs : Opens) (k : Name) : Type 0 where
-  pub around_it : flat ps ≡ flat (take i ps) ++ (xs ++ flat (drop (i + 1) ps))
-  pub below : AllBelow k (flat (take i ps))
-  pub above : IsAbsent k (flat (drop (i + 1) ps))
+-- the id stands in this part, or would
+pub record Stands {P : Type 0} (f : P → Opens) (ps : List P) (i : ℕ) (xs : Opens) (k : Name) : Type 0 where
+  pub around_it : spread f ps ≡ spread f (take i ps) ++ (xs ++ spread f (drop (i + 1) ps))
+  pub below : AllBelow k (spread f (take i ps))
+  pub above : IsAbsent k (spread f (drop (i + 1) ps))
 
-pub stands : (slice ps : List Piece) (i : ℕ) (xs : Opens) (k l : Name) → slice ≡ ps → k ≡ l → flat slice ≡ flat (take i slice) ++ (xs ++ flat (drop (i + 1) slice)) → AllBelow k (flat (take i slice)) → IsAbsent k (flat (drop (i + 1) slice))
-    → Stands ps i xs l
-stands slice ps i xs k l same text cut b a =
-    subst (λ p. Stands p i xs l) same (subst (λ t. Stands slice i xs t) text (record { around_it = cut; below = b; above = a }))
+module _ {P : Type 0} (f : P → Opens) where
+  pub stands : (slice ps : List P) (i : ℕ) (xs : Opens) (k l : Name) → slice ≡ ps → k ≡ l → spread f slice ≡ spread f (take i slice) ++ (xs ++ spread f (drop (i + 1) slice)) → AllBelow k (spread f (take i slice))
+      → IsAbsent k (spread f (drop (i + 1) slice)) → Stands f ps i xs l
+  stands slice ps i xs k l same text cut b a =
+      subst (λ p. Stands f p i xs l) same (subst (λ t. Stands f slice i xs t) text (record { around_it = cut; below = b; above = a }))
 
-pub put_set : (ps : List Piece) (i : ℕ) (xs changed new : Opens) (c : Name × Comm) → Stands ps i xs c.0 → changed ≡ put xs c → new ≡ flat (take i ps) ++ (changed ++ flat (drop (i + 1) ps)) → new ≡ put (flat ps) c
-put_set ps i xs changed new c s is made =
-    made ∙ ap (λ l. flat (take i ps) ++ (l ++ flat (drop (i + 1) ps))) is ∙ put_piece (flat ps) (flat (take i ps)) xs (flat (drop (i + 1) ps)) c s.around_it s.below s.above
+  pub put_set : (ps : List P) (i : ℕ) (xs changed new : Opens) (c : Name × Comm) → Stands f ps i xs c.0 → changed ≡ put xs c → new ≡ spread f (take i ps) ++ (changed ++ spread f (drop (i + 1) ps)) → new ≡ put (spread f ps) c
+  put_set ps i xs changed new c s is made =
+      made ∙ ap (λ l. spread f (take i ps) ++ (l ++ spread f (drop (i + 1) ps))) is ∙ put_piece (spread f ps) (spread f (take i ps)) xs (spread f (drop (i + 1) ps)) c s.around_it s.below s.above
 
-pub out_set : (ps : List Piece) (i : ℕ) (xs changed new : Opens) (k : Name) → IsInOrder (flat ps) → Stands ps i xs k → changed ≡ without xs k → new ≡ flat (take i ps) ++ (changed ++ flat (drop (i + 1) ps)) → new ≡ without (flat ps) k
-out_set ps i xs changed new k o s is made =
-    made ∙ ap (λ l. flat (take i ps) ++ (l ++ flat (drop (i + 1) ps))) is ∙ without_piece (flat ps) (flat (take i ps)) xs (flat (drop (i + 1) ps)) k s.around_it o s.below s.above
+  pub out_set : (ps : List P) (i : ℕ) (xs changed new : Opens) (k : Name) → IsInOrder (spread f ps) → Stands f ps i xs k → changed ≡ without xs k → new ≡ spread f (take i ps) ++ (changed ++ spread f (drop (i + 1) ps))
+      → new ≡ without (spread f ps) k
+  out_set ps i xs changed new k o s is made =
+      made ∙ ap (λ l. spread f (take i ps) ++ (l ++ spread f (drop (i + 1) ps))) is ∙ without_piece (spread f ps) (spread f (take i ps)) xs (spread f (drop (i + 1) ps)) k s.around_it o s.below s.above
 
-pub at_here : (ps : List Piece) (i : ℕ) (xs : Opens) (k : Name) → IsInOrder (flat ps) → Stands ps i xs k → at xs k ≡ at (flat ps) k
-at_here ps i xs k o s = at_piece (flat ps) (flat (take i ps)) xs (flat (drop (i + 1) ps)) k s.around_it o s.below s.above
+  pub at_here : (ps : List P) (i : ℕ) (xs : Opens) (k : Name) → IsInOrder (spread f ps) → Stands f ps i xs k → at xs k ≡ at (spread f ps) k
+  at_here ps i xs k o s = at_piece (spread f ps) (spread f (take i ps)) xs (spread f (drop (i + 1) ps)) k s.around_it o s.below s.above
 
 -- the index as it is counted here and there
 pub found_out : (xs : Opens) (j : ℕ) (k : Name) (left : Opens) → (j < length xs) × AllBelow k (take j xs) × IsFound k (drop j xs) → left ≡ take j xs ++ drop (j + 1) xs → left ≡ without xs k

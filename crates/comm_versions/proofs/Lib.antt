@@ -3,9 +3,11 @@ pub mod Legal
 pub mod Pending
 pub mod Seats
 pub mod Exchanging
+pub mod Spread
 pub mod Flat
 pub mod Ids
 pub mod Around
+pub mod Parts
 pub mod Listed
 pub mod Relisting
 pub mod Crossing

@@ -26,21 +26,45 @@ IsInOrder es = IsStrictlySortedBy id_cmp (keys_of es)
 abbrev pub put : Opens → Name × Comm → Opens
 put es c = insert_entry (slice_cmp nat_cmp) es c.0 c.1
 
--- ---- pieces
+-- ---- pieces, and blocks of them
+
+-- the comms of each of these, one after the other
+abbrev pub spread : {P : Type 0} → (P → Opens) → List P → Opens
+spread f [] = []
+spread f (p ∷ ps) = f p ++ spread f ps
+
+-- each of these has a comm
+abbrev pub AllHave : {P : Type 0} → (P → Opens) → List P → Type 0
+AllHave f [] = Unit {0}
+AllHave f (p ∷ ps) = (0 < length (f p)) × AllHave f ps
 
 -- some comms that follow one another
 abbrev pub Piece : Type 0
 Piece = Arc (Vec (Name × Comm) Global) Global
 
--- the comms of the pieces, one piece after the other
-abbrev pub flat : List Piece → Opens
-flat [] = []
-flat (p ∷ ps) = (arc_value p).items ++ flat ps
+abbrev pub of_piece : Piece → Opens
+of_piece p = (arc_value p).items
 
--- each piece has a comm
+-- the comms of the pieces
+abbrev pub flat : List Piece → Opens
+flat ps = spread of_piece ps
+
 abbrev pub AllFilled : List Piece → Type 0
-AllFilled [] = Unit {0}
-AllFilled (p ∷ ps) = (0 < length (arc_value p).items) × AllFilled ps
+AllFilled ps = AllHave of_piece ps
+
+-- some comms that follow one another, in pieces
+abbrev pub Part : Type 0
+Part = Arc Opens Global
+
+abbrev pub of_part : Part → Opens
+of_part b = arc_value b
+
+-- the comms of the blocks
+abbrev pub whole : List Part → Opens
+whole bs = spread of_part bs
+
+abbrev pub AllSome : List Part → Type 0
+AllSome bs = AllHave of_part bs
 
 -- ---- where an id stands
 

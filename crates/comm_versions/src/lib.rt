@@ -9,6 +9,8 @@
 #![tactic(auto)]
 
 mod adding;
+mod block;
+mod blocks;
 mod change;
 mod front;
 mod history;

@@ -1,36 +1,55 @@
-//! Comms in pieces of a bounded length. A change copies the pointers to the pieces, and those to the comms of the one piece that it changes.
+//! Comms in pieces of a bounded length.
 ghost use Rattle.std.specs.Prelude.{◌≡◌, ◌+◌, ◌<◌, ◌≤◌, ◌++◌, ◌∷◌, [], IfOk, OnOk, length, take, drop};
 ghost use Rattle.comm_core.specs.Machine.{without};
-ghost use Rattle.comm_core.specs.Row.{with_row, without_all};
 ghost use Rattle.comm_versions.specs.Rows.{AllFilled, IsInOrder, flat, put};
 
 use crate::search::{Piece, comms_around, place_of};
-use comm_core::{OpenComm, Row};
+use comm_core::OpenComm;
 use comm_value::Text;
 use std::alloc::{AllocError, Global};
 use std::sync::Arc;
 
-// So many comms may stand in a piece, however few the pieces are.
-const LONGEST: usize = 32;
+// So many comms may stand in a piece; a longer one is cut in two.
+const LONGEST: usize = 16;
 
-// So many comms may stand in one of so many pieces; a longer one is cut in two. A change copies a pointer to each piece and the comms of one: of many
-// comms, some root of their number each.
-fn longest(pieces: usize) -> usize
-    ensures { 2 ≤ result }
+// Adds these pieces, shared.
+fn share_all(pieces: &[Piece], all: &mut Vec<Piece>) -> Result<(), AllocError>
+    requires given { AllFilled pieces.now }
+    requires kept { AllFilled all.old.items }
+    ensures flat { OnOk result (flat all.new.items ≡ flat all.old.items ++ flat pieces.now) }
+    ensures filled { OnOk result (AllFilled all.new.items) }
 {
-    LONGEST.max(pieces / 2)
+    for piece in pieces {
+        all.push(Arc::try_clone(piece)?)?;
+    }
+    Ok(())
 }
 
-// The same pieces, shared.
-fn shared(alloc: Global, pieces: &[Piece]) -> Result<Vec<Piece>, AllocError>
+/// The same pieces, shared.
+pub fn shared(alloc: Global, pieces: &[Piece]) -> Result<Vec<Piece>, AllocError>
     requires { AllFilled pieces.now }
     ensures flat { IfOk result (λ all. flat all.items ≡ flat pieces.now) }
     ensures filled { IfOk result (λ all. AllFilled all.items) }
 {
     let mut all = Vec::with_capacity(alloc, pieces.len() + 1)?;
-    for piece in pieces {
-        all.push(Arc::try_clone(piece)?)?;
-    }
+    share_all(pieces, &mut all)?;
+    Ok(all)
+}
+
+/// The pieces of both, shared.
+pub fn pieces_of_both(
+    alloc: Global,
+    first: &[Piece],
+    second: &[Piece],
+) -> Result<Vec<Piece>, AllocError>
+    requires first { AllFilled first.now }
+    requires second { AllFilled second.now }
+    ensures flat { IfOk result (λ all. flat all.items ≡ flat first.now ++ flat second.now) }
+    ensures filled { IfOk result (λ all. AllFilled all.items) }
+{
+    let mut all = Vec::new(alloc);
+    share_all(first, &mut all)?;
+    share_all(second, &mut all)?;
     Ok(all)
 }
 
@@ -109,8 +128,7 @@ fn set_piece(
     if head.is_empty() {
         return Ok(all);
     }
-    let most = longest(all.len());
-    if head.len() > most {
+    if head.len() > LONGEST {
         let tail = head.split_off(head.len() / 2)?;
         all.insert(place, Arc::new(alloc, tail)?)?;
     }
@@ -131,7 +149,7 @@ fn joined(alloc: Global, pieces: Vec<Piece>, place: usize) -> Result<Vec<Piece>,
     }
     let first = all[place].as_slice();
     let second = all[place + 1].as_slice();
-    let short = longest(all.len()) / 2;
+    let short = LONGEST / 2;
     if short < first.len() + second.len() {
         return Ok(pieces);
     }
@@ -143,8 +161,8 @@ fn joined(alloc: Global, pieces: Vec<Piece>, place: usize) -> Result<Vec<Piece>,
     set_piece(alloc, rest, place, both)
 }
 
-// The comm in its place, or in place of the one of its id.
-fn put_in(alloc: Global, pieces: Vec<Piece>, comm: &OpenComm) -> Result<Vec<Piece>, AllocError>
+/// The comm in its place, or in place of the one of its id.
+pub fn put_in(alloc: Global, pieces: Vec<Piece>, comm: &OpenComm) -> Result<Vec<Piece>, AllocError>
     requires filled { AllFilled pieces.items }
     requires ordered { IsInOrder (flat pieces.items) }
     ensures put { IfOk result (λ all. flat all.items ≡ put (flat pieces.items) comm.now) }
@@ -162,8 +180,8 @@ fn put_in(alloc: Global, pieces: Vec<Piece>, comm: &OpenComm) -> Result<Vec<Piec
     set_piece(alloc, all, place, changed)
 }
 
-// The pieces without the comm of this id.
-fn take_out(alloc: Global, pieces: Vec<Piece>, id: &Text) -> Result<Vec<Piece>, AllocError>
+/// The pieces without the comm of this id.
+pub fn take_out(alloc: Global, pieces: Vec<Piece>, id: &Text) -> Result<Vec<Piece>, AllocError>
     requires filled { AllFilled pieces.items }
     requires ordered { IsInOrder (flat pieces.items) }
     ensures out { IfOk result (λ all. flat all.items ≡ without (flat pieces.items) id.now) }
@@ -181,34 +199,5 @@ fn take_out(alloc: Global, pieces: Vec<Piece>, id: &Text) -> Result<Vec<Piece>, 
             joined(alloc, all, place.saturating_sub(1))
         }
         Err(_) => Ok(pieces),
-    }
-}
-
-// The pieces without the comms of these ids.
-fn take_all(alloc: Global, pieces: Vec<Piece>, ids: &[Text]) -> Result<Vec<Piece>, AllocError>
-    requires filled { AllFilled pieces.items }
-    requires ordered { IsInOrder (flat pieces.items) }
-    ensures out { IfOk result (λ all. flat all.items ≡ without_all ids.now (flat pieces.items)) }
-    ensures filled { IfOk result (λ all. AllFilled all.items) }
-{
-    let mut all = pieces;
-    for id in ids {
-        all = take_out(alloc, all, id)?;
-    }
-    Ok(all)
-}
-
-/// The pieces after this row.
-pub fn after_row(alloc: Global, pieces: &[Piece], row: &Row) -> Result<Vec<Piece>, AllocError>
-    requires filled { AllFilled pieces.now }
-    requires ordered { IsInOrder (flat pieces.now) }
-    ensures flat { IfOk result (λ all. flat all.items ≡ with_row row.now (flat pieces.now)) }
-    ensures filled { IfOk result (λ all. AllFilled all.items) }
-{
-    match row {
-        Row::Same => shared(alloc, pieces),
-        Row::Put(comm) => put_in(alloc, shared(alloc, pieces)?, comm),
-        Row::Out(ids) => take_all(alloc, shared(alloc, pieces)?, ids.as_slice()),
-        Row::Clear => Ok(Vec::new(alloc)),
     }
 }

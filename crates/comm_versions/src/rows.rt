@@ -4,10 +4,9 @@ ghost use Rattle.comm_core.specs.Machine.{at};
 ghost use Rattle.comm_core.specs.Reads.{info_of, passes, state_at, state_in};
 ghost use Rattle.comm_core.specs.Row.{with_row};
 ghost use Rattle.comm_versions.specs.Listing.{ListAlike};
-ghost use Rattle.comm_versions.specs.Rows.{flat};
+ghost use Rattle.comm_versions.specs.Rows.{whole};
 
-use crate::pieces::after_row;
-use crate::search::{Piece, comms_around, place_of};
+use crate::blocks::{Part, after_row, block_around};
 use comm_core::{OpenComm, Row, StateAnswer};
 use comm_messages::{Info, Infos};
 use comm_value::{Dict, Text};
@@ -18,21 +17,21 @@ use std::marker::Model;
 /// before it what stayed.
 #[derive(Drop)]
 pub struct Rows {
-    pieces: Vec<Piece>,
+    blocks: Vec<Part>,
 }
 
 impl Model for Rows {
     ghost use Rattle.comm_core.specs.Tables.{Opens};
     ghost use Rattle.comm_versions.specs.Code.{opens_code};
-    ghost use Rattle.comm_versions.specs.Rows.{AllFilled, IsInOrder, flat};
+    ghost use Rattle.comm_versions.specs.Rows.{AllSome, IsInOrder, whole};
 
     ghost Value = { Opens };
 
     ghost coded = { opens_code };
 
-    ghost view = { λ r. flat r.pieces.items };
+    ghost view = { λ r. whole r.blocks.items };
 
-    ghost invariant = { λ r. AllFilled r.pieces.items × IsInOrder (flat r.pieces.items) };
+    ghost invariant = { λ r. AllSome r.blocks.items × IsInOrder (whole r.blocks.items) };
 }
 
 // What a read of this state gives.
@@ -45,40 +44,12 @@ fn answer(state: &Option<Dict>) -> Result<StateAnswer, AllocError>
     }
 }
 
-// Whether comms of this target are asked for.
-fn is_asked(asked: Option<&Text>, target: &Text) -> bool
-    ensures { result ≡ passes (option_map (λ t. t.now) asked.entry) target.now }
+// Adds what is told of those comms of the blocks that are asked for.
+fn list_blocks(blocks: &[Part], asked: Option<&Text>, all: &mut Vec<Info>) -> Result<(), AllocError>
+    ensures { OnOk result (all.new.items ≡ all.old.items ++ map info_of (filter (λ e. passes (option_map (λ t. t.now) asked.entry) e.1.target) (whole blocks.now))) }
 {
-    match asked {
-        Some(name) => name == target,
-        None => true,
-    }
-}
-
-// Adds those of these comms that are asked for. Their texts are shared.
-fn list_all(comms: &[OpenComm], asked: Option<&Text>, all: &mut Vec<Info>) -> Result<(), AllocError>
-    ensures { OnOk result (all.new.items ≡ all.old.items ++ map info_of (filter (λ e. passes (option_map (λ t. t.now) asked.entry) e.1.target) comms.now)) }
-{
-    for open in comms {
-        let target = open.target();
-        if is_asked(asked, target) {
-            let id = open.id().copy()?;
-            let target = target.copy()?;
-            all.push(Info { id, target })?;
-        }
-    }
-    Ok(())
-}
-
-fn list_pieces(
-    pieces: &[Piece],
-    asked: Option<&Text>,
-    all: &mut Vec<Info>,
-) -> Result<(), AllocError>
-    ensures { OnOk result (all.new.items ≡ all.old.items ++ map info_of (filter (λ e. passes (option_map (λ t. t.now) asked.entry) e.1.target) (flat pieces.now))) }
-{
-    for piece in pieces {
-        list_all(piece.as_slice(), asked, all)?;
+    for block in blocks {
+        block.list(asked, all)?;
     }
     Ok(())
 }
@@ -88,7 +59,7 @@ impl Rows {
         ensures { result ≡ [] }
     {
         Rows {
-            pieces: Vec::new(alloc),
+            blocks: Vec::new(alloc),
         }
     }
 
@@ -96,22 +67,20 @@ impl Rows {
     pub fn with(&self, alloc: Global, row: &Row) -> Result<Rows, AllocError>
         ensures { IfOk result (λ r. r ≡ with_row row.now self.now) }
     {
-        let pieces = after_row(alloc, self.pieces.as_slice(), row)?;
-        Ok(Rows { pieces })
+        let blocks = after_row(alloc, self.blocks.as_slice(), row)?;
+        Ok(Rows { blocks })
     }
 
     /// The comm of this id.
     fn get(&self, id: &Text) -> Option<&OpenComm>
         ensures { option_map (λ c. c.now.1) result ≡ at self.now id.now }
     {
-        if self.pieces.is_empty() {
+        if self.blocks.is_empty() {
             return None;
         }
-        let (_place, comms) = comms_around(self.pieces.as_slice(), id);
-        match place_of(comms, id) {
-            Ok(i) => Some(&comms[i]),
-            Err(_) => None,
-        }
+        let blocks = self.blocks.as_slice();
+        let place = block_around(blocks, id);
+        blocks[place].get(id)
     }
 
     // Whether a comm of this id and target is among them.
@@ -129,7 +98,7 @@ impl Rows {
         ensures { result ≡ false → ListAlike self.now (with_row row.now self.now) }
     {
         // (for the order of the comms, in which one that is put replaces the one of its id)
-        let _ = &self.pieces;
+        let _ = &self.blocks;
         match row {
             Row::Same => false,
             Row::Put(comm) => !self.has(comm.id(), comm.target()),
@@ -152,7 +121,7 @@ impl Rows {
         ensures { IfOk result (λ v. v ≡ map info_of (filter (λ e. passes (option_map (λ t. t.now) asked.entry) e.1.target) self.now)) }
     {
         let mut all = Vec::new(alloc);
-        list_pieces(self.pieces.as_slice(), asked, &mut all)?;
+        list_blocks(self.blocks.as_slice(), asked, &mut all)?;
         Infos::new(alloc, all)
     }
 }

@@ -1,28 +1,19 @@
-use Rattle.std.proofs.Common.{Some, refl, sym, ap, ◌∙◌}
-use Rattle.comm_core.specs.Machine.{Name, at}
+use Rattle.std.proofs.Common.{refl, ap, ◌∙◌}
+use Rattle.comm_core.specs.Machine.{at}
 use Rattle.comm_core.specs.Tables.{Opens}
-use Rattle.comm_core.specs.declared.comm.Comm.{Comm}
-use Rattle.comm_versions.proofs.Ids.{at_found, at_absent}
+use Rattle.comm_versions.specs.Rows.{of_part}
 use Rattle.comm_versions.proofs.Around.{at_here, stands}
+use Rattle.comm_versions.proofs.Parts.{around_block}
 use Rattle.comm_versions.proofs.rows.Rows.get.Goals as goal
 
-pub returns-in-Ok : goal.returns-in-Ok
-returns-in-Ok c =
-    let ps = c.self.inside.pieces.items in
+pub returns : goal.returns
+returns c =
+    let bs = c.self.inside.blocks.items in
+    let slice = c.as_slice-blocks.result.now in
+    let i = c.block_around-place.result in
+    let e = c.block_around-place.ensures in
+    let xs = c.deref.result.now in
     let k = c.args.id.now in
-    let xs = c.comms_around-place.result.1.now in
-    let e = c.comms_around-place.ensures in
-    let s = stands c.as_slice.result.now ps c.comms_around-place.result.0 xs k k c.as_slice.ensures.value refl e.around e.below e.above in
-    let f = c.in-Ok.ensures.found in
-    ap (λ (x : Name × Comm). Some x.1) c.index-comms-i.is ∙ sym (at_found xs c.in-Ok.i k c.index-comms-i.result f.0 f.1 f.2)
-    ∙ at_here ps c.comms_around-place.result.0 xs k c.self.invariant.1 s ∙ ap (λ (es : Opens). at es k) c.self.view_is
-
-pub returns-in-Err : goal.returns-in-Err
-returns-in-Err c =
-    let ps = c.self.inside.pieces.items in
-    let k = c.args.id.now in
-    let xs = c.comms_around-place.result.1.now in
-    let e = c.comms_around-place.ensures in
-    let s = stands c.as_slice.result.now ps c.comms_around-place.result.0 xs k k c.as_slice.ensures.value refl e.around e.below e.above in
-    let a = c.in-Err.ensures.absent in
-    sym (at_absent xs c.in-Err.field-0 k e.ordered a.1 a.2) ∙ at_here ps c.comms_around-place.result.0 xs k c.self.invariant.1 s ∙ ap (λ (es : Opens). at es k) c.self.view_is
+    let cut = around_block slice i c.index-blocks-place.result xs e.within c.index-blocks-place.is c.deref.ensures in
+    let s = stands of_part slice bs i xs k k c.as_slice-blocks.ensures.value refl cut e.below e.above in
+    c.get.ensures ∙ at_here of_part bs i xs k c.self.invariant.1 s ∙ ap (λ (es : Opens). at es k) c.self.view_is

@@ -1,5 +1,5 @@
 use Rattle.comm_versions.proofs.Listed.{piece_listed}
-use Rattle.comm_versions.proofs.rows.list_pieces.Goals as goal
+use Rattle.comm_versions.proofs.block.list_pieces.Goals as goal
 
 pub loop-piece-preserved : goal.loop-piece-preserved
 loop-piece-preserved c =

@@ -1,0 +1,8 @@
+use Rattle.std.proofs.Common.{◌≡◌, ◌++◌, take, map, filter}
+use Rattle.std.specs.Prelude.{option_map}
+use Rattle.comm_core.specs.Reads.{info_of, passes}
+use Rattle.comm_versions.specs.Rows.{whole}
+use Rattle.comm_versions.proofs.rows.list_blocks.Given as goal
+
+abbrev pub invariant-loop-block : goal.invariant-loop-block
+invariant-loop-block l = l.all.items ≡ l.initial.all.items ++ map info_of (filter (λ e. passes (option_map (λ t. t.now) l.fn.asked) e.1.target) (whole (take l.block-index l.blocks)))
