@@ -1,7 +1,7 @@
 -- Comms in pieces.
-use Rattle.std.proofs.Common.{◌≡◌, ℕ, zero, suc, ◌<◌, ◌≤◌, ◌+◌, List, [], ◌∷◌, ◌++◌, length, get_or, take, drop, Global, Vec, refl, sym, ap, ◌∙◌, arith, append_assoc, append-nil, length-append, length-drop, length-take-le, take-append-drop, subst, add-one}
+use Rattle.std.proofs.Common.{◌≡◌, ℕ, zero, suc, ◌<◌, ◌≤◌, ◌+◌, List, [], ◌∷◌, ◌++◌, length, get_or, take, drop, set, Global, Vec, refl, sym, ap, ◌∙◌, arith, append_assoc, append-nil, length-append, length-drop, length-take-le, take-append-drop, subst, add-one}
 use Rattle.std.proofs.Math.Seq.{drop-cons}
-use Rattle.std.proofs.lemmas.List.{take_more}
+use Rattle.std.proofs.lemmas.List.{take_more, take-set, drop-set}
 use Rattle.std.specs.Prelude.{◌==◌, false, vec_len}
 use Rattle.std.specs.Arc.{arc_value}
 use Rattle.comm_core.specs.Machine.{Name}
@@ -178,3 +178,13 @@ both_flat slice ps rest i p q v w xs ys both new same h is deref items is' deref
     flat_cut slice i ∙ ap (λ l. flat (take i slice) ++ l) (first ∙ ap (λ l. xs ++ l) second ∙ sym (append_assoc xs ys (flat (drop (i + 1 + 1) slice)))) in
     made ∙ ap (λ l. flat l ++ (both ++ flat (drop (i + 1) rest))) before ∙ ap (λ l. flat (take i ps) ++ (l ++ flat (drop (i + 1) rest))) joined
     ∙ ap (λ l. flat (take i ps) ++ ((xs ++ ys) ++ flat l)) after ∙ sym (subst (λ l. flat l ≡ flat (take i l) ++ ((xs ++ ys) ++ flat (drop (i + 1 + 1) l))) same whole)
+
+-- ---- a piece that is changed in its place
+
+pub set_flat : (ps : List Piece) (i : ℕ) (q : Piece) → i < length ps → flat (set ps i q) ≡ flat (take i ps) ++ ((arc_value q).items ++ flat (drop (i + 1) ps))
+set_flat ps i q h = flat_cut (set ps i q) i ∙ ap (λ l. flat l ++ flat (drop i (set ps i q))) (take-set ps i q) ∙ ap (λ l. flat (take i ps) ++ flat l) (drop-set ps i q h)
+
+pub filled_set : (ps : List Piece) (i : ℕ) (q : Piece) → 0 < length (arc_value q).items → AllFilled ps → AllFilled (set ps i q)
+filled_set [] i q some f = f
+filled_set (p ∷ ps) zero q some f = (some, f.1)
+filled_set (p ∷ ps) (suc i) q some f = (f.0, filled_set ps i q some f.1)

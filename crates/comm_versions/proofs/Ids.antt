@@ -110,6 +110,28 @@ unfolding IsStrictlySortedBy
 below_front k [] y zs o h = tt
 below_front k (x ∷ xs) y zs o h = (above_all k x.0 y.0 (id_cmp k y.0) refl h (below_middle x.0 xs y zs o.0), below_front k xs y zs o.1 h)
 
+above_one : (k : Name) (y : Name × Comm) (zs : Opens) (o : Ordering) → id_cmp k y.0 ≡ o → (o ≡ Greater → ⊥) → IsBelow y.0 zs → IsBelow k zs
+above_one k y zs Less e h b = below_more k y.0 zs e b
+above_one k y zs Equal e h b = subst (λ n. IsBelow n zs) (sym (exact_bytes k y.0 e)) b
+above_one k y zs Greater e h b = absurd (h refl)
+
+-- an id that isn't above this comm is below those behind it
+pub above_back : (k : Name) (xs : Opens) (y : Name × Comm) (zs : Opens) → IsInOrder (xs ++ y ∷ zs) → (id_cmp k y.0 ≡ Greater → ⊥) → IsBelow k zs
+unfolding IsStrictlySortedBy
+above_back k xs y zs o h = above_one k y zs (id_cmp k y.0) refl h (ordered_right xs (y ∷ zs) o).0
+
+pub below_part : (k : Name) (xs ys : Opens) → AllBelow k (xs ++ ys) → AllBelow k xs
+below_part k [] ys b = tt
+below_part k (x ∷ xs) ys b = (b.0, below_part k xs ys b.1)
+
+pub below_right : (k : Name) (xs ys : Opens) → IsBelow k (xs ++ ys) → IsBelow k ys
+below_right k [] ys b = b
+below_right k (x ∷ xs) ys b = below_right k xs ys b.1
+
+pub absent_of : (k : Name) (es : Opens) → IsBelow k es → IsAbsent k es
+absent_of k [] b = tt
+absent_of k (e ∷ es) b = b.0
+
 -- ---- in one piece
 
 pub put_found : (es : Opens) (i : ℕ) (c : Name × Comm) → i < length es → AllBelow c.0 (take i es) → IsFound c.0 (drop i es) → put es c ≡ take i es ++ c ∷ drop (suc i) es

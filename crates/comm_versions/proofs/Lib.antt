@@ -9,3 +9,4 @@ pub mod Around
 pub mod Listed
 pub mod Relisting
 pub mod Crossing
+pub mod Spots

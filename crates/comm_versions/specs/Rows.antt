@@ -1,5 +1,5 @@
 -- The open comms in pieces; for private clauses.
-use Rattle.std.specs.Prelude.{◌<◌, ◌≡◌, List, [], ◌∷◌, ◌++◌, length, Vec}
+use Rattle.std.specs.Prelude.{ℕ, ◌+◌, ◌<◌, ◌≤◌, ◌≡◌, List, [], ◌∷◌, ◌++◌, length, take, drop, Vec, Result, Ok, Err}
 use Rattle.std.specs.Arc.{arc_value}
 use Rattle.std.specs.Ordering.{nat_cmp}
 use Rattle.std.specs.Cmp.Lexicographic.{slice_cmp}
@@ -13,6 +13,7 @@ use Rattle.std.specs.declared.sync.Arc.{Arc}
 use Rattle.comm_core.specs.Machine.{Name}
 use Rattle.comm_core.specs.Tables.{Opens}
 use Rattle.comm_core.specs.declared.comm.Comm.{Comm}
+use Rattle.comm_versions.specs.declared.spot.Spot.{Spot}
 
 -- by their bytes
 abbrev pub id_cmp : Name → Name → Ordering
@@ -58,3 +59,16 @@ IsFound k (e ∷ es) = id_cmp k e.0 ≡ Equal
 abbrev pub IsAbsent : Name → Opens → Type 0
 IsAbsent k [] = Unit {0}
 IsAbsent k (e ∷ es) = id_cmp k e.0 ≡ Less
+
+-- at this index the id stands, or it would stand before it
+abbrev pub StandsAt : Name → Opens → Result ℕ ℕ → Type 0
+StandsAt k es (Ok i) = (i < length es) × AllBelow k (take i es) × IsFound k (drop i es)
+StandsAt k es (Err i) = (i ≤ length es) × AllBelow k (take i es) × IsAbsent k (drop i es)
+
+-- in this piece the id stands, or would
+pub record IsSpot (ps : List Piece) (k : Name) (s : Spot) : Type 0 where
+  pub one : Piece
+  pub here : drop s.piece ps ≡ one ∷ drop (s.piece + 1) ps
+  pub below : AllBelow k (flat (take s.piece ps))
+  pub above : IsAbsent k (flat (drop (s.piece + 1) ps))
+  pub there : StandsAt k (arc_value one).items s.at

@@ -1,5 +1,5 @@
 //! How entries are added to the history and shown.
-ghost use Rattle.std.specs.Prelude.{◌≡◌, ◌^◌, ◌<◌, ◌+◌, ◌++◌, ◌∷◌, [], false, length, drop, IfOk};
+ghost use Rattle.std.specs.Prelude.{◌≡◌, ◌^◌, ◌<◌, ◌+◌, ◌++◌, ◌∷◌, [], false, length, drop, IfOk, OnErr, OnOk};
 ghost use Rattle.std.specs.Arc.{arc_value};
 ghost use Rattle.comm_core.specs.History.{IsLegal, replay};
 ghost use Rattle.comm_core.specs.Row.{rows, with_row};
@@ -9,11 +9,13 @@ ghost use Rattle.comm_versions.specs.Steps.{IsNext, IsReady, entries};
 
 use crate::change::Change;
 use crate::history::{Head, History};
+use crate::look::Look;
 use crate::published::Published;
 use crate::rows::Rows;
 use crate::showing::{enqueue, show, stop};
+use crate::trail::Trail;
 use crate::version::Shelf;
-use comm_core::{Entry, Row, prefixes_of_legal_histories_are_legal};
+use comm_core::{Entry, prefixes_of_legal_histories_are_legal};
 use std::alloc::{AllocError, Global};
 use std::collections::VecDeque;
 use std::sync::{Arc, Wait};
@@ -26,45 +28,21 @@ pub struct Step {
     pub relists: bool,
 }
 
-/// A step, with its rows once more.
-#[derive(Drop)]
-pub struct Ready {
-    pub step: Step,
-    pub next: Arc<Rows, Global>,
-}
-
-// The rows after one more.
-fn next_rows(
-    alloc: Global,
-    last: &Arc<Rows, Global>,
-    row: &Row,
-) -> Result<Arc<Rows, Global>, AllocError>
-    ensures { IfOk result (λ r. arc_value r ≡ with_row row.now (arc_value last.now)) }
-{
-    match row {
-        Row::Same => Ok(Arc::try_clone(last)?),
-        _ => Ok(Arc::new(alloc, last.with(alloc, row)?)?),
-    }
-}
-
 /// Makes the rows after a change.
-pub fn prepare(alloc: Global, last: &Arc<Rows, Global>, change: Change) -> Result<Ready, AllocError>
-    ensures entry { IfOk result (λ r. arc_value r.step.entry ≡ arc_value change.entry) }
-    ensures rows { IfOk result (λ r. arc_value r.step.root ≡ with_row change.row (arc_value last.now)) }
-    ensures next { IfOk result (λ r. arc_value r.next ≡ with_row change.row (arc_value last.now)) }
-    ensures lists { IfOk result (λ r. r.step.relists ≡ false → ListAlike (arc_value last.now) (with_row change.row (arc_value last.now))) }
+pub fn prepare(alloc: Global, trail: &mut Trail, change: Change) -> Result<Step, AllocError>
+    ensures entry { IfOk result (λ s. arc_value s.entry ≡ arc_value change.entry) }
+    ensures rows { IfOk result (λ s. arc_value s.root ≡ with_row change.row trail.old) }
+    ensures lists { IfOk result (λ s. s.relists ≡ false → ListAlike trail.old (with_row change.row trail.old)) }
+    ensures next { OnOk result (trail.new ≡ with_row change.row trail.old) }
+    ensures err { OnErr result (trail.new ≡ trail.old) }
 {
     let Change { entry, row } = change;
-    let root = next_rows(alloc, last, &row)?;
-    let next = Arc::try_clone(&root)?;
-    let relists = last.relisted_by(&row);
-    Ok(Ready {
-        step: Step {
-            entry,
-            root,
-            relists,
-        },
-        next,
+    let Look { spot, relists } = trail.last().look(&row);
+    let root = trail.follow(alloc, row, spot)?;
+    Ok(Step {
+        entry,
+        root,
+        relists,
     })
 }
 

@@ -4,14 +4,16 @@
 //! [`VersionReader`] takes no lock, and each of its reads is at a front, a beginning of the history, that begins with all that the reader had
 //! seen. A [`Stamp`] tells a reader of a front, from which on it sees no less.
 //!
-//! A version is one shared root, under which the comms stand in the byte order of their ids. The versions before and after a change
-//! share what stayed. A reader keeps the list of comms that it read last, and gives it again until a comm comes or goes.
+//! A version is one shared root, under which the comms stand in the byte order of their ids. The next version is one that nobody looks at any more,
+//! brought up to date, or else a copy that shares what stayed. A reader keeps the list of comms that it read last, and gives it again until a comm comes or goes.
 #![tactic(auto)]
 
 mod adding;
 mod change;
+mod changing;
 mod front;
 mod history;
+mod look;
 mod mark;
 mod opening;
 mod pieces;
@@ -22,7 +24,9 @@ mod rows;
 mod search;
 mod showing;
 mod sight;
+mod spot;
 mod stamp;
+mod trail;
 mod version;
 mod writer;
 

@@ -1,28 +1,25 @@
-//! Comms in pieces of a bounded length. A change copies the pointers to the pieces, and those to the comms of the one piece that it changes.
+//! Comms in pieces of a bounded length.
 ghost use Rattle.std.specs.Prelude.{◌≡◌, ◌+◌, ◌<◌, ◌≤◌, ◌++◌, ◌∷◌, [], IfOk, OnOk, length, take, drop};
-ghost use Rattle.comm_core.specs.Machine.{without};
-ghost use Rattle.comm_core.specs.Row.{with_row, without_all};
-ghost use Rattle.comm_versions.specs.Rows.{AllFilled, IsInOrder, flat, put};
+ghost use Rattle.comm_versions.specs.Rows.{AllFilled, StandsAt, flat, put};
 
-use crate::search::{Piece, comms_around, place_of};
-use comm_core::{OpenComm, Row};
-use comm_value::Text;
+use crate::search::Piece;
+use comm_core::OpenComm;
 use std::alloc::{AllocError, Global};
 use std::sync::Arc;
 
 // So many comms may stand in a piece, however few the pieces are.
 const LONGEST: usize = 32;
 
-// So many comms may stand in one of so many pieces; a longer one is cut in two. A change copies a pointer to each piece and the comms of one: of many
-// comms, some root of their number each.
-fn longest(pieces: usize) -> usize
+/// So many comms may stand in one of so many pieces; a longer one is cut in two. So there are never many more pieces than comms in one, and where a
+/// change has to copy, it copies a pointer to each piece and the comms of one: of many comms, some root of their number each.
+pub fn longest(pieces: usize) -> usize
     ensures { 2 ≤ result }
 {
     LONGEST.max(pieces / 2)
 }
 
-// The same pieces, shared.
-fn shared(alloc: Global, pieces: &[Piece]) -> Result<Vec<Piece>, AllocError>
+/// The same pieces, shared.
+pub fn shared(alloc: Global, pieces: &[Piece]) -> Result<Vec<Piece>, AllocError>
     requires { AllFilled pieces.now }
     ensures flat { IfOk result (λ all. flat all.items ≡ flat pieces.now) }
     ensures filled { IfOk result (λ all. AllFilled all.items) }
@@ -64,24 +61,25 @@ fn spliced(
     Ok(all)
 }
 
-// The comm in its place, or in place of the one of its id.
-fn with_comm(
+/// The comm where it stands, in place of the one of its id, or where it would.
+pub fn with_comm(
     alloc: Global,
     comms: &[OpenComm],
+    at: Result<usize, usize>,
     comm: &OpenComm,
 ) -> Result<Vec<OpenComm>, AllocError>
-    requires { IsInOrder comms.now }
+    requires { StandsAt comm.now.0 comms.now at }
     ensures put { IfOk result (λ all. all.items ≡ put comms.now comm.now) }
     ensures some { IfOk result (λ all. 0 < length all.items) }
 {
-    match place_of(comms, comm.id()) {
+    match at {
         Ok(i) => spliced(alloc, comms, i, i + 1, comm),
         Err(i) => spliced(alloc, comms, i, i, comm),
     }
 }
 
-// The comms without the one at i.
-fn without_at(alloc: Global, comms: &[OpenComm], i: usize) -> Result<Vec<OpenComm>, AllocError>
+/// The comms without the one at i.
+pub fn without_at(alloc: Global, comms: &[OpenComm], i: usize) -> Result<Vec<OpenComm>, AllocError>
     requires { i < length comms.now }
     ensures { IfOk result (λ all. all.items ≡ take i comms.now ++ drop (i + 1) comms.now) }
 {
@@ -91,8 +89,8 @@ fn without_at(alloc: Global, comms: &[OpenComm], i: usize) -> Result<Vec<OpenCom
     Ok(all)
 }
 
-// The pieces with these comms, if any, in place of the piece there.
-fn set_piece(
+/// The pieces with these comms, if any, in place of the piece there.
+pub fn set_piece(
     alloc: Global,
     pieces: Vec<Piece>,
     place: usize,
@@ -118,9 +116,9 @@ fn set_piece(
     Ok(all)
 }
 
-// The pieces, with the one at this place and the next as one where both together are half a piece at most, so that there aren't many more pieces than
-// the comms need, whatever was closed.
-fn joined(alloc: Global, pieces: Vec<Piece>, place: usize) -> Result<Vec<Piece>, AllocError>
+/// The pieces, with the one at this place and the next as one where both together are half a piece at most, so that there aren't many more pieces than
+/// the comms need, whatever was closed.
+pub fn joined(alloc: Global, pieces: Vec<Piece>, place: usize) -> Result<Vec<Piece>, AllocError>
     requires { AllFilled pieces.items }
     ensures flat { IfOk result (λ all. flat all.items ≡ flat pieces.items) }
     ensures filled { IfOk result (λ all. AllFilled all.items) }
@@ -141,74 +139,4 @@ fn joined(alloc: Global, pieces: Vec<Piece>, place: usize) -> Result<Vec<Piece>,
     let mut rest = pieces;
     rest.remove(place);
     set_piece(alloc, rest, place, both)
-}
-
-// The comm in its place, or in place of the one of its id.
-fn put_in(alloc: Global, pieces: Vec<Piece>, comm: &OpenComm) -> Result<Vec<Piece>, AllocError>
-    requires filled { AllFilled pieces.items }
-    requires ordered { IsInOrder (flat pieces.items) }
-    ensures put { IfOk result (λ all. flat all.items ≡ put (flat pieces.items) comm.now) }
-    ensures filled { IfOk result (λ all. AllFilled all.items) }
-{
-    let mut all = pieces;
-    if all.is_empty() {
-        let mut first = Vec::with_capacity(alloc, 1)?;
-        first.push(comm.copy()?)?;
-        all.push(Arc::new(alloc, first)?)?;
-        return Ok(all);
-    }
-    let (place, comms) = comms_around(all.as_slice(), comm.id());
-    let changed = with_comm(alloc, comms, comm)?;
-    set_piece(alloc, all, place, changed)
-}
-
-// The pieces without the comm of this id.
-fn take_out(alloc: Global, pieces: Vec<Piece>, id: &Text) -> Result<Vec<Piece>, AllocError>
-    requires filled { AllFilled pieces.items }
-    requires ordered { IsInOrder (flat pieces.items) }
-    ensures out { IfOk result (λ all. flat all.items ≡ without (flat pieces.items) id.now) }
-    ensures filled { IfOk result (λ all. AllFilled all.items) }
-{
-    if pieces.is_empty() {
-        return Ok(pieces);
-    }
-    let (place, comms) = comms_around(pieces.as_slice(), id);
-    match place_of(comms, id) {
-        Ok(i) => {
-            let left = without_at(alloc, comms, i)?;
-            let all = set_piece(alloc, pieces, place, left)?;
-            let all = joined(alloc, all, place)?;
-            joined(alloc, all, place.saturating_sub(1))
-        }
-        Err(_) => Ok(pieces),
-    }
-}
-
-// The pieces without the comms of these ids.
-fn take_all(alloc: Global, pieces: Vec<Piece>, ids: &[Text]) -> Result<Vec<Piece>, AllocError>
-    requires filled { AllFilled pieces.items }
-    requires ordered { IsInOrder (flat pieces.items) }
-    ensures out { IfOk result (λ all. flat all.items ≡ without_all ids.now (flat pieces.items)) }
-    ensures filled { IfOk result (λ all. AllFilled all.items) }
-{
-    let mut all = pieces;
-    for id in ids {
-        all = take_out(alloc, all, id)?;
-    }
-    Ok(all)
-}
-
-/// The pieces after this row.
-pub fn after_row(alloc: Global, pieces: &[Piece], row: &Row) -> Result<Vec<Piece>, AllocError>
-    requires filled { AllFilled pieces.now }
-    requires ordered { IsInOrder (flat pieces.now) }
-    ensures flat { IfOk result (λ all. flat all.items ≡ with_row row.now (flat pieces.now)) }
-    ensures filled { IfOk result (λ all. AllFilled all.items) }
-{
-    match row {
-        Row::Same => shared(alloc, pieces),
-        Row::Put(comm) => put_in(alloc, shared(alloc, pieces)?, comm),
-        Row::Out(ids) => take_all(alloc, shared(alloc, pieces)?, ids.as_slice()),
-        Row::Clear => Ok(Vec::new(alloc)),
-    }
 }

@@ -1,21 +1,23 @@
 //! The comms that are open after a front, as they are shared with readers.
-ghost use Rattle.std.specs.Prelude.{◌≡◌, ◌++◌, [], false, true, Some, IfOk, OnOk, map, filter, option_map};
+ghost use Rattle.std.specs.Prelude.{◌≡◌, ◌++◌, [], false, IfOk, OnOk, map, filter, option_map};
 ghost use Rattle.comm_core.specs.Machine.{at};
 ghost use Rattle.comm_core.specs.Reads.{info_of, passes, state_at, state_in};
 ghost use Rattle.comm_core.specs.Row.{with_row};
 ghost use Rattle.comm_versions.specs.Listing.{ListAlike};
 ghost use Rattle.comm_versions.specs.Rows.{flat};
 
-use crate::pieces::after_row;
-use crate::search::{Piece, comms_around, place_of};
+use crate::changing::after_row;
+use crate::look::{Look, first_spot, look_at};
+use crate::pieces::shared;
+use crate::search::Piece;
+use crate::spot::{Spot, spot_of};
 use comm_core::{OpenComm, Row, StateAnswer};
 use comm_messages::{Info, Infos};
 use comm_value::{Dict, Text};
 use std::alloc::{AllocError, Global};
 use std::marker::Model;
 
-/// The open comms in the byte order of their ids, each with its target and its state. Rows don't change: those after a change share with those
-/// before it what stayed.
+/// The open comms in the byte order of their ids, each with its target and its state. Rows that are shared don't change: copies share what stays.
 #[derive(Drop)]
 pub struct Rows {
     pieces: Vec<Piece>,
@@ -92,11 +94,20 @@ impl Rows {
         }
     }
 
-    /// The comms after this row.
-    pub fn with(&self, alloc: Global, row: &Row) -> Result<Rows, AllocError>
-        ensures { IfOk result (λ r. r ≡ with_row row.now self.now) }
+    /// The comms after this row. What nobody else has is changed in its place. The hint tells where, if it holds.
+    pub fn after(self, alloc: Global, row: &Row, hint: Option<Spot>) -> Result<Rows, AllocError>
+        ensures { IfOk result (λ r. r ≡ with_row row.now self) }
     {
-        let pieces = after_row(alloc, self.pieces.as_slice(), row)?;
+        let Rows { pieces } = self;
+        let pieces = after_row(alloc, pieces, row, hint)?;
+        Ok(Rows { pieces })
+    }
+
+    /// The same comms once more. They are shared.
+    pub fn copy(&self, alloc: Global) -> Result<Rows, AllocError>
+        ensures { IfOk result (λ r. r ≡ self.now) }
+    {
+        let pieces = shared(alloc, self.pieces.as_slice())?;
         Ok(Rows { pieces })
     }
 
@@ -104,36 +115,27 @@ impl Rows {
     fn get(&self, id: &Text) -> Option<&OpenComm>
         ensures { option_map (λ c. c.now.1) result ≡ at self.now id.now }
     {
-        if self.pieces.is_empty() {
-            return None;
-        }
-        let (_place, comms) = comms_around(self.pieces.as_slice(), id);
-        match place_of(comms, id) {
-            Ok(i) => Some(&comms[i]),
+        let spot = spot_of(self.pieces.as_slice(), id, None)?;
+        match spot.at {
+            Ok(i) => Some(&self.pieces[spot.piece][i]),
             Err(_) => None,
         }
     }
 
-    // Whether a comm of this id and target is among them.
-    fn has(&self, id: &Text, target: &Text) -> bool
-        ensures { result ≡ true → option_map (λ c. c.target) (at self.now id.now) ≡ Some target.now }
-    {
-        match self.get(id) {
-            Some(open) => open.target() == target,
-            None => false,
-        }
-    }
-
-    /// Whether other comms may be listed after this row.
-    pub fn relisted_by(&self, row: &Row) -> bool
-        ensures { result ≡ false → ListAlike self.now (with_row row.now self.now) }
+    /// Where this row changes them, and whether other comms may be listed after it.
+    pub fn look(&self, row: &Row) -> Look
+        ensures { result.relists ≡ false → ListAlike self.now (with_row row.now self.now) }
     {
         // (for the order of the comms, in which one that is put replaces the one of its id)
-        let _ = &self.pieces;
+        let pieces = self.pieces.as_slice();
         match row {
-            Row::Same => false,
-            Row::Put(comm) => !self.has(comm.id(), comm.target()),
-            _ => true,
+            Row::Same => Look::nowhere(false),
+            Row::Put(comm) => look_at(pieces, comm),
+            Row::Out(ids) => Look {
+                spot: first_spot(pieces, ids.as_slice()),
+                relists: true,
+            },
+            Row::Clear => Look::nowhere(true),
         }
     }
 

@@ -1,5 +1,5 @@
 //! Where an id stands among comms in order.
-ghost use Rattle.std.specs.Prelude.{◌≡◌, ◌<◌, ◌≤◌, ◌+◌, ◌++◌, IfOk, IfErr, length, take, drop};
+ghost use Rattle.std.specs.Prelude.{◌≡◌, ◌<◌, ◌≤◌, ◌+◌, IfOk, IfErr, length, take, drop};
 ghost use Rattle.comm_versions.specs.Rows.{AllBelow, AllFilled, IsAbsent, IsFound, IsInOrder, flat};
 
 use comm_core::OpenComm;
@@ -32,8 +32,8 @@ pub fn place_of(comms: &[OpenComm], id: &Text) -> Result<usize, usize>
     Err(low)
 }
 
-// The piece in which the comm of this id stands, or would, by a search over the first ids.
-fn piece_of(pieces: &[Piece], id: &Text) -> usize
+/// The piece in which the comm of this id stands, or would, by a search over the first ids.
+pub fn piece_of(pieces: &[Piece], id: &Text) -> usize
     requires some { 0 < length pieces.now }
     requires filled { AllFilled pieces.now }
     requires ordered { IsInOrder (flat pieces.now) }
@@ -54,19 +54,4 @@ fn piece_of(pieces: &[Piece], id: &Text) -> usize
         }
     }
     low
-}
-
-/// The comms of the piece in which the comm of this id stands, or would, and that piece's place.
-pub fn comms_around<'a>(pieces: &'a [Piece], id: &Text) -> (usize, &'a [OpenComm])
-    requires some { 0 < length pieces.now }
-    requires filled { AllFilled pieces.now }
-    requires ordered { IsInOrder (flat pieces.now) }
-    ensures within { result.0 < length pieces.now }
-    ensures around { flat pieces.now ≡ flat (take result.0 pieces.now) ++ (result.1.now ++ flat (drop (result.0 + 1) pieces.now)) }
-    ensures ordered { IsInOrder result.1.now }
-    ensures below { AllBelow id.now (flat (take result.0 pieces.now)) }
-    ensures above { IsAbsent id.now (flat (drop (result.0 + 1) pieces.now)) }
-{
-    let place = piece_of(pieces, id);
-    (place, pieces[place].as_slice())
 }

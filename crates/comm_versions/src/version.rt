@@ -83,6 +83,11 @@ impl Absorb<Version> for Version {
         *self = op.again()?;
         Ok(())
     }
+
+    fn absorb_second(&mut self, op: Version, _other: &Version) -> Result<(), Version> {
+        *self = op;
+        Ok(())
+    }
 }
 
 /// Each seat has seen a beginning of the front that is shown.

@@ -12,6 +12,7 @@ use crate::history::{Head, History};
 use crate::published::Published;
 use crate::rows::Rows;
 use crate::stamp::Stamp;
+use crate::trail::Trail;
 use crate::version::Shelf;
 use std::alloc::{AllocError, Global};
 use std::collections::VecDeque;
@@ -25,7 +26,7 @@ pub struct VersionWriter<J: History> {
     front: Published<J>,
     pending: VecDeque<Step>,
     // The rows after all that is to follow.
-    next: Arc<Rows, Global>,
+    next: Trail,
     alloc: Global,
     shelf: Shelf,
 }
@@ -45,7 +46,7 @@ impl<J: History> Model for VersionWriter<J> {
 
     ghost view = { λ w. record { front = w.front; pending = entries w.pending.items } };
 
-    ghost invariant = { λ w. (w.shelf.desk.shown.value.mark ≡ known (origin_of J.book J.limits) w.front) × (drop w.shelf.behind w.shelf.log.items ≡ []) × IsLegal J.limits.clients J.limits.comms (w.front ++ entries w.pending.items) × IsReady J.limits.comms w.front w.pending.items × (arc_value w.next ≡ rows (replay J.limits.comms (w.front ++ entries w.pending.items))) };
+    ghost invariant = { λ w. (w.shelf.desk.shown.value.mark ≡ known (origin_of J.book J.limits) w.front) × (drop w.shelf.behind w.shelf.log.items ≡ []) × IsLegal J.limits.clients J.limits.comms (w.front ++ entries w.pending.items) × IsReady J.limits.comms w.front w.pending.items × (w.next ≡ rows (replay J.limits.comms (w.front ++ entries w.pending.items))) };
 }
 
 impl<J: History> VersionWriter<J> {
@@ -67,7 +68,7 @@ impl<J: History> VersionWriter<J> {
             head,
             front: Published::new(front),
             pending: VecDeque::new(alloc),
-            next,
+            next: Trail::of(next),
             alloc,
             shelf,
         }
@@ -83,9 +84,8 @@ impl<J: History> VersionWriter<J> {
         ensures err { OnErr result (self.new ≡ self.old) }
     {
         self.pending.reserve(1)?;
-        let made = prepare(self.alloc, &self.next, change)?;
-        self.next = made.next;
-        self.pending.push_back_reserved(made.step);
+        let step = prepare(self.alloc, &mut self.next, change)?;
+        self.pending.push_back_reserved(step);
         Ok(())
     }
 

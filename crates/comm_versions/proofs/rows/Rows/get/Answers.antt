@@ -1,28 +1,36 @@
-use Rattle.std.proofs.Common.{Some, refl, sym, ap, ◌∙◌}
+use Rattle.std.proofs.Common.{◌≡◌, Global, Some, Vec, ap, get_or, sym, subst, ◌∙◌}
+use Rattle.std.specs.Prelude.{Err, Ok}
+use Rattle.std.specs.Arc.{arc_value}
 use Rattle.comm_core.specs.Machine.{Name, at}
 use Rattle.comm_core.specs.Tables.{Opens}
 use Rattle.comm_core.specs.declared.comm.Comm.{Comm}
+use Rattle.comm_versions.specs.Rows.{IsSpot, StandsAt, flat}
 use Rattle.comm_versions.proofs.Ids.{at_found, at_absent}
-use Rattle.comm_versions.proofs.Around.{at_here, stands}
+use Rattle.comm_versions.proofs.Around.{at_here}
+use Rattle.comm_versions.proofs.Spots.{spot_one, spot_ordered, spot_stands}
 use Rattle.comm_versions.proofs.rows.Rows.get.Goals as goal
 
 pub returns-in-Ok : goal.returns-in-Ok
 returns-in-Ok c =
     let ps = c.self.inside.pieces.items in
     let k = c.args.id.now in
-    let xs = c.comms_around-place.result.1.now in
-    let e = c.comms_around-place.ensures in
-    let s = stands c.as_slice.result.now ps c.comms_around-place.result.0 xs k k c.as_slice.ensures.value refl e.around e.below e.above in
-    let f = c.in-Ok.ensures.found in
-    ap (λ (x : Name × Comm). Some x.1) c.index-comms-i.is ∙ sym (at_found xs c.in-Ok.i k c.index-comms-i.result f.0 f.1 f.2)
-    ∙ at_here ps c.comms_around-place.result.0 xs k c.self.invariant.1 s ∙ ap (λ (es : Opens). at es k) c.self.view_is
+    let s = c.in_ok-spot.spot in
+    let h : IsSpot ps k s = subst (λ qs. IsSpot qs k s) c.as_slice.ensures.value c.in_ok-spot.ensures.some in
+    let i = c.in-Ok.i in
+    let xs = (arc_value h.one).items in
+    let f : StandsAt k xs (Ok i) = subst (StandsAt k xs) c.in-Ok.is h.there in
+    let one = spot_one ps k s h c.index.result.now c.index.ensures in
+    let here : c.index-in-Ok.result.now ≡ get_or xs i c.index-in-Ok.result.now = c.index-in-Ok.ensures ∙ ap (λ (v : Vec (Name × Comm) Global). get_or v.items i c.index-in-Ok.result.now) (c.deref.ensures ∙ ap arc_value one) in
+    ap (λ (x : Name × Comm). Some x.1) here ∙ sym (at_found xs i k c.index-in-Ok.result.now f.0 f.1 f.2)
+    ∙ at_here ps s.piece xs k c.self.invariant.1 (spot_stands ps k s h) ∙ ap (λ (es : Opens). at es k) c.self.view_is
 
 pub returns-in-Err : goal.returns-in-Err
 returns-in-Err c =
     let ps = c.self.inside.pieces.items in
     let k = c.args.id.now in
-    let xs = c.comms_around-place.result.1.now in
-    let e = c.comms_around-place.ensures in
-    let s = stands c.as_slice.result.now ps c.comms_around-place.result.0 xs k k c.as_slice.ensures.value refl e.around e.below e.above in
-    let a = c.in-Err.ensures.absent in
-    sym (at_absent xs c.in-Err.field-0 k e.ordered a.1 a.2) ∙ at_here ps c.comms_around-place.result.0 xs k c.self.invariant.1 s ∙ ap (λ (es : Opens). at es k) c.self.view_is
+    let s = c.in_ok-spot.spot in
+    let h : IsSpot ps k s = subst (λ qs. IsSpot qs k s) c.as_slice.ensures.value c.in_ok-spot.ensures.some in
+    let i = c.in-Err.field-0 in
+    let xs = (arc_value h.one).items in
+    let a : StandsAt k xs (Err i) = subst (StandsAt k xs) c.in-Err.is h.there in
+    sym (at_absent xs i k (spot_ordered ps k s h c.self.invariant.1) a.1 a.2) ∙ at_here ps s.piece xs k c.self.invariant.1 (spot_stands ps k s h) ∙ ap (λ (es : Opens). at es k) c.self.view_is

@@ -21,20 +21,20 @@ invariant_of-self-2 g c =
     let may : IsLegal clients comms (all ++ e ∷ []) = subst (λ (w : Written). IsLegal clients comms ((w.front ++ w.pending) ++ e ∷ [])) (sym c.self.view_is) c.requires.legal in
     let row : with_row r (rows (replay comms all)) ≡ rows (replay comms (all ++ e ∷ [])) =
     subst (λ (w : Written). with_row r (rows (replay comms (w.front ++ w.pending))) ≡ rows (replay comms ((w.front ++ w.pending) ++ e ∷ []))) (sym c.self.view_is) c.requires.row in
-    let m = c.in_ok-made.made in
-    let same : arc_value m.step.entry ≡ e = c.in_ok-made.ensures.entry in
-    let goes : with_row r (arc_value w.next) ≡ rows (replay comms (all ++ e ∷ [])) = ap (λ (t : Opens). with_row r t) c.self.invariant.4 ∙ row in
+    let m = c.in_ok-step.step in
+    let same : arc_value m.entry ≡ e = c.in_ok-step.ensures.entry in
+    let goes : with_row r w.next ≡ rows (replay comms (all ++ e ∷ [])) = ap (λ (t : Opens). with_row r t) c.self.invariant.4 ∙ row in
     let P = λ (t : Opens) (x : Entry). t ≡ rows (replay comms (all ++ x ∷ [])) in
-    let root : arc_value m.step.root ≡ with_row r (arc_value w.next) = c.in_ok-made.ensures.rows in
-    let next : IsNext comms all m.step =
+    let root : arc_value m.root ≡ with_row r w.next = c.in_ok-step.ensures.rows in
+    let next : IsNext comms all m =
     record {
-      root = subst (P (arc_value m.step.root)) (sym same) (root ∙ goes);
-      lists = λ no. subst (λ (t : Opens). ListAlike t (arc_value m.step.root)) c.self.invariant.4 (subst (λ (t : Opens). ListAlike (arc_value w.next) t) (sym root) (c.in_ok-made.ensures.lists no));
+      root = subst (P (arc_value m.root)) (sym same) (root ∙ goes);
+      lists = λ no. subst (λ (t : Opens). ListAlike t (arc_value m.root)) c.self.invariant.4 (subst (λ (t : Opens). ListAlike w.next t) (sym root) (c.in_ok-step.ensures.lists no));
     } in
     rw (c.push_back_reserved.ensures.items, c.in_ok-reserve.ensures.items) (
       c.self.invariant.0,
       c.self.invariant.1,
-      legal_more clients comms w.front w.pending.items m.step (subst (λ (x : Entry). IsLegal clients comms (all ++ x ∷ [])) (sym same) may),
-      ready_more comms w.front w.pending.items m.step c.self.invariant.3 next,
-      next_more comms w.front w.pending.items m.step (arc_value m.next) (subst (P (arc_value m.next)) (sym same) (c.in_ok-made.ensures.next ∙ goes)),
+      legal_more clients comms w.front w.pending.items m (subst (λ (x : Entry). IsLegal clients comms (all ++ x ∷ [])) (sym same) may),
+      ready_more comms w.front w.pending.items m c.self.invariant.3 next,
+      next_more comms w.front w.pending.items m _ (subst (P _) (sym same) (c.in_ok-step.ensures.next ∙ goes)),
     )

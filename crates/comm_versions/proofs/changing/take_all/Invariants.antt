@@ -1,7 +1,7 @@
 use Rattle.std.proofs.Common.{◌≡◌, drop}
 use Rattle.comm_core.specs.Row.{without_all}
 use Rattle.comm_versions.specs.Rows.{flat, AllFilled, IsInOrder}
-use Rattle.comm_versions.proofs.pieces.take_all.Given as goal
+use Rattle.comm_versions.proofs.changing.take_all.Given as goal
 
 abbrev pub invariant-loop-id : goal.invariant-loop-id
 invariant-loop-id l =

@@ -2,7 +2,7 @@ use Rattle.std.proofs.Common.{sym, subst, ◌∙◌}
 use Rattle.comm_versions.specs.Rows.{IsInOrder, flat}
 use Rattle.comm_versions.proofs.Ids.{without_in_order}
 use Rattle.comm_versions.proofs.Around.{one_out}
-use Rattle.comm_versions.proofs.pieces.take_all.Goals as goal
+use Rattle.comm_versions.proofs.changing.take_all.Goals as goal
 
 pub loop-id-preserved : goal.loop-id-preserved
 loop-id-preserved c =

@@ -1,0 +1,159 @@
+-- Where an id stands among comms in pieces.
+use Rattle.std.proofs.Common.{◌≡◌, ℕ, zero, suc, ◌<◌, ◌≤◌, ◌+◌, ◌-◌, true, List, [], ◌∷◌, ◌++◌, length, get_or, take, drop, set, Global, Vec, Bool, Ordering, Less, Equal, Greater, refl, sym, ap, ◌∙◌, arith, subst, append_assoc, take-append-drop, length-append, length-drop, length-take-le, add-one}
+use Rattle.std.proofs.lemmas.List.{take-set, drop-set}
+use Rattle.std.specs.Prelude.{Result, Ok, Err, IfOk, IfErr}
+use Rattle.std.specs.Arc.{arc_value}
+use Rattle.std.specs.Ordering.{is_eq, is_gt, is_lt, match_ordering}
+use Rattle.std.specs.List.Sorted.{IsStrictlySortedBy}
+use Rattle.comm_core.specs.Machine.{Name, at, without}
+use Rattle.comm_core.specs.Tables.{Opens}
+use Rattle.comm_core.specs.declared.comm.Comm.{Comm}
+use Rattle.comm_versions.specs.declared.spot.Spot.{Spot}
+use Rattle.comm_versions.specs.Rows.{Piece, flat, AllBelow, AllFilled, IsAbsent, IsFound, IsInOrder, IsSpot, StandsAt, id_cmp, put}
+use Rattle.comm_versions.proofs.Flat.{first_is, flat_cut, set_flat}
+use Rattle.comm_versions.proofs.Ids.{IsBelow, above_back, absent_at, absent_of, below_at, below_found, below_front, below_part, below_right, found_at, ordered_piece}
+use Rattle.comm_versions.proofs.Around.{Stands, absent_put, around, found_out, found_put, out_set, put_set}
+
+-- ---- what a spot tells
+
+pub spot_within : (ps : List Piece) (k : Name) (s : Spot) → IsSpot ps k s → s.piece < length ps
+spot_within ps k s h = omega (arith, ap length h.here, length-drop s.piece ps)
+
+pub spot_stands : (ps : List Piece) (k : Name) (s : Spot) (h : IsSpot ps k s) → Stands ps s.piece (arc_value h.one).items k
+spot_stands ps k s h = record { around_it = flat_cut ps s.piece ∙ ap (λ l. flat (take s.piece ps) ++ flat l) h.here; below = h.below; above = h.above }
+
+-- the piece that is looked up there
+pub spot_one : (ps : List Piece) (k : Name) (s : Spot) (h : IsSpot ps k s) (p : Piece) → p ≡ get_or ps s.piece p → p ≡ h.one
+spot_one ps k s h p is = ap (λ l. get_or l 0 p) (sym (first_is ps s.piece p (spot_within ps k s h) is) ∙ h.here)
+
+pub spot_ordered : (ps : List Piece) (k : Name) (s : Spot) (h : IsSpot ps k s) → IsInOrder (flat ps) → IsInOrder (arc_value h.one).items
+spot_ordered ps k s h o = ordered_piece _ _ _ _ (spot_stands ps k s h).around_it o
+
+-- where a search found it
+pub searched_there : (k : Name) (es : Opens) (at : Result ℕ ℕ) → IfOk at (λ i. (i < length es) × AllBelow k (take i es) × IsFound k (drop i es)) → IfErr at (λ i. (i ≤ length es) × AllBelow k (take i es) × IsAbsent k (drop i es)) → StandsAt k es at
+searched_there k es (Ok i) f a = f
+searched_there k es (Err i) f a = a
+
+-- ---- a piece that is changed there
+
+set_cut : (es : Opens) (i : ℕ) (c : Name × Comm) → i < length es → set es i c ≡ take i es ++ c ∷ drop (i + 1) es
+set_cut es i c h = sym (take-append-drop i (set es i c)) ∙ ap (λ l. l ++ drop i (set es i c)) (take-set es i c) ∙ ap (λ l. take i es ++ l) (drop-set es i c h)
+
+-- in place of the comm of its id
+pub set_there : (es : Opens) (at : Result ℕ ℕ) (i : ℕ) (c : Name × Comm) → StandsAt c.0 es at → at ≡ Ok i → set es i c ≡ put es c
+set_there es at i c h is =
+    let f : StandsAt c.0 es (Ok i) = subst (StandsAt c.0 es) is h in found_put es i c.0 c (set es i c) refl f (set_cut es i c f.0)
+
+-- where the id would stand
+pub insert_there : (es new : Opens) (at : Result ℕ ℕ) (i : ℕ) (c : Name × Comm) → StandsAt c.0 es at → at ≡ Err i → new ≡ take i es ++ c ∷ drop i es → new ≡ put es c
+insert_there es new at i c h is made = absent_put es i c.0 c new refl (subst (StandsAt c.0 es) is h) made
+
+pub replaced_there : (es new : Opens) (at : Result ℕ ℕ) (i : ℕ) (c : Name × Comm) → StandsAt c.0 es at → at ≡ Ok i → new ≡ take i es ++ c ∷ drop (i + 1) es → new ≡ put es c
+replaced_there es new at i c h is made = found_put es i c.0 c new refl (subst (StandsAt c.0 es) is h) made
+
+-- the pieces, one of which was changed in its place
+pub put_spot : (ps : List Piece) (c : Name × Comm) (s : Spot) (h : IsSpot ps c.0 s) (p q : Piece) → p ≡ get_or ps s.piece p → (arc_value q).items ≡ put (arc_value p).items c → flat (set ps s.piece q) ≡ put (flat ps) c
+put_spot ps c s h p q is changed =
+    put_set ps s.piece (arc_value h.one).items (arc_value q).items (flat (set ps s.piece q)) c (spot_stands ps c.0 s h)
+    (changed ∙ ap (λ (r : Piece). put (arc_value r).items c) (spot_one ps c.0 s h p is)) (set_flat ps s.piece q (spot_within ps c.0 s h))
+
+pub out_spot : (ps new : List Piece) (k : Name) (n i : ℕ) (h : IsSpot ps k (record { piece = n; at = Ok i })) (left : Opens) → IsInOrder (flat ps) → left ≡ take i (arc_value h.one).items ++ drop (i + 1) (arc_value h.one).items
+    → flat new ≡ flat (take n ps) ++ (left ++ flat (drop (n + 1) ps)) → flat new ≡ without (flat ps) k
+out_spot ps new k n i h left o is made = out_set ps n (arc_value h.one).items left (flat new) k o (spot_stands ps k (record { piece = n; at = Ok i }) h) (found_out (arc_value h.one).items i k left h.there is) made
+
+pub one_left : (es : Opens) (i : ℕ) → length es ≡ 1 → i < length es → [] ≡ take i es ++ drop (i + 1) es
+one_left [] i one h = absurd (omega arith)
+one_left (e ∷ []) zero one h = refl
+one_left (e ∷ []) (suc i) one h = absurd (omega arith)
+one_left (e ∷ d ∷ es) i one h = absurd (omega arith)
+
+pub more_than_one : (n : ℕ) → (n ≡ 1 → ⊥) → 0 < n → 1 < n
+more_than_one zero h some = absurd (omega arith)
+more_than_one (suc zero) h some = absurd (h refl)
+more_than_one (suc (suc n)) h some = omega arith
+
+pub more_left : (es left : Opens) (i : ℕ) → 1 < length es → i < length es → left ≡ take i es ++ drop (i + 1) es → 0 < length left
+more_left es left i more h is = omega (arith, ap length is, length-append (take i es) (drop (i + 1) es), length-take-le i es (omega arith), length-drop (i + 1) es)
+
+pub put_some : (es : Opens) (c : Name × Comm) → 0 < length (put es c)
+put_some [] c = omega arith
+put_some (e ∷ es) c =
+    elim (id_cmp c.0 e.0) as (λ o. 0 < length (match_ordering o (c ∷ e ∷ es) ((e.0, c.1) ∷ es) (e ∷ put es c))) [ Less ↦ omega arith | Equal ↦ omega arith | Greater ↦ omega arith ]
+
+-- ---- where a comm is seen
+
+is_equal : (o : Ordering) → is_eq o ≡ true → o ≡ Equal
+is_equal Less h = absurd (cc h)
+is_equal Equal h = refl
+is_equal Greater h = absurd (cc h)
+
+pub is_less : (o : Ordering) → is_lt o ≡ true → o ≡ Less
+is_less Less h = refl
+is_less Equal h = absurd (cc h)
+is_less Greater h = absurd (cc h)
+
+is_greater : (o : Ordering) → is_gt o ≡ true → o ≡ Greater
+is_greater Less h = absurd (cc h)
+is_greater Equal h = absurd (cc h)
+is_greater Greater h = refl
+
+module _ (k : Name) (ps : List Piece) (n : ℕ) (p : Piece) (v : Vec (Name × Comm) Global) (xs : Opens) (within : n < length ps) (is : p ≡ get_or ps n p) (deref : v ≡ arc_value p) (items : xs ≡ v.items) (order : IsInOrder (flat ps)) where
+  these : xs ≡ (arc_value p).items
+  these = items ∙ ap (λ (w : Vec (Name × Comm) Global). w.items) deref
+
+  ordered : IsInOrder xs
+  ordered = ordered_piece _ _ _ _ (around ps n p v xs within is deref items) order
+
+  -- the comms before one and behind it
+  cut : (i : ℕ) (x : Name × Comm) → i < length xs → x ≡ get_or xs i x → flat ps ≡ (flat (take n ps) ++ take i xs) ++ x ∷ (drop (i + 1) xs ++ flat (drop (n + 1) ps))
+  cut i x h here =
+      let before : Opens = flat (take n ps) in
+      let after : Opens = flat (drop (n + 1) ps) in
+      around ps n p v xs within is deref items ∙ ap (λ l. before ++ (l ++ after)) (sym (take-append-drop i xs) ∙ ap (λ l. take i xs ++ l) (first_is xs i x h here))
+      ∙ ap (λ l. before ++ l) (append_assoc (take i xs) (x ∷ drop (i + 1) xs) after) ∙ sym (append_assoc before (take i xs) (x ∷ (drop (i + 1) xs ++ after)))
+
+  before_one : (i : ℕ) (x : Name × Comm) → i < length xs → x ≡ get_or xs i x → (id_cmp k x.0 ≡ Less → ⊥) → AllBelow k (flat (take n ps))
+  before_one i x h here more = below_part k (flat (take n ps)) (take i xs) (below_front k (flat (take n ps) ++ take i xs) x (drop (i + 1) xs ++ flat (drop (n + 1) ps)) (subst IsInOrder (cut i x h here) order) more)
+
+  behind_one : (i : ℕ) (x : Name × Comm) → i < length xs → x ≡ get_or xs i x → (id_cmp k x.0 ≡ Greater → ⊥) → IsAbsent k (flat (drop (n + 1) ps))
+  behind_one i x h here less =
+      let all = above_back k (flat (take n ps) ++ take i xs) x (drop (i + 1) xs ++ flat (drop (n + 1) ps)) (subst IsInOrder (cut i x h here) order) less in
+      absent_of k (flat (drop (n + 1) ps)) (below_right k (drop (i + 1) xs) (flat (drop (n + 1) ps)) all)
+
+  pub found_spot : (i : ℕ) (x : Name × Comm) → i < length xs → x ≡ get_or xs i x → is_eq (id_cmp k x.0) ≡ true → IsSpot ps k (record { piece = n; at = Ok i })
+  found_spot i x h here found =
+      let same : id_cmp k x.0 ≡ Equal = is_equal (id_cmp k x.0) found in
+      let there : id_cmp k (get_or xs i x).0 ≡ Equal = ap (λ (e : Name × Comm). id_cmp k e.0) (sym here) ∙ same in
+      record {
+        one = p;
+        here = first_is ps n p within is;
+        below = before_one i x h here (λ no. cc (same, no));
+        above = behind_one i x h here (λ no. cc (same, no));
+        there = subst (λ es. StandsAt k es (Ok i)) these (h, below_found k xs i x ordered h there, found_at k xs i x h there);
+      }
+
+  -- behind one, and before another of this piece or of those behind it
+  pub gap_spot : (i : ℕ) (x : Name × Comm) → 0 < i → i ≤ length xs → x ≡ get_or xs (i - 1) x → is_gt (id_cmp k x.0) ≡ true → IsAbsent k (drop i xs) → IsAbsent k (flat (drop (n + 1) ps)) → IsSpot ps k (record { piece = n; at = Err i })
+  gap_spot i x some h here above absent behind =
+      let more : id_cmp k x.0 ≡ Greater = is_greater (id_cmp k x.0) above in
+      let there : id_cmp k (get_or xs (i - 1) x).0 ≡ Greater = ap (λ (e : Name × Comm). id_cmp k e.0) (sym here) ∙ more in
+      let next : suc (i - 1) ≡ i = omega arith in
+      record {
+        one = p;
+        here = first_is ps n p within is;
+        below = before_one (i - 1) x (omega arith) here (λ no. cc (more, no));
+        above = behind;
+        there = subst (λ es. StandsAt k es (Err i)) these (h, subst (λ m. AllBelow k (take m xs)) next (below_at k xs (i - 1) x ordered (omega arith) there), absent);
+      }
+
+  pub gap_before : (i : ℕ) (y : Name × Comm) → i < length xs → y ≡ get_or xs i y → is_lt (id_cmp k y.0) ≡ true → IsAbsent k (drop i xs) × IsAbsent k (flat (drop (n + 1) ps))
+  gap_before i y h here below =
+      let less : id_cmp k y.0 ≡ Less = is_less (id_cmp k y.0) below in
+      let there : id_cmp k (get_or xs i y).0 ≡ Less = ap (λ (e : Name × Comm). id_cmp k e.0) (sym here) ∙ less in
+      (absent_at k xs i y h there, behind_one i y h here (λ no. cc (less, no)))
+
+pub absent_end : (k : Name) (es : Opens) (i : ℕ) → length es ≤ i → IsAbsent k (drop i es)
+absent_end k [] zero h = tt
+absent_end k [] (suc i) h = tt
+absent_end k (e ∷ es) zero h = absurd (omega arith)
+absent_end k (e ∷ es) (suc i) h = absent_end k es i (omega arith)
