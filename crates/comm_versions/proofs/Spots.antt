@@ -1,17 +1,16 @@
 -- Where an id stands among comms in pieces.
-use Rattle.std.proofs.Common.{◌≡◌, ℕ, zero, suc, ◌<◌, ◌≤◌, ◌+◌, ◌-◌, true, List, [], ◌∷◌, ◌++◌, length, get_or, take, drop, set, Global, Vec, Bool, Ordering, Less, Equal, Greater, refl, sym, ap, ◌∙◌, arith, subst, append_assoc, take-append-drop, length-append, length-drop, length-take-le, add-one}
+use Rattle.std.proofs.Common.{◌≡◌, ℕ, zero, suc, ◌<◌, ◌≤◌, ◌+◌, ◌-◌, true, List, [], ◌∷◌, ◌++◌, length, get_or, take, drop, set, Global, Vec, Ordering, Less, Equal, Greater, refl, sym, ap, ◌∙◌, arith, subst, append_assoc, take-append-drop, length-append, length-drop, length-take-le}
 use Rattle.std.proofs.lemmas.List.{take-set, drop-set}
 use Rattle.std.specs.Prelude.{Result, Ok, Err, IfOk, IfErr}
 use Rattle.std.specs.Arc.{arc_value}
 use Rattle.std.specs.Ordering.{is_eq, is_gt, is_lt, match_ordering}
-use Rattle.std.specs.List.Sorted.{IsStrictlySortedBy}
 use Rattle.comm_core.specs.Machine.{Name, at, without}
 use Rattle.comm_core.specs.Tables.{Opens}
 use Rattle.comm_core.specs.declared.comm.Comm.{Comm}
 use Rattle.comm_versions.specs.declared.spot.Spot.{Spot}
-use Rattle.comm_versions.specs.Rows.{Piece, flat, AllBelow, AllFilled, IsAbsent, IsFound, IsInOrder, IsSpot, StandsAt, id_cmp, put}
+use Rattle.comm_versions.specs.Rows.{Piece, flat, AllBelow, IsAbsent, IsFound, IsInOrder, IsSpot, StandsAt, id_cmp, put}
 use Rattle.comm_versions.proofs.Flat.{first_is, flat_cut, set_flat}
-use Rattle.comm_versions.proofs.Ids.{IsBelow, above_back, absent_at, absent_of, below_at, below_found, below_front, below_part, below_right, found_at, ordered_piece}
+use Rattle.comm_versions.proofs.Ids.{above_back, absent_at, absent_of, below_at, below_found, below_front, below_part, below_right, found_at, ordered_piece}
 use Rattle.comm_versions.proofs.Around.{Stands, absent_put, around, found_out, found_put, out_set, put_set}
 
 -- ---- what a spot tells

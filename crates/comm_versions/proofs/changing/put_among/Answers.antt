@@ -1,6 +1,4 @@
-use Rattle.std.proofs.Common.{◌≡◌, ◌∷◌, ◌++◌, take, drop, set, ap, ◌∙◌}
-use Rattle.comm_core.specs.Tables.{Opens}
-use Rattle.comm_versions.specs.Rows.{put}
+use Rattle.std.proofs.Common.{◌∷◌, ◌++◌, take, drop, set, ap, ◌∙◌}
 use Rattle.comm_versions.proofs.Spots.{set_there, insert_there}
 use Rattle.comm_versions.proofs.changing.put_among.Goals as goal
 

@@ -1,4 +1,4 @@
-use Rattle.std.proofs.Common.{◌≡◌, ◌+◌, ◌++◌, [], length, take, drop, set, ap, refl, ◌∙◌, arith}
+use Rattle.std.proofs.Common.{◌+◌, ◌++◌, [], length, take, drop, set, ap, refl, ◌∙◌, arith}
 use Rattle.std.specs.Arc.{arc_value}
 use Rattle.comm_versions.specs.Rows.{Piece}
 use Rattle.comm_versions.proofs.Flat.{filled_rest, filled_set, none_set, set_flat}

@@ -2,7 +2,7 @@ use Rattle.std.proofs.Common.{◌≡◌, Global, Some, Vec, ap, get_or, sym, sub
 use Rattle.std.proofs.lemmas.Slice.Eq.{bytes_eq-Decides}
 use Rattle.std.specs.Prelude.{Ok, option_map}
 use Rattle.std.specs.Arc.{arc_value}
-use Rattle.comm_core.specs.Machine.{Name, at}
+use Rattle.comm_core.specs.Machine.{Name}
 use Rattle.comm_core.specs.declared.comm.Comm.{Comm}
 use Rattle.comm_versions.specs.Rows.{StandsAt}
 use Rattle.comm_versions.proofs.Ids.{at_found}

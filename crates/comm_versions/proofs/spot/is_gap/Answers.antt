@@ -1,7 +1,5 @@
-use Rattle.std.proofs.Common.{◌≡◌, ◌<◌, ◌+◌, ℕ, ap, sym, subst, ◌∙◌, length, pred, suc, arith, add-one}
-use Rattle.std.specs.Prelude.{Err}
+use Rattle.std.proofs.Common.{◌<◌, ap, sym, ◌∙◌, length, arith}
 use Rattle.std.specs.Ordering.{is_gt, is_lt}
-use Rattle.comm_versions.specs.Rows.{IsSpot, IsAbsent}
 use Rattle.comm_versions.proofs.Spots.{absent_end, gap_before, gap_spot}
 use Rattle.comm_versions.proofs.spot.is_gap.Goals as goal
 
@@ -12,7 +10,7 @@ returns-then-i-comms c holds =
     let n = c.args.piece in
     let within : n < length ps = omega arith in
     let next = gap_before k ps n c.index-pieces-piece.result c.deref.result.now c.as_slice-comms.result.now within c.index-pieces-piece.is c.deref.ensures c.as_slice-comms.ensures.value c.requires.ordered
-        c.args.i c.index-comms-i-then-i-comms.result (omega arith) c.index-comms-i-then-i-comms.is (ap is_lt (sym c.order-then-i-comms.ensures) ∙ (sym c.is_lt.ensures ∙ holds)) in
+    c.args.i c.index-comms-i-then-i-comms.result (omega arith) c.index-comms-i-then-i-comms.is (ap is_lt (sym c.order-then-i-comms.ensures) ∙ (sym c.is_lt.ensures ∙ holds)) in
     gap_spot k ps n c.index-pieces-piece.result c.deref.result.now c.as_slice-comms.result.now within c.index-pieces-piece.is c.deref.ensures c.as_slice-comms.ensures.value c.requires.ordered
     c.args.i c.index-comms-i.result (omega arith) (omega arith) c.index-comms-i.is (ap is_gt (sym c.order.ensures) ∙ (sym c.is_gt.ensures ∙ c.if-not-is_gt.false)) next.0 next.1
 

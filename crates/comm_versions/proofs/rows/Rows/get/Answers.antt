@@ -4,7 +4,7 @@ use Rattle.std.specs.Arc.{arc_value}
 use Rattle.comm_core.specs.Machine.{Name, at}
 use Rattle.comm_core.specs.Tables.{Opens}
 use Rattle.comm_core.specs.declared.comm.Comm.{Comm}
-use Rattle.comm_versions.specs.Rows.{IsSpot, StandsAt, flat}
+use Rattle.comm_versions.specs.Rows.{IsSpot, StandsAt}
 use Rattle.comm_versions.proofs.Ids.{at_found, at_absent}
 use Rattle.comm_versions.proofs.Around.{at_here}
 use Rattle.comm_versions.proofs.Spots.{spot_one, spot_ordered, spot_stands}
