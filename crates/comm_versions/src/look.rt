@@ -1,5 +1,5 @@
 //! What a row would change in comms that stand in pieces.
-ghost use Rattle.std.specs.Prelude.{◌≡◌, Some, false, true, option_map};
+ghost use Rattle.std.specs.Prelude.{◌≡◌, IfSome, Some, false, true, option_map, slice_get};
 ghost use Rattle.comm_core.specs.Machine.{at};
 ghost use Rattle.comm_versions.specs.Listing.{ListAlike};
 ghost use Rattle.comm_versions.specs.Rows.{AllFilled, IsInOrder, IsSpot, flat, put};
@@ -54,10 +54,11 @@ pub fn look_at(pieces: &[Piece], comm: &OpenComm) -> Look
     }
 }
 
-/// Where the first of these comms stands.
+/// Where the first of these comms stands, or would.
 pub fn first_spot(pieces: &[Piece], ids: &[Text]) -> Option<Spot>
     requires filled { AllFilled pieces.now }
     requires ordered { IsInOrder (flat pieces.now) }
+    ensures { IfSome result (λ s. IfSome (slice_get ids.now 0) (λ id. IsSpot pieces.now id s)) }
 {
     match ids.first() {
         Some(id) => spot_of(pieces, id, None),
