@@ -10,3 +10,4 @@ pub mod Listed
 pub mod Relisting
 pub mod Crossing
 pub mod Spots
+pub mod Starts

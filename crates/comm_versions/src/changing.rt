@@ -5,24 +5,24 @@ ghost use Rattle.comm_core.specs.Machine.{without};
 ghost use Rattle.comm_core.specs.Row.{with_row, without_all};
 ghost use Rattle.comm_versions.specs.Rows.{AllFilled, IsInOrder, IsSpot, StandsAt, flat, put};
 
+use crate::keyed::Keyed;
 use crate::pieces::{joined, longest, set_piece, with_comm, without_at};
 use crate::search::Piece;
 use crate::spot::{Spot, spot_of};
-use comm_core::{OpenComm, Row};
+use comm_core::Row;
 use comm_value::Text;
 use std::alloc::{AllocError, Global};
 use std::sync::Arc;
 
 // The comm where it stands, in place of the one of its id, or where it would.
 fn put_among(
-    comms: &mut Vec<OpenComm>,
+    comms: &mut Vec<Keyed>,
     at: Result<usize, usize>,
-    comm: &OpenComm,
+    comm: Keyed,
 ) -> Result<(), AllocError>
-    requires { StandsAt comm.now.0 comms.old.items at }
-    ensures { OnOk result (comms.new.items ≡ put comms.old.items comm.now) }
+    requires { StandsAt comm.0 comms.old.items at }
+    ensures { OnOk result (comms.new.items ≡ put comms.old.items comm) }
 {
-    let comm = comm.copy()?;
     match at {
         Ok(i) => comms[i] = comm,
         Err(i) => comms.insert(i, comm)?,
@@ -35,10 +35,10 @@ fn put_into(
     alloc: Global,
     piece: &mut Piece,
     at: Result<usize, usize>,
-    comm: &OpenComm,
+    comm: Keyed,
 ) -> Result<(), AllocError>
-    requires { StandsAt comm.now.0 (arc_value piece.old).items at }
-    ensures { OnOk result ((arc_value piece.new).items ≡ put (arc_value piece.old).items comm.now) }
+    requires { StandsAt comm.0 (arc_value piece.old).items at }
+    ensures { OnOk result ((arc_value piece.new).items ≡ put (arc_value piece.old).items comm) }
 {
     match Arc::get_mut(piece) {
         Some(comms) => put_among(comms, at, comm),
@@ -55,11 +55,11 @@ fn put_at(
     alloc: Global,
     pieces: Vec<Piece>,
     spot: Spot,
-    comm: &OpenComm,
+    comm: Keyed,
 ) -> Result<Vec<Piece>, AllocError>
     requires filled { AllFilled pieces.items }
-    requires spot { IsSpot pieces.items comm.now.0 spot }
-    ensures put { IfOk result (λ all. flat all.items ≡ put (flat pieces.items) comm.now) }
+    requires spot { IsSpot pieces.items comm.0 spot }
+    ensures put { IfOk result (λ all. flat all.items ≡ put (flat pieces.items) comm) }
     ensures filled { IfOk result (λ all. AllFilled all.items) }
 {
     let mut all = pieces;
@@ -76,20 +76,20 @@ fn put_at(
 fn put_in(
     alloc: Global,
     pieces: Vec<Piece>,
-    comm: &OpenComm,
+    comm: Keyed,
     hint: Option<Spot>,
 ) -> Result<Vec<Piece>, AllocError>
     requires filled { AllFilled pieces.items }
     requires ordered { IsInOrder (flat pieces.items) }
-    ensures put { IfOk result (λ all. flat all.items ≡ put (flat pieces.items) comm.now) }
+    ensures put { IfOk result (λ all. flat all.items ≡ put (flat pieces.items) comm) }
     ensures filled { IfOk result (λ all. AllFilled all.items) }
 {
     let mut all = pieces;
-    match spot_of(all.as_slice(), comm.id(), hint) {
+    match spot_of(all.as_slice(), comm.comm().id(), hint) {
         Some(spot) => put_at(alloc, all, spot, comm),
         None => {
             let mut first = Vec::with_capacity(alloc, 1)?;
-            first.push(comm.copy()?)?;
+            first.push(comm)?;
             all.push(Arc::new(alloc, first)?)?;
             Ok(all)
         }
@@ -195,7 +195,7 @@ pub fn after_row(
 {
     match row {
         Row::Same => Ok(pieces),
-        Row::Put(comm) => put_in(alloc, pieces, comm, hint),
+        Row::Put(comm) => put_in(alloc, pieces, Keyed::new(comm.copy()?), hint),
         Row::Out(ids) => take_all(alloc, pieces, ids.as_slice(), hint),
         Row::Clear => Ok(Vec::new(alloc)),
     }

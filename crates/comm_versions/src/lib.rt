@@ -13,6 +13,7 @@ mod change;
 mod changing;
 mod front;
 mod history;
+mod keyed;
 mod look;
 mod mark;
 mod opening;

@@ -34,7 +34,7 @@ fn has(pieces: &[Piece], id: &Text, spot: Spot, target: &Text) -> bool
     ensures { result ≡ true → option_map (λ c. c.target) (at (flat pieces.now) id.now) ≡ Some target.now }
 {
     match spot.at {
-        Ok(i) => pieces[spot.piece][i].target() == target,
+        Ok(i) => pieces[spot.piece][i].comm().target() == target,
         Err(_) => false,
     }
 }

@@ -2,8 +2,8 @@
 ghost use Rattle.std.specs.Prelude.{◌≡◌, ◌+◌, ◌<◌, ◌≤◌, ◌++◌, ◌∷◌, [], IfOk, OnOk, length, take, drop};
 ghost use Rattle.comm_versions.specs.Rows.{AllFilled, StandsAt, flat, put};
 
+use crate::keyed::Keyed;
 use crate::search::Piece;
-use comm_core::OpenComm;
 use std::alloc::{AllocError, Global};
 use std::sync::Arc;
 
@@ -32,7 +32,7 @@ pub fn shared(alloc: Global, pieces: &[Piece]) -> Result<Vec<Piece>, AllocError>
 }
 
 // The comms are shared.
-fn copy_all(comms: &[OpenComm], all: &mut Vec<OpenComm>) -> Result<(), AllocError>
+fn copy_all(comms: &[Keyed], all: &mut Vec<Keyed>) -> Result<(), AllocError>
     ensures { OnOk result (all.new.items ≡ all.old.items ++ comms.now) }
 {
     for comm in comms {
@@ -44,19 +44,19 @@ fn copy_all(comms: &[OpenComm], all: &mut Vec<OpenComm>) -> Result<(), AllocErro
 // Copies of the comms, and the new one in place of those from one index to the other.
 fn spliced(
     alloc: Global,
-    comms: &[OpenComm],
+    comms: &[Keyed],
     from: usize,
     to: usize,
-    comm: &OpenComm,
-) -> Result<Vec<OpenComm>, AllocError>
+    comm: Keyed,
+) -> Result<Vec<Keyed>, AllocError>
     requires ordered { from ≤ to }
     requires within { to ≤ length comms.now }
-    ensures spliced { IfOk result (λ all. all.items ≡ take from comms.now ++ comm.now ∷ drop to comms.now) }
+    ensures spliced { IfOk result (λ all. all.items ≡ take from comms.now ++ comm ∷ drop to comms.now) }
     ensures some { IfOk result (λ all. 0 < length all.items) }
 {
     let mut all = Vec::with_capacity(alloc, comms.len() + 1)?;
     copy_all(&comms[..from], &mut all)?;
-    all.push(comm.copy()?)?;
+    all.push(comm)?;
     copy_all(&comms[to..], &mut all)?;
     Ok(all)
 }
@@ -64,12 +64,12 @@ fn spliced(
 /// The comm where it stands, in place of the one of its id, or where it would.
 pub fn with_comm(
     alloc: Global,
-    comms: &[OpenComm],
+    comms: &[Keyed],
     at: Result<usize, usize>,
-    comm: &OpenComm,
-) -> Result<Vec<OpenComm>, AllocError>
-    requires { StandsAt comm.now.0 comms.now at }
-    ensures put { IfOk result (λ all. all.items ≡ put comms.now comm.now) }
+    comm: Keyed,
+) -> Result<Vec<Keyed>, AllocError>
+    requires { StandsAt comm.0 comms.now at }
+    ensures put { IfOk result (λ all. all.items ≡ put comms.now comm) }
     ensures some { IfOk result (λ all. 0 < length all.items) }
 {
     match at {
@@ -79,7 +79,7 @@ pub fn with_comm(
 }
 
 /// The comms without the one at i.
-pub fn without_at(alloc: Global, comms: &[OpenComm], i: usize) -> Result<Vec<OpenComm>, AllocError>
+pub fn without_at(alloc: Global, comms: &[Keyed], i: usize) -> Result<Vec<Keyed>, AllocError>
     requires { i < length comms.now }
     ensures { IfOk result (λ all. all.items ≡ take i comms.now ++ drop (i + 1) comms.now) }
 {
@@ -94,7 +94,7 @@ pub fn set_piece(
     alloc: Global,
     pieces: Vec<Piece>,
     place: usize,
-    comms: Vec<OpenComm>,
+    comms: Vec<Keyed>,
 ) -> Result<Vec<Piece>, AllocError>
     requires within { place < length pieces.items }
     requires filled { AllFilled pieces.items }

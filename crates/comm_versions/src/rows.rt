@@ -7,6 +7,7 @@ ghost use Rattle.comm_versions.specs.Listing.{ListAlike};
 ghost use Rattle.comm_versions.specs.Rows.{flat};
 
 use crate::changing::after_row;
+use crate::keyed::Keyed;
 use crate::look::{Look, first_spot, look_at};
 use crate::pieces::shared;
 use crate::search::Piece;
@@ -58,10 +59,11 @@ fn is_asked(asked: Option<&Text>, target: &Text) -> bool
 }
 
 // Adds those of these comms that are asked for. Their texts are shared.
-fn list_all(comms: &[OpenComm], asked: Option<&Text>, all: &mut Vec<Info>) -> Result<(), AllocError>
+fn list_all(comms: &[Keyed], asked: Option<&Text>, all: &mut Vec<Info>) -> Result<(), AllocError>
     ensures { OnOk result (all.new.items ≡ all.old.items ++ map info_of (filter (λ e. passes (option_map (λ t. t.now) asked.entry) e.1.target) comms.now)) }
 {
-    for open in comms {
+    for keyed in comms {
+        let open = keyed.comm();
         let target = open.target();
         if is_asked(asked, target) {
             let id = open.id().copy()?;
@@ -117,7 +119,7 @@ impl Rows {
     {
         let spot = spot_of(self.pieces.as_slice(), id, None)?;
         match spot.at {
-            Ok(i) => Some(&self.pieces[spot.piece][i]),
+            Ok(i) => Some(self.pieces[spot.piece][i].comm()),
             Err(_) => None,
         }
     }

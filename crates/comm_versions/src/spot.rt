@@ -1,24 +1,16 @@
 //! Where the comm of an id stands among comms in pieces.
 ghost use Rattle.std.specs.Prelude.{◌≡◌, ◌<◌, [], IfNone, IfSome, Err, Ok, drop, length, true};
-ghost use Rattle.comm_versions.specs.Rows.{AllFilled, IsAbsent, IsInOrder, IsSpot, flat, id_cmp};
+ghost use Rattle.comm_versions.specs.Rows.{AllFilled, IsAbsent, IsInOrder, IsSpot, flat};
 
+use crate::keyed::start_of;
 use crate::search::{Piece, piece_of, place_of};
-use comm_core::OpenComm;
 use comm_value::Text;
-use std::cmp::Ordering;
 
 /// In which piece the comm of an id stands, and there at which index; or where it would.
 #[derive(Clone, Copy)]
 pub struct Spot {
     pub piece: usize,
     pub at: Result<usize, usize>,
-}
-
-// How the id stands to that of the comm.
-fn order(id: &Text, comm: &OpenComm) -> Ordering
-    ensures { result ≡ id_cmp id.now comm.now.0 }
-{
-    id.as_str().cmp(comm.id().as_str())
 }
 
 // Whether the comm at this index of this piece has the id.
@@ -31,7 +23,7 @@ fn is_found(pieces: &[Piece], id: &Text, piece: usize, i: usize) -> bool
         return false;
     }
     let comms = pieces[piece].as_slice();
-    i < comms.len() && order(id, &comms[i]).is_eq()
+    i < comms.len() && comms[i].order(&start_of(id), id).is_eq()
 }
 
 // Whether the id is below those of the pieces from this one on.
@@ -43,7 +35,7 @@ fn is_below(pieces: &[Piece], id: &Text, from: usize) -> bool
         return true;
     }
     let comms = pieces[from].as_slice();
-    order(id, &comms[0]).is_lt()
+    comms[0].order(&start_of(id), id).is_lt()
 }
 
 // Whether a comm of the id would stand at this index of this piece, behind another.
@@ -56,11 +48,12 @@ fn is_gap(pieces: &[Piece], id: &Text, piece: usize, i: usize) -> bool
         return false;
     }
     let comms = pieces[piece].as_slice();
-    if i == 0 || comms.len() < i || !order(id, &comms[i - 1]).is_gt() {
+    let start = start_of(id);
+    if i == 0 || comms.len() < i || !comms[i - 1].order(&start, id).is_gt() {
         return false;
     }
     if i < comms.len() {
-        order(id, &comms[i]).is_lt()
+        comms[i].order(&start, id).is_lt()
     } else {
         is_below(pieces, id, piece + 1)
     }

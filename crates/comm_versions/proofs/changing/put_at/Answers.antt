@@ -8,16 +8,16 @@ use Rattle.comm_versions.proofs.changing.put_at.Goals as goal
 
 pub returns-then-comms-longest-clause-put : goal.returns-then-comms-longest-clause-put
 returns-then-comms-longest-clause-put c =
-    put_spot c.args.pieces.items c.args.comm.now c.args.spot c.requires.spot c.index_mut.result.now c.put_into.new.piece c.index_mut.ensures.value c.in_ok-put_into.ensures
+    put_spot c.args.pieces.items c.args.comm c.args.spot c.requires.spot c.index_mut.result.now c.put_into.new.piece c.index_mut.ensures.value c.in_ok-put_into.ensures
 
 pub returns-then-comms-longest-clause-filled : goal.returns-then-comms-longest-clause-filled
 returns-then-comms-longest-clause-filled c =
-    filled_set c.args.pieces.items c.args.spot.piece c.put_into.new.piece (subst (λ es. 0 < length es) (sym c.in_ok-put_into.ensures) (put_some (arc_value c.index_mut.result.now).items c.args.comm.now)) c.requires.filled
+    filled_set c.args.pieces.items c.args.spot.piece c.put_into.new.piece (subst (λ es. 0 < length es) (sym c.in_ok-put_into.ensures) (put_some (arc_value c.index_mut.result.now).items c.args.comm)) c.requires.filled
 
 pub returns-clause-put : goal.returns-clause-put
 returns-clause-put c =
     let ps = c.args.pieces.items in
-    let k = c.args.comm.now in
+    let k = c.args.comm in
     let s = c.args.spot in
     let h = c.requires.spot in
     let i = s.piece in

@@ -23,4 +23,4 @@ returns-in-Ok c holds =
     let here : c.index.result.now ≡ get_or xs i c.index.result.now = c.index.ensures ∙ ap (λ (v : Vec (Name × Comm) Global). get_or v.items i c.index.result.now) (c.deref.ensures ∙ ap arc_value one) in
     let there = at_found xs i k c.index.result.now f.0 f.1 f.2 in
     let text = (bytes_eq-Decides c.target.result.now c.args.target.now).0 (sym c.eq.ensures ∙ holds) in
-    ap (option_map (λ (d : Comm). d.target)) (sym (at_here ps s.piece xs k c.requires.ordered (spot_stands ps k s h)) ∙ there) ∙ ap Some (ap (λ (x : Name × Comm). x.1.target) (sym here) ∙ (sym c.target.ensures ∙ text))
+    ap (option_map (λ (d : Comm). d.target)) (sym (at_here ps s.piece xs k c.requires.ordered (spot_stands ps k s h)) ∙ there) ∙ ap Some (ap (λ (x : Name × Comm). x.1.target) (sym here) ∙ (sym (c.target.ensures ∙ ap (λ (x : Name × Comm). x.1.target) c.comm.ensures) ∙ text))
