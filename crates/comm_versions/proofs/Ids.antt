@@ -264,15 +264,10 @@ without_in_order (e ∷ es) id o =
     let more = without_in_order es id o.1 in
     elim (bytes_eq id e.0) as (λ t. IsInOrder (cond t es (e ∷ without es id))) [ true ↦ o.1 | false ↦ (below_without e.0 id es o.0, more) ]
 
--- ---- what `cmp` answered
+-- ---- what was seen of the comm at i
 
--- of the id of this comm
-pub compared_id : (k key s m : Name) (e : Name × Comm) (o : Ordering) → o ≡ id_cmp key s → key ≡ k → s ≡ m → m ≡ e.0 → id_cmp k e.0 ≡ o
-compared_id k key s m e o answer same text id = ap (id_cmp k) (sym (text ∙ id)) ∙ ap (λ x. id_cmp x s) (sym same) ∙ sym answer
-
--- of the id of the comm at i
-pub compared : (k key s m : Name) (es : Opens) (i : ℕ) (e : Name × Comm) (o : Ordering) → o ≡ id_cmp key s → key ≡ k → s ≡ m → m ≡ e.0 → e ≡ get_or es i e → id_cmp k (get_or es i e).0 ≡ o
-compared k key s m es i e o answer same text id is = ap (λ (x : Name × Comm). id_cmp k x.0) (sym is) ∙ compared_id k key s m e o answer same text id
+pub seen : (k : Name) (es : Opens) (i : ℕ) (e : Name × Comm) (o : Ordering) → o ≡ id_cmp k e.0 → e ≡ get_or es i e → id_cmp k (get_or es i e).0 ≡ o
+seen k es i e o answer is = ap (λ (x : Name × Comm). id_cmp k x.0) (sym is) ∙ sym answer
 
 all_in_order : (ids : List Name) (es : Opens) → IsInOrder es → IsInOrder (without_all ids es)
 all_in_order [] es o = o

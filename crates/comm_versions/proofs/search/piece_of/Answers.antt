@@ -1,6 +1,5 @@
-use Rattle.std.proofs.Common.{◌<◌, ◌+◌, ◌-◌, ◌/◌, ℕ, length, Less, sym, ◌∙◌, arith}
+use Rattle.std.proofs.Common.{◌<◌, ◌+◌, ◌-◌, ◌/◌, ℕ, length, sym, ◌∙◌, arith}
 use Rattle.comm_versions.proofs.Flat.{filled_items}
-use Rattle.comm_versions.proofs.Ids.{compared_id}
 use Rattle.comm_versions.proofs.Around.{absent_from, below_from}
 use Rattle.comm_versions.proofs.search.piece_of.Goals as goal
 
@@ -15,7 +14,7 @@ loop-low-preserved-in-Less c =
     let i : ℕ = c.loop-low.low + (c.loop-low.high - c.loop-low.low) / 2 in
     let within : i < length c.args.pieces.now = omega arith in
     let some = filled_items _ i c.index-pieces-middle.result c.deref.result.now _ within c.index-pieces-middle.is c.deref.ensures c.as_slice-comms.ensures.value c.requires.filled in
-    let less = compared_id c.args.id.now c.as_str-key.result.now c.as_str.result.now c.id.result.now c.index-comms-0.result Less c.in-Less.ensures c.as_str-key.ensures c.as_str.ensures c.id.ensures in (
+    let less = sym c.in-Less.ensures in (
       omega arith,
       omega arith,
       c.loop-low.invariant.2,
@@ -27,7 +26,7 @@ loop-low-preserved c =
     let i : ℕ = c.loop-low.low + (c.loop-low.high - c.loop-low.low) / 2 in
     let within : i < length c.args.pieces.now = omega arith in
     let some = filled_items _ i c.index-pieces-middle.result c.deref.result.now _ within c.index-pieces-middle.is c.deref.ensures c.as_slice-comms.ensures.value c.requires.filled in
-    let order = compared_id c.args.id.now c.as_str-key.result.now c.as_str.result.now c.id.result.now c.index-comms-0.result c.cmp-order.result c.cmp-order.ensures c.as_str-key.ensures c.as_str.ensures c.id.ensures in (
+    let order = sym c.order.ensures in (
       omega arith,
       c.loop-low.invariant.1,
       below_from _ _ i c.index-pieces-middle.result c.deref.result.now _ c.index-comms-0.result within c.index-pieces-middle.is c.deref.ensures c.as_slice-comms.ensures.value some c.index-comms-0.is c.requires.ordered

@@ -1,17 +1,17 @@
 use Rattle.std.proofs.Common.{◌<◌, ◌+◌, ◌-◌, ◌/◌, ℕ, length, Equal, Greater, arith, add-one}
-use Rattle.comm_versions.proofs.Ids.{below_at, below_found, found_at, compared}
+use Rattle.comm_versions.proofs.Ids.{below_at, below_found, found_at, seen}
 use Rattle.comm_versions.proofs.search.place_of.Goals as goal
 
 pub returns-in-Equal-clause-found : goal.returns-in-Equal-clause-found
 returns-in-Equal-clause-found c =
     let i : ℕ = c.loop-low.low + (c.loop-low.high - c.loop-low.low) / 2 in
     let within : i < length c.args.comms.now = omega arith in
-    let same = compared c.args.id.now c.as_str-key.result.now c.as_str.result.now c.id.result.now c.args.comms.now i c.index-comms-middle.result Equal c.in-Equal.ensures c.as_str-key.ensures c.as_str.ensures c.id.ensures c.index-comms-middle.is in
+    let same = seen c.args.id.now c.args.comms.now i c.index-comms-middle.result Equal c.in-Equal.ensures c.index-comms-middle.is in
     (within, below_found _ _ i _ c.requires within same, found_at _ _ i _ within same)
 
 pub loop-low-preserved : goal.loop-low-preserved
 loop-low-preserved c =
     let i : ℕ = c.loop-low.low + (c.loop-low.high - c.loop-low.low) / 2 in
     let within : i < length c.args.comms.now = omega arith in
-    let same = compared c.args.id.now c.as_str-key.result.now c.as_str.result.now c.id.result.now c.args.comms.now i c.index-comms-middle.result Greater c.in-Greater.ensures c.as_str-key.ensures c.as_str.ensures c.id.ensures c.index-comms-middle.is in
+    let same = seen c.args.id.now c.args.comms.now i c.index-comms-middle.result Greater c.in-Greater.ensures c.index-comms-middle.is in
     (omega arith, omega arith, rw add-one (below_at _ _ i _ c.requires within same), c.loop-low.invariant.3)

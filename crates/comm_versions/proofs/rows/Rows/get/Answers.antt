@@ -21,7 +21,7 @@ returns-in-Ok c =
     let f : StandsAt k xs (Ok i) = subst (StandsAt k xs) c.in-Ok.is h.there in
     let one = spot_one ps k s h c.index.result.now c.index.ensures in
     let here : c.index-in-Ok.result.now ≡ get_or xs i c.index-in-Ok.result.now = c.index-in-Ok.ensures ∙ ap (λ (v : Vec (Name × Comm) Global). get_or v.items i c.index-in-Ok.result.now) (c.deref.ensures ∙ ap arc_value one) in
-    ap (λ (x : Name × Comm). Some x.1) here ∙ sym (at_found xs i k c.index-in-Ok.result.now f.0 f.1 f.2)
+    ap (λ (x : Name × Comm). Some x.1) (c.comm.ensures ∙ here) ∙ sym (at_found xs i k c.index-in-Ok.result.now f.0 f.1 f.2)
     ∙ at_here ps s.piece xs k c.self.invariant.1 (spot_stands ps k s h) ∙ ap (λ (es : Opens). at es k) c.self.view_is
 
 pub returns-in-Err : goal.returns-in-Err
