@@ -39,12 +39,21 @@ pub fn start_of(id: &Text) -> Start
     ensures { result ≡ padded 8 id.now }
 {
     let bytes = id.as_str().as_bytes();
-    let count = bytes.len().min(8);
+    if let Some(start) = bytes.first_chunk() {
+        return *start;
+    }
     let mut start = [0; 8];
-    for i in 0..count {
+    for i in 0..bytes.len() {
         start[i] = bytes[i];
     }
     start
+}
+
+// In the order of their bytes: as numbers, whose greatest digit is the first byte, they are compared at once.
+fn order_of(one: &Start, other: &Start) -> Ordering
+    ensures { result ≡ id_cmp one.now other.now }
+{
+    u64::from_be_bytes(*one).cmp(&u64::from_be_bytes(*other))
 }
 
 impl Keyed {
@@ -76,7 +85,7 @@ impl Keyed {
         requires { start.now ≡ padded 8 id.now }
         ensures { result ≡ id_cmp id.now self.now.0 }
     {
-        match start.cmp(&self.start) {
+        match order_of(start, &self.start) {
             Ordering::Equal => id.as_str().cmp(self.comm.id().as_str()),
             apart => apart,
         }

@@ -128,7 +128,6 @@ impl Rows {
     pub fn look(&self, row: &Row) -> Look
         ensures { result.relists ≡ false → ListAlike self.now (with_row row.now self.now) }
     {
-        // (for the order of the comms, in which one that is put replaces the one of its id)
         let pieces = self.pieces.as_slice();
         match row {
             Row::Same => Look::nowhere(false),

@@ -10,5 +10,5 @@ pub returns-in_default : goal.returns-in_default
 returns-in_default c =
     let id = c.args.id.now in
     let comm = c.self.inside.comm in
-    let is : id_cmp (padded 8 id) (padded 8 comm.0) ≡ c.cmp.result = sym (c.cmp.ensures ∙ (ap (λ s. id_cmp s c.self.inside.start) c.requires ∙ ap (id_cmp (padded 8 id)) c.self.invariant)) in
-    sym (apart_early 8 id comm.0 c.cmp.result is c.in_default.not-Equal) ∙ ap (λ (x : Name × Comm). id_cmp id x.0) c.self.view_is
+    let is : id_cmp (padded 8 id) (padded 8 comm.0) ≡ c.order_of.result = sym (c.order_of.ensures ∙ (ap (λ s. id_cmp s c.self.inside.start) c.requires ∙ ap (id_cmp (padded 8 id)) c.self.invariant)) in
+    sym (apart_early 8 id comm.0 c.order_of.result is c.in_default.not-Equal) ∙ ap (λ (x : Name × Comm). id_cmp id x.0) c.self.view_is
