@@ -15,6 +15,7 @@ use crate::spot::{Spot, spot_of};
 use comm_core::{OpenComm, Row, StateAnswer};
 use comm_messages::{Info, Infos};
 use comm_value::{Dict, Text};
+use core::mem;
 use std::alloc::{AllocError, Global};
 use std::marker::Model;
 
@@ -96,13 +97,14 @@ impl Rows {
         }
     }
 
-    /// The comms after this row. What nobody else has is changed in its place. The hint tells where, if it holds.
-    pub fn after(self, alloc: Global, row: &Row, hint: Option<Spot>) -> Result<Rows, AllocError>
-        ensures { IfOk result (λ r. r ≡ with_row row.now self) }
+    /// Makes them the comms after this row. What nobody else has is changed in its place. The hint tells where, if it holds. What an error leaves is
+    /// of no use.
+    pub fn change(&mut self, alloc: Global, row: &Row, hint: Option<Spot>) -> Result<(), AllocError>
+        ensures { OnOk result (self.new ≡ with_row row.now self.old) }
     {
-        let Rows { pieces } = self;
-        let pieces = after_row(alloc, pieces, row, hint)?;
-        Ok(Rows { pieces })
+        let pieces = mem::replace(&mut self.pieces, Vec::new(alloc));
+        self.pieces = after_row(alloc, pieces, row, hint)?;
+        Ok(())
     }
 
     /// The same comms once more. They are shared.

@@ -21,8 +21,8 @@ pub struct Passed {
 }
 
 /// The last rows, and the two before them. Readers are shown the last ones; the copy that is behind has those before. Those before that are
-/// free again, unless a reader still looks at them: they become the next rows, by the two rows that they lack and the new one. So a change
-/// copies nothing. Contracts see the last rows.
+/// free again, unless a reader still looks at them: they become the next rows, at the same root, by the two rows that they lack and the
+/// new one. So a change copies nothing. Contracts see the last rows.
 #[derive(Drop)]
 pub struct Trail {
     last: Arc<Rows, Global>,
@@ -45,28 +45,31 @@ impl Model for Trail {
     ghost invariant = { λ t. Leads t.before (arc_value t.last) × Follows t.free t.before };
 }
 
-// The free rows after those that they lack, unless others have them. `before` are the rows after the first of these.
+// The free root, with the rows after this one, unless others have it. It lacks its own row, the one after that, and this one. `before` are the rows after
+// the first of these.
 fn caught_up(
     alloc: Global,
     free: Option<Passed>,
     before: &Option<Passed>,
-) -> Result<Option<Rows>, AllocError>
+    row: &Row,
+    spot: Option<Spot>,
+) -> Result<Option<Arc<Rows, Global>>, AllocError>
     requires { Follows free before.now }
-    ensures { IfOk result (λ o. IfSome o (λ r. MatchOption before.now ⊥ (λ b. r ≡ with_row b.row (arc_value b.root)))) }
+    ensures { IfOk result (λ o. IfSome o (λ r. MatchOption before.now ⊥ (λ b. arc_value r ≡ with_row row.now (with_row b.row (arc_value b.root))))) }
 {
-    let Some(Passed { root, row, spot }) = free else {
+    let Some(mut free) = free else {
         return Ok(None);
     };
     let Some(before) = before else {
         return Ok(None);
     };
-    match Arc::try_unwrap(root) {
-        Ok(rows) => {
-            let rows = rows.after(alloc, &row, spot)?;
-            Ok(Some(rows.after(alloc, &before.row, before.spot)?))
-        }
-        Err(_) => Ok(None),
-    }
+    let Some(rows) = Arc::get_mut(&mut free.root) else {
+        return Ok(None);
+    };
+    rows.change(alloc, &free.row, free.spot)?;
+    rows.change(alloc, &before.row, before.spot)?;
+    rows.change(alloc, row, spot)?;
+    Ok(Some(free.root))
 }
 
 impl Trail {
@@ -87,15 +90,22 @@ impl Trail {
         &self.last
     }
 
-    // The rows after this one.
-    fn next(&mut self, alloc: Global, row: &Row, spot: Option<Spot>) -> Result<Rows, AllocError>
+    // The rows after this one: the free ones, or a copy of the last ones.
+    fn next(
+        &mut self,
+        alloc: Global,
+        row: &Row,
+        spot: Option<Spot>,
+    ) -> Result<Arc<Rows, Global>, AllocError>
         ensures same { self.new ≡ self.old }
-        ensures next { IfOk result (λ r. r ≡ with_row row.now self.old) }
+        ensures next { IfOk result (λ r. arc_value r ≡ with_row row.now self.old) }
     {
-        match caught_up(alloc, self.free.take(), &self.before)? {
-            Some(rows) => rows.after(alloc, row, spot),
-            None => self.last.copy(alloc)?.after(alloc, row, spot),
+        if let Some(root) = caught_up(alloc, self.free.take(), &self.before, row, spot)? {
+            return Ok(root);
         }
+        let mut copy = self.last.copy(alloc)?;
+        copy.change(alloc, row, spot)?;
+        Ok(Arc::new(alloc, copy)?)
     }
 
     /// The rows after this one are the last from now on, and are given too. The spot is where it changes the last ones, if that's known.
@@ -112,7 +122,7 @@ impl Trail {
         if let Row::Same = row {
             return Arc::try_clone(&self.last);
         }
-        let root = Arc::new(alloc, self.next(alloc, &row, spot)?)?;
+        let root = self.next(alloc, &row, spot)?;
         let given = Arc::try_clone(&root)?;
         let passed = mem::replace(&mut self.last, root);
         self.free = self.before.take();
