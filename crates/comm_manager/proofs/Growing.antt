@@ -17,6 +17,7 @@ use Rattle.comm_core.specs.declared.reply.Reply.{Reply}
 use Rattle.comm_versions.specs.Known.{Written}
 use Rattle.comm_manager.specs.Asked.{entry_of}
 use Rattle.comm_manager.specs.Kept.{IsKept, Rests, counts}
+use Rattle.comm_manager.specs.Tally.{Tally}
 
 -- ---- the entries of a client
 
@@ -107,7 +108,7 @@ Replays = (comms : ℕ) (es : List Entry) (e : Entry) → replay comms (es ++ e 
 -- what stands ready after a history
 module _ (limits : Limits) (h : List Entry) (core begun : CoreValue) (c n : ℕ) (d : Readied) (rests : Rests limits.comms h core)
     (ready : IsReady begun d) (same : machine begun ≡ machine core) (limit_is : begun.limit ≡ core.limit) where
-  pub here : machine begun ≡ replay limits.comms h
+  here : machine begun ≡ replay limits.comms h
   here = same ∙ rests.machine_is
 
   within : begun.limit ≡ limits.comms
@@ -124,7 +125,7 @@ module _ (limits : Limits) (h : List Entry) (core begun : CoreValue) (c n : ℕ)
       (subst (λ (l : ℕ). Allowed (machine begun) (asks l (machine begun) d.call) d.outcome) within ready.allowed)
 
   -- its entry may follow
-  pub legal_more : Grows → IsLegal limits.clients limits.comms h → has_end h ≡ false → c < limits.clients → n ≡ length (mine h c) + 1 → IsLegal limits.clients limits.comms (h ++ entry_of c n d ∷ [])
+  legal_more : Grows → IsLegal limits.clients limits.comms h → has_end h ≡ false → c < limits.clients → n ≡ length (mine h c) + 1 → IsLegal limits.clients limits.comms (h ++ entry_of c n d ∷ [])
   legal_more grows legal going below next =
       let f : Follows limits.clients limits.comms h (entry_of c n d) = (
         going,
@@ -136,7 +137,7 @@ module _ (limits : Limits) (h : List Entry) (core begun : CoreValue) (c n : ℕ)
       grows limits.clients limits.comms h (entry_of c n d) legal f
 
   -- the tables, once it is done
-  pub rests_more : (core' : CoreValue) (h' : List Entry) → Replays → step begun.limit (machine begun) d.call d.outcome ≡ Some (record { reply = d.reply; outgoing = d.outgoing; next = machine core' })
+  rests_more : (core' : CoreValue) (h' : List Entry) → Replays → step begun.limit (machine begun) d.call d.outcome ≡ Some (record { reply = d.reply; outgoing = d.outgoing; next = machine core' })
       → core'.settled ≡ true → core'.limit ≡ begun.limit → h' ≡ h ++ entry_of c n d ∷ [] → Rests limits.comms h' core'
   rests_more core' h' replays done settled limit' his =
       let after : applied limits.comms (replay limits.comms h) (entry_of c n d) ≡ machine core' = ap (next_of (replay limits.comms h)) (stepped _ done) in
@@ -146,7 +147,7 @@ module _ (limits : Limits) (h : List Entry) (core begun : CoreValue) (c n : ℕ)
         machine_is = sym after ∙ sym (replays limits.comms h (entry_of c n d)) ∙ ap (replay limits.comms) (sym his);
       }
 
-pub kept_more : (limits : Limits) (h h' : List Entry) (core core' : CoreValue) (writer writer' : Written) (books books' : List ℕ) (c n : ℕ) (d : Readied)
+kept_more : (limits : Limits) (h h' : List Entry) (core core' : CoreValue) (writer writer' : Written) (books books' : List ℕ) (c n : ℕ) (d : Readied)
     → IsKept limits h core writer books → c < 4 → slice_index books c ≡ n → IsLegal limits.clients limits.comms (h ++ entry_of c (n + 1) d ∷ []) → Rests limits.comms h' core' → length h < limits.history
     → h' ≡ h ++ entry_of c (n + 1) d ∷ [] → writer'.front ≡ h' → writer'.pending ≡ [] → books' ≡ slice_set books c (n + 1) → IsKept limits h' core' writer' books'
 kept_more limits h h' core core' writer writer' books books' c n d kept low at legal rests room his front pending bis =
@@ -163,6 +164,42 @@ kept_more limits h h' core core' writer writer' books books' c n d kept low at l
       few = omega arith;
       allowed = kept.allowed;
     }
+
+-- what is kept stays where a change is admitted
+pub admitted : (limits : Limits) (h h1 : List Entry) (core : CoreValue) (w : Written) (books b1 : List ℕ) (t t1 : Tally) → h1 ≡ h → (b1 ≡ books) × (t1 ≡ t) → IsKept limits h core w books
+    → (t.client < 4) × (slice_index books t.client ≡ t.number) → t.client < limits.clients
+    → IsKept limits h1 core w b1 × (t1.client < 4) × (slice_index b1 t1.client ≡ t1.number) × (t1.client < limits.clients)
+admitted limits h h1 core w books b1 t t1 his same kept known below =
+    subst (λ (x : List Entry × List ℕ × Tally). IsKept limits x.0 core w x.1 × (x.2.client < 4) × (slice_index x.1 x.2.client ≡ x.2.number) × (x.2.client < limits.clients))
+    (λ i. (sym his i, sym same.0 i, sym same.1 i)) (kept, known.0, known.1, below)
+
+-- what stands ready after what is kept
+module _ (limits : Limits) (h : List Entry) (core ready : CoreValue) (w : Written) (books : List ℕ) (c n : ℕ) (d : Readied)
+    (kept : IsKept limits h core w books) (low : c < 4) (at : slice_index books c ≡ n)
+    (stands : IsReady ready d) (same : machine ready ≡ machine core) (limit_is : ready.limit ≡ core.limit) where
+  whole : w.front ++ w.pending ≡ h
+  whole = ap (λ (l : List Entry). w.front ++ l) kept.pending_is ∙ (append-nil w.front ∙ kept.front_is)
+
+  legal_after : Grows → c < limits.clients → IsLegal limits.clients limits.comms (h ++ entry_of c (n + 1) d ∷ [])
+  legal_after grows below =
+      let counted = count_is limits h core w books c n kept low at in
+      legal_more limits h core ready c (n + 1) d kept.rests stands same limit_is grows kept.legal kept.going below (ap (λ (k : ℕ). k + 1) (sym counted))
+
+  -- its entry may follow what is published
+  pub may_follow : Grows → c < limits.clients → IsLegal limits.clients limits.comms ((w.front ++ w.pending) ++ entry_of c (n + 1) d ∷ [])
+  may_follow grows below = subst (λ (l : List Entry). IsLegal limits.clients limits.comms (l ++ entry_of c (n + 1) d ∷ [])) (sym whole) (legal_after grows below)
+
+  -- it stands ready after what is published
+  pub after_front : (x : CoreValue) × IsReady x d × (machine x ≡ replay limits.comms (w.front ++ w.pending))
+  after_front = (ready, stands, here limits h core ready c (n + 1) d kept.rests stands same limit_is ∙ ap (replay limits.comms) (sym whole))
+
+  -- what is kept once it is done
+  pub kept_after : (h' : List Entry) (core' : CoreValue) (w' : Written) (books' : List ℕ) → Grows → Replays → c < limits.clients → length h < limits.history
+      → step ready.limit (machine ready) d.call d.outcome ≡ Some (record { reply = d.reply; outgoing = d.outgoing; next = machine core' }) → core'.settled ≡ true → core'.limit ≡ ready.limit
+      → h' ≡ h ++ entry_of c (n + 1) d ∷ [] → w'.front ≡ h' → w'.pending ≡ [] → books' ≡ slice_set books c (n + 1) → IsKept limits h' core' w' books'
+  kept_after h' core' w' books' grows replays below room done settled limit' his front pending bis =
+      kept_more limits h h' core core' w w' books books' c n d kept low at (legal_after grows below)
+      (rests_more limits h core ready c (n + 1) d kept.rests stands same limit_is core' h' replays done settled limit' his) room his front pending bis
 
 -- ---- an end more
 

@@ -1,12 +1,12 @@
 //! A client: its reader and its ticket, and what it may ask.
-ghost use Rattle.std.specs.Prelude.{◌≡◌, ◌+◌, ◌<◌, ◌⊎◌, length, true, IfOk, IfErr, OnErr, OnOk, IsErrOf, Some, option_map};
+ghost use Rattle.std.specs.Prelude.{◌≡◌, ◌+◌, ◌<◌, ◌⊎◌, length, true, IfOk, IfErr, OnErr, OnOk, IsErrOf, option_map};
 ghost use mathlib.Core.List.{IsPrefix};
 ghost use Rattle.comm_targets.specs.Meaning.{IsIdle};
 ghost use Rattle.comm_core.specs.History.{IsLegal, has_end, replay};
 ghost use Rattle.comm_core.specs.Reads.{infos, state_of};
 ghost use Rattle.comm_core.specs.Ready.{HandsNothingIn};
+ghost use Rattle.comm_core.specs.Tables.{IdleWhere};
 ghost use Rattle.comm_core.specs.declared.call.Call.TheVariants as call;
-ghost use Rattle.comm_manager.specs.Asked.{MayAsk, boxed_of, call_of};
 ghost use Rattle.comm_manager.specs.Kept.{counts};
 ghost use Rattle.comm_manager.specs.Mine.{IsAnswered, IsSettled, made};
 ghost use Rattle.comm_manager.specs.Who.{who};
@@ -17,11 +17,10 @@ use crate::answered::Answered;
 use crate::change::Made;
 use crate::ledger::{Books, Ticket};
 use crate::naming::Naming;
-use crate::request::Request;
 use crate::shared::Manager;
 use comm_core::{Call, Unavailable};
 use comm_messages::Body;
-use comm_targets::Target;
+use comm_targets::{Held, Target};
 use comm_value::{Dict, Text};
 use comm_versions::{InfoRead, ReadFault, Stamp, StateRead, VersionReader};
 use std::alloc::Global;
@@ -49,6 +48,15 @@ impl<J: Naming> Model for Client<J> {
     ghost view = { λ c. who c.ticket.client c.ticket.number c.reader };
 
     ghost invariant = { λ c. (c.ticket.client < J.limits.clients) × (c.ticket.number ≤ length (mine c.reader c.ticket.client)) };
+}
+
+// Ends a target that a change took out, if it did.
+fn end<T: Target>(ended: Option<Held<T>>)
+    requires { IdleWhere ended }
+{
+    if let Some(held) = ended {
+        held.end();
+    }
 }
 
 impl<J: Naming> Client<J> {
@@ -96,37 +104,8 @@ impl<J: Naming> Client<J> {
         books.audit(&mut self.ticket);
     }
 
-    // Each change goes through here.
-    fn change<T: Target, R: Wait>(
-        &mut self,
-        rt: &R,
-        manager: &Manager<J, T>,
-        request: Request<T>,
-    ) -> Result<Answered<J>, (Unavailable<Stamp<J>>, Option<T>)>
-        requires { MayAsk T.means request }
-        ensures answered { IfOk result (λ a. IsAnswered J.limits self.old self.new (call_of T.means request) a.number a.reply a.stamp) }
-        ensures err { OnErr result (self.new ≡ self.old) }
-        ensures why { IfErr result (λ e. Because J.limits e.0) }
-        ensures boxed { IfErr result (λ e. option_map T.means e.1 ≡ boxed_of T.means request) }
-    {
-        let made = manager
-            .inner
-            .lock(rt)
-            .change(rt, manager.alloc, self, request);
-        // Here the lock is let go: a target may take its time to end.
-        match made {
-            Ok(Made { answered, ended }) => {
-                if let Some(held) = ended {
-                    held.end();
-                }
-                Ok(answered)
-            }
-            Err(refused) => Err(refused),
-        }
-    }
-
-    // A change that hands no target in.
-    fn ask<T: Target, R: Wait>(
+    /// Makes the change that a call asks for, where it hands no target in: what the functions below do with the parts of one.
+    pub fn ask<T: Target, R: Wait>(
         &mut self,
         rt: &R,
         manager: &Manager<J, T>,
@@ -137,9 +116,14 @@ impl<J: Naming> Client<J> {
         ensures err { OnErr result (self.new ≡ self.old) }
         ensures why { IfErr result (λ e. Because J.limits e) }
     {
-        match self.change(rt, manager, Request::Asked(call)) {
-            Ok(answered) => Ok(answered),
-            Err((why, _back)) => Err(why),
+        let made = manager.inner.lock(rt).ask(rt, manager.alloc, self, call);
+        // Here the lock is let go: a target may take its time to end.
+        match made {
+            Ok(Made { answered, ended }) => {
+                end(ended);
+                Ok(answered)
+            }
+            Err(why) => Err(why),
         }
     }
 
@@ -158,12 +142,16 @@ impl<J: Naming> Client<J> {
         ensures why { IfErr result (λ e. Because J.limits e.0) }
         ensures boxed { IfErr result (λ e. T.means e.1 ≡ T.means target) }
     {
-        match self.change(rt, manager, Request::Registering(name, target)) {
-            Ok(answered) => Ok(answered),
-            Err((why, back)) => match back {
-                Some(target) => Err((why, target)),
-                None => unreachable!(),
-            },
+        let made = manager
+            .inner
+            .lock(rt)
+            .register(rt, manager.alloc, self, name, target);
+        match made {
+            Ok(Made { answered, ended }) => {
+                end(ended);
+                Ok(answered)
+            }
+            Err(refused) => Err(refused),
         }
     }
 

@@ -1,30 +1,33 @@
 //! What lies under the lock.
-ghost use Rattle.std.specs.Prelude.{◌≡◌, ◌+◌, ◌<◌, ◌≤◌, ◌++◌, [], ◌∷◌, length, false, All, IfOk, IfErr, OnErr, true, option_map, vec_capacity};
+ghost use Rattle.std.specs.Prelude.{◌≡◌, ◌+◌, ◌<◌, ◌≤◌, ◌++◌, [], ◌∷◌, length, false, All, IfOk, IfErr, OnErr, true, vec_capacity};
 ghost use Rattle.std.specs.Arc.{arc_value};
 ghost use Rattle.std.specs.Mem.{manually_drop_value};
 ghost use Rattle.comm_core.specs.History.{IsLegal, has_end};
 ghost use Rattle.comm_core.specs.Tables.{IdleWhere};
 ghost use Rattle.comm_core.specs.Limits.{AreAllowed};
+ghost use Rattle.comm_core.specs.Ready.{HandsNothingIn};
+ghost use Rattle.comm_core.specs.declared.call.Call.TheVariants as call;
 ghost use Rattle.comm_core.specs.declared.entry.Entry.TheVariants.{End};
 ghost use Rattle.comm_core.specs.declared.row.Row.TheVariants as row;
-ghost use Rattle.comm_manager.specs.Asked.{IsNext, MayAsk, boxed_of, call_of};
+ghost use Rattle.comm_targets.specs.Meaning.{IsIdle};
+ghost use Rattle.comm_manager.specs.Asked.{IsNext};
 ghost use Rattle.comm_outbox.specs.Sides.{entries_of, unfilled};
 ghost use Rattle.comm_manager.specs.Kept.{Puts, counts};
 ghost use Rattle.comm_manager.specs.Mine.{IsAnswered, IsSettled};
 ghost use Rattle.comm_manager.specs.Why.{Because};
 
-use crate::change::{Made, perform};
+use crate::change::{self, Made};
 use crate::client::Client;
 use crate::journal::Journal;
 use crate::ledger::Books;
 use crate::naming::Naming;
 use crate::publisher::Publisher;
-use crate::request::Request;
 use comm_core::{
-    Core, Entry, Limits, Row, Unavailable, legal_histories_grow, rows_are_what_entries_change,
+    Call, Core, Entry, Limits, Row, Unavailable, legal_histories_grow, rows_are_what_entries_change,
 };
 use comm_outbox::Outbox;
 use comm_targets::Target;
+use comm_value::Text;
 use comm_versions::{Change, Stamp, VersionWriter};
 use std::alloc::{AllocError, Global};
 use std::marker::Model;
@@ -95,24 +98,24 @@ impl<J: Naming, T: Target> Inner<J, T> {
         self.limits.clients
     }
 
-    /// One change of a client: one entry more, at the end of the history, which stays legal, is published and goes out. Or nothing changes.
-    pub fn change<R: Wait>(
+    /// One change of a client that hands no target in: one entry more, at the end of the history, which stays legal, is published and goes out. Or
+    /// nothing changes.
+    pub fn ask<R: Wait>(
         &mut self,
         rt: &R,
         alloc: Global,
         client: &mut Client<J>,
-        request: Request<T>,
-    ) -> Result<Made<J, T>, (Unavailable<Stamp<J>>, Option<T>)>
-        requires may { MayAsk T.means request }
-        ensures answered { IfOk result (λ m. IsAnswered J.limits client.old client.new (call_of T.means request) m.answered.number m.answered.reply m.answered.stamp) }
-        ensures next { IfOk result (λ m. IsNext self.old self.new client.old.client (client.old.number + 1) (call_of T.means request) m.answered.reply) }
+        call: Call,
+    ) -> Result<Made<J, T>, Unavailable<Stamp<J>>>
+        requires { HandsNothingIn call }
+        ensures answered { IfOk result (λ m. IsAnswered J.limits client.old client.new call m.answered.number m.answered.reply m.answered.stamp) }
+        ensures next { IfOk result (λ m. IsNext self.old self.new client.old.client (client.old.number + 1) call m.answered.reply) }
         ensures history { IfOk result (λ m. self.new ≡ m.answered.stamp) }
         ensures idle { IfOk result (λ m. IdleWhere m.ended) }
         ensures err { OnErr result ((client.new ≡ client.old) × (self.new ≡ self.old)) }
-        ensures why { IfErr result (λ e. Because J.limits e.0) }
-        ensures boxed { IfErr result (λ e. option_map T.means e.1 ≡ boxed_of T.means request) }
+        ensures why { IfErr result (λ e. Because J.limits e) }
     {
-        perform(
+        change::ask(
             rt,
             alloc,
             &self.limits,
@@ -123,7 +126,41 @@ impl<J: Naming, T: Target> Inner<J, T> {
             &mut self.books,
             &mut client.reader,
             &mut client.ticket,
-            request,
+            call,
+        )
+    }
+
+    /// The same of a target that is registered. It is handed back where nothing changes.
+    pub fn register<R: Wait>(
+        &mut self,
+        rt: &R,
+        alloc: Global,
+        client: &mut Client<J>,
+        name: Text,
+        boxed: T,
+    ) -> Result<Made<J, T>, (Unavailable<Stamp<J>>, T)>
+        requires { IsIdle (T.means boxed) }
+        ensures answered { IfOk result (λ m. IsAnswered J.limits client.old client.new (call.Register name (T.means boxed).kind (T.means boxed).notes) m.answered.number m.answered.reply m.answered.stamp) }
+        ensures next { IfOk result (λ m. IsNext self.old self.new client.old.client (client.old.number + 1) (call.Register name (T.means boxed).kind (T.means boxed).notes) m.answered.reply) }
+        ensures history { IfOk result (λ m. self.new ≡ m.answered.stamp) }
+        ensures idle { IfOk result (λ m. IdleWhere m.ended) }
+        ensures err { OnErr result ((client.new ≡ client.old) × (self.new ≡ self.old)) }
+        ensures why { IfErr result (λ e. Because J.limits e.0) }
+        ensures boxed { IfErr result (λ e. T.means e.1 ≡ T.means boxed) }
+    {
+        change::register(
+            rt,
+            alloc,
+            &self.limits,
+            &mut self.core,
+            &mut self.journal,
+            &mut *self.writer,
+            &mut self.outbox,
+            &mut self.books,
+            &mut client.reader,
+            &mut client.ticket,
+            name,
+            boxed,
         )
     }
 

@@ -12,7 +12,7 @@
 //!
 //! | Of the headline | By contract | Where |
 //! |---|---|---|
-//! | *one history .. that holds each answered change once* | An answered change ends a legal front, as its last entry: the very call, the client, the next of its numbers, and the very reply. It is one more of the client's changes, which are all that the front has of that client | `answered` of the nine changes of [`Client`] (`IsAnswered`) |
+//! | *one history .. that holds each answered change once* | An answered change ends a legal front, as its last entry: the very call, the client, the next of its numbers, and the very reply. It is one more of the client's changes, which are all that the front has of that client | `answered` of the ten functions of [`Client`] that make a change (`IsAnswered`) |
 //! | | A change that isn't made leaves its client as it was, and has a reason that holds: a stamp of a whole history that is full, at least as many entries waiting as may, or want of memory | `err`, `why` there (`Because`) |
 //! | | All clients' fronts are beginnings of the one legal history, which has of each just the changes that were answered to it, and an end last | `legal`, `ended`, `settled` of [`Manager::shutdown`] (`IsSettled`) |
 //! | *every reply is that manager's own* | as above: the front is legal with that reply in it | `answered` |
@@ -156,7 +156,6 @@ mod ledger;
 mod naming;
 mod opening;
 mod publisher;
-mod request;
 mod shared;
 
 pub use answered::Answered;

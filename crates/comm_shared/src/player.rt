@@ -1,10 +1,9 @@
 //! What plays lines over a manager that threads share.
 ghost use Rattle.std.specs.Prelude.{◌≡◌, ◌<◌, ◌≤◌, ◌≢◌, vec_len, IfErr, ⊤};
-ghost use Rattle.comm_core.specs.Ready.{HandsNothingIn};
 ghost use Rattle.comm_script.specs.Command.{HandsNothing};
 
 use crate::words::{Full, append_entry, append_unavailable};
-use comm_core::{Call, Unavailable};
+use comm_core::Unavailable;
 use comm_json::LineRoom;
 use comm_manager::{Answered, Client, Manager, Naming, Publisher, ReadFault, Stamp};
 use comm_messages::{MessageFault, Outgoing, Parent};
@@ -35,33 +34,6 @@ fn read_fault(fault: ReadFault) -> RunFault
     match fault {
         ReadFault::Memory => RunFault::Memory,
         ReadFault::NoVersion => RunFault::NoReader,
-    }
-}
-
-// Makes a change for a client.
-fn change<J: Naming, T: Target, R: Wait>(
-    rt: &R,
-    manager: &Manager<J, T>,
-    client: &mut Client<J>,
-    call: Call,
-) -> Result<Answered<J>, Unavailable<Stamp<J>>>
-    requires { HandsNothingIn call }
-{
-    match call {
-        Call::Register { .. } => unreachable!(),
-        Call::Open {
-            id,
-            target,
-            version,
-            body,
-        } => client.open_comm(rt, manager, id, target, version, body),
-        Call::Msg { id, body } => client.message(rt, manager, id, body),
-        Call::Close { id } => client.close_comm(rt, manager, id),
-        Call::Unregister { name } => client.unregister(rt, manager, name),
-        Call::Launch { id, target, state } => client.launch(rt, manager, id, target, state),
-        Call::Push { id, state } => client.push(rt, manager, id, state),
-        Call::Send { id, body } => client.send(rt, manager, id, body),
-        Call::HangUp { id } => client.hang_up(rt, manager, id),
     }
 }
 
@@ -179,7 +151,7 @@ impl<J: Naming, T: Target> Player<J, T> {
         }
         match asked {
             Asked::Change(call) => {
-                let made = change(rt, manager, &mut self.clients[place], call);
+                let made = self.clients[place].ask(rt, manager, call);
                 self.note(number, made, text)
             }
             Asked::Register { kind, name } => self.register(
@@ -190,12 +162,16 @@ impl<J: Naming, T: Target> Player<J, T> {
         }
     }
 
-    /// Writes what goes out, until nothing waits.
+    /// Writes what goes out, until the last change that was made has.
     fn publish<R: Wait>(&mut self, rt: &R, text: &mut Vec<u8>) -> Result<(), RunFault>
         ensures clients { self.new.clients ≡ self.old.clients }
         ensures fault { IfErr result (λ e. e ≡ RunFault.Memory) }
     {
-        for _ in 0..u64::MAX {
+        let made = match &self.last {
+            Some(stamp) => stamp.number(),
+            None => 0,
+        };
+        for _ in self.publisher.taken()..made {
             let Some(entry) = self.publisher.take(rt) else {
                 break;
             };

@@ -1,5 +1,4 @@
 //! A client's lines, played by its own thread.
-ghost use Rattle.comm_core.specs.Ready.{HandsNothingIn};
 ghost use Rattle.comm_script.specs.Command.{HandsNothing};
 
 use crate::account::Account;
@@ -7,7 +6,7 @@ use crate::desk::Desk;
 use crate::reading::{asked_of, heard};
 use crate::script::Line;
 use crate::words::{append_history_full, append_seen};
-use comm_core::{Call, Unavailable};
+use comm_core::Unavailable;
 use comm_json::LineRoom;
 use comm_manager::{Answered, Client, Manager, Naming, ReadFault, Stamp};
 use comm_messages::{Outgoing, Parent};
@@ -41,33 +40,6 @@ fn read_fault(fault: ReadFault) -> RunFault {
     match fault {
         ReadFault::Memory => RunFault::Memory,
         ReadFault::NoVersion => RunFault::NoReader,
-    }
-}
-
-// Makes a change for a client.
-fn change<J: Naming, T: Target, R: Wait>(
-    rt: &R,
-    manager: &Manager<J, T>,
-    client: &mut Client<J>,
-    call: Call,
-) -> Result<Answered<J>, Unavailable<Stamp<J>>>
-    requires { HandsNothingIn call }
-{
-    match call {
-        Call::Register { .. } => unreachable!(),
-        Call::Open {
-            id,
-            target,
-            version,
-            body,
-        } => client.open_comm(rt, manager, id, target, version, body),
-        Call::Msg { id, body } => client.message(rt, manager, id, body),
-        Call::Close { id } => client.close_comm(rt, manager, id),
-        Call::Unregister { name } => client.unregister(rt, manager, name),
-        Call::Launch { id, target, state } => client.launch(rt, manager, id, target, state),
-        Call::Push { id, state } => client.push(rt, manager, id, state),
-        Call::Send { id, body } => client.send(rt, manager, id, body),
-        Call::HangUp { id } => client.hang_up(rt, manager, id),
     }
 }
 
@@ -203,7 +175,7 @@ impl<J: Naming> Player<J> {
         match asked {
             Asked::Change(call) => {
                 let call = call.copy(desk.alloc)?;
-                let made = change(rt, manager, &mut self.client, call);
+                let made = self.client.ask(rt, manager, call);
                 self.tell(rt, desk, line, made, said)
             }
             Asked::Register { kind, name } => {

@@ -3,7 +3,7 @@ ghost use Rattle.comm_targets.specs.Meaning.{IsIdle};
 
 use crate::tests::named::{Play, named};
 use crate::tests::turns::{
-    closes, hangs_up, launches, lists, opens, pushes, reads, registers, says, sends, unregisters,
+    asks_to_close, closes, hangs_up, launches, lists, opens, pushes, reads, registers, says, sends, unregisters,
 };
 use crate::tests::words::{Told, Wrong, empty, holds, limits, valued};
 use comm_manager::{Client, Manager, Naming};
@@ -74,7 +74,8 @@ fn asked<J: Naming, T: Target, R: Wait>(
     holds(said == Told::NoComm(8))?;
     holds(closes(rt, alloc, manager, client, "a")? == Told::NoComm(9))?;
     holds(lists(alloc, client)? == (9, 0))?;
-    holds(unregisters(rt, alloc, manager, client, "w")? == Told::Unregistered(10))
+    holds(unregisters(rt, alloc, manager, client, "w")? == Told::Unregistered(10))?;
+    holds(asks_to_close(rt, alloc, manager, client, "a")? == Told::NoComm(11))
 }
 
 // The whole tour, for the last client of two.

@@ -3,6 +3,7 @@
 ghost use Rattle.comm_targets.specs.Meaning.{IsIdle};
 
 use crate::tests::words::{Told, Wrong, answer, stamped, value_of};
+use comm_core::Call;
 use comm_manager::{Client, Manager, Naming, Stamp};
 use comm_messages::Body;
 use comm_targets::Target;
@@ -93,6 +94,18 @@ pub fn closes<J: Naming, T: Target, R: Wait>(
 ) -> Result<Told, Wrong> {
     let id = Text::copy_of(alloc, id)?;
     Ok(answer(client.close_comm(rt, manager, id)))
+}
+
+/// The same, as a call of the client's.
+pub fn asks_to_close<J: Naming, T: Target, R: Wait>(
+    rt: &R,
+    alloc: Global,
+    manager: &Manager<J, T>,
+    client: &mut Client<J>,
+    id: &str,
+) -> Result<Told, Wrong> {
+    let id = Text::copy_of(alloc, id)?;
+    Ok(answer(client.ask(rt, manager, Call::Close { id })))
 }
 
 pub fn launches<J: Naming, T: Target, R: Wait>(

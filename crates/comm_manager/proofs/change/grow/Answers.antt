@@ -1,4 +1,4 @@
-use Rattle.std.proofs.Common.{◌≡◌, ◌++◌, ◌∷◌, [], List, ap, sym, ◌∙◌}
+use Rattle.std.proofs.Common.{◌≡◌, ℕ, ◌+◌, ◌++◌, ◌∷◌, [], List, ap, sym, ◌∙◌}
 use Rattle.std.specs.Arc.{arc_value}
 use Rattle.comm_core.specs.History.{replay}
 use Rattle.comm_core.specs.Machine.{Machine}
@@ -14,11 +14,15 @@ pub append-requires-clause-row : goal.append-requires-clause-row
 append-requires-clause-row g c =
     let limits = g.J.History.limits in
     let r = c.args.begun.now in
+    let t = c.args.ticket.now in
     let es = c.args.writer.now.front ++ c.args.writer.now.pending in
-    let e = entry_of c.args.who.0 c.args.who.1 r in
+    let e = entry_of t.client (t.number + 1) r in
     let m = replay limits.comms es in
+    let client : c.client-client.result ≡ t.client = c.client-client.ensures in
+    let number : c.number-number.result ≡ t.number = c.number-number.ensures in
     let row : c.new.result.row ≡ row_of m e =
     c.new.ensures.row ∙ c.in_ok-row.ensures c.requires.ready.0 c.requires.ready.1 c.requires.call ∙ ap (λ (k : Machine). row_in k r.call r.outcome r.reply) c.requires.ready.2 in
+    let is_entry : arc_value c.new.result.entry ≡ e =
+    ap arc_value c.new.ensures.entry ∙ c.in_ok-entry.ensures ∙ ap (λ (x : ℕ × ℕ × Call). Change x.0 (x.1 + 1) x.2 r.outcome r.reply r.outgoing) (λ i. (client i, number i, c.requires.call i)) in
     ap (λ (k : Row). with_row k (rows m)) row
-    ∙ (c.rows_are_what_entries_change.ensures limits.clients limits.comms es e c.requires.legal
-    ∙ ap (λ (k : Entry). rows (replay limits.comms (es ++ k ∷ []))) (sym (ap arc_value c.new.ensures.entry ∙ c.in_ok-entry.ensures ∙ ap (λ (k : Call). Change c.args.who.0 c.args.who.1 k r.outcome r.reply r.outgoing) c.requires.call)))
+    ∙ (c.rows_are_what_entries_change.ensures limits.clients limits.comms es e c.requires.legal ∙ ap (λ (k : Entry). rows (replay limits.comms (es ++ k ∷ []))) (sym is_entry))
