@@ -222,9 +222,7 @@ pub fn ask<J: Naming, T: Target, R: Wait>(
 {
     replays_grow();
     legal_histories_grow();
-    if let Err(why) = admit(
-        rt, limits, journal, writer, outbox, books, reader, ticket,
-    ) {
+    if let Err(why) = admit(rt, limits, journal, writer, outbox, books, reader, ticket) {
         drop(call);
         return Err(why);
     }
@@ -295,9 +293,7 @@ pub fn register<J: Naming, T: Target, R: Wait>(
 {
     replays_grow();
     legal_histories_grow();
-    if let Err(why) = admit(
-        rt, limits, journal, writer, outbox, books, reader, ticket,
-    ) {
+    if let Err(why) = admit(rt, limits, journal, writer, outbox, books, reader, ticket) {
         drop(name);
         return Err((why, boxed));
     }

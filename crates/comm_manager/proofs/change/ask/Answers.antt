@@ -1,10 +1,10 @@
-use Rattle.std.proofs.Common.{◌≡◌, ◌+◌, ◌++◌, ◌∷◌, [], ◌<◌, List, Some, length, ap, sym, subst, ◌∙◌, arith}
+use Rattle.std.proofs.Common.{◌+◌, ◌++◌, ◌∷◌, [], ◌<◌, List, Some, length, ap, sym, subst, ◌∙◌, arith}
 use Rattle.comm_messages.specs.declared.outgoing.Outgoing.{Outgoing}
 use Rattle.comm_core.specs.Ready.{machine}
 use Rattle.comm_core.specs.declared.entry.Entry.{Entry}
 use Rattle.comm_core.specs.declared.reply.Reply.{Reply}
 use Rattle.comm_manager.specs.Tally.{Tally, tally}
-use Rattle.comm_manager.proofs.Growing.{admitted, count_is, small, may_follow, after_front, kept_after}
+use Rattle.comm_manager.proofs.Growing.{admitted, count_is, small, may_follow, kept_after}
 use Rattle.comm_manager.proofs.change.ask.Goals as goal
 
 pub grow-requires-clause-number : goal.grow-requires-clause-number

@@ -1,6 +1,5 @@
 use Rattle.std.proofs.Common.{◌≡◌, ◌++◌, ◌∷◌, [], List, ap, sym, subst, ◌∙◌}
 use Rattle.std.proofs.lemmas.List.{append-nil}
-use Rattle.std.specs.Arc.{arc_value}
 use Rattle.comm_core.specs.History.{IsLegal, replay}
 use Rattle.comm_core.specs.Row.{rows, with_row}
 use Rattle.comm_core.specs.declared.entry.Entry.{Entry}

@@ -1,8 +1,7 @@
-use Rattle.std.proofs.Common.{◌≡◌, ◌++◌, ◌∷◌, [], List, ap, sym, subst, ◌∙◌}
+use Rattle.std.proofs.Common.{List, ap, sym, subst, ◌∙◌}
 use Rattle.std.specs.Prelude.{All}
 use Rattle.comm_core.specs.History.{has_end}
 use Rattle.comm_core.specs.declared.entry.Entry.{Entry}
-use Rattle.comm_core.specs.declared.entry.Entry.TheVariants.{End}
 use Rattle.comm_manager.specs.Kept.{counts}
 use Rattle.comm_manager.specs.Mine.{IsSettled}
 use Rattle.comm_manager.specs.Who.{Who}
