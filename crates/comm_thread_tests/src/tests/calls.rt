@@ -3,7 +3,8 @@ ghost use Rattle.comm_targets.specs.Meaning.{IsIdle};
 
 use crate::tests::named::{Play, named};
 use crate::tests::turns::{
-    asks_to_close, closes, hangs_up, launches, lists, opens, pushes, reads, registers, says, sends, unregisters,
+    asks_to_close, closes, hangs_up, launches, lists, opens, pushes, reads, registers, says, sends,
+    unregisters,
 };
 use crate::tests::words::{Told, Wrong, empty, holds, limits, valued};
 use comm_manager::{Client, Manager, Naming};
