@@ -5,7 +5,7 @@ pub enum Kind {
     Echo,
     /// Answers each message with how many came.
     Counter,
-    /// Keeps the state of a Jupyter widget ('Jupyter widgets messaging protocol' 2.0.0).
+    /// Keeps the state of a Jupyter widget ('Jupyter widgets messaging protocol' 2.1.0).
     Widget,
     /// The same, and repeats to the frontends what a frontend's update brought ('Jupyter widgets messaging protocol' 2.1.0, `echo_update`).
     WidgetEcho,
