@@ -1,9 +1,12 @@
 -- The program: what it plays within, what it has in stock, and its exit status.
-use Rattle.std.specs.Prelude.{ℕ, List, [], ◌∷◌, Result, Ok, Err, ⊤}
+use Rattle.std.specs.Prelude.{ℕ, List, [], ◌∷◌, Option, Some, None, if◌then◌else◌, codes, Result, Ok, Err, ⊤}
+use Rattle.std.specs.Str.{bytes_eq}
 use Rattle.comm_targets.specs.declared.kind.Kind.{Kind}
 use Rattle.comm_targets.specs.declared.kind.Kind.TheVariants.{Echo, Counter, Widget, WidgetEcho}
 use Rattle.comm_core.specs.declared.limits.Limits.{Limits}
 use Rattle.comm_core.specs.Machine.{Registered}
+use Rattle.comm_driver.specs.declared.Over.{Over}
+use Rattle.comm_driver.specs.declared.Over.TheVariants.{OneThread, Shared}
 use Rattle.comm_script.specs.declared.fault.RunFault.{RunFault}
 use Rattle.comm_script.specs.declared.fault.RunFault.TheVariants.{Read, Write, Memory, BadLimits, NoReader}
 
@@ -28,3 +31,9 @@ status_of (Err Write) = 1
 status_of (Err Memory) = 2
 status_of (Err BadLimits) = 2
 status_of (Err NoReader) = 2
+
+-- no argument asks for the manager of one thread, the one word 'shared' for the one that threads share; nothing else asks for any
+abbrev pub over_of : List (List ℕ) → Option Over
+over_of [] = Some OneThread
+over_of (word ∷ []) = if bytes_eq word (codes "shared") then Some Shared else None
+over_of words = None

@@ -1,16 +1,18 @@
 // Plays a script of comm messages and commands, over a manager of one thread or over one that threads share.
 #![tactic(auto)]
 
-ghost use Rattle.std.specs.Prelude.{◌≡◌, OnOk, IfSome};
+ghost use Rattle.std.specs.Prelude.{◌≡◌, ◌≢◌, OnOk, IfErr, IfSome, map, string_bytes};
+ghost use Rattle.std.specs.Vec.Iter.{into_iter_items};
 ghost use Rattle.std.specs.Io.KnownBytes.{Appends};
 ghost use Rattle.comm_script.specs.Played.{played};
-ghost use Rattle.comm_driver.specs.Program.{program_limits, program_stock, status_of};
+ghost use Rattle.comm_driver.specs.Program.{over_of, program_limits, program_stock, status_of};
 
 use comm_core::Limits;
 use comm_script::{RunFault, add, run_with};
 use comm_shared::run_shared_with;
 use comm_targets::{Counter, Echo, Target};
 use std::alloc::Global;
+use std::env::Args;
 use std::io::{Read, Write};
 use std::process::ExitCode;
 use std::sync::Wait;
@@ -32,7 +34,7 @@ enum Over {
     Shared,
 }
 
-/// Plays a script with two targets of each kind in stock.
+/// Plays a script with the program's limits, and two targets of each kind in stock.
 fn play<R: Read, W: Write, H: Wait>(
     rt: &H,
     alloc: Global,
@@ -40,8 +42,9 @@ fn play<R: Read, W: Write, H: Wait>(
     reader: &mut R,
     writer: &mut W,
 ) -> Result<(), RunFault>
-    ensures { over ≡ Over.OneThread → OnOk result (IfSome (R.remaining reader.old) (λ input.
+    ensures one_thread { over ≡ Over.OneThread → OnOk result (IfSome (R.remaining reader.old) (λ input.
         Appends (W.contents writer.old) (W.contents writer.new) (played program_limits program_stock input))) }
+    ensures limits { IfErr result (λ e. e ≢ RunFault.BadLimits) }
 {
     let mut stock = Vec::new(alloc);
     let echo: Box<dyn Target> = Box::new(alloc, Echo::new(alloc))?;
@@ -79,9 +82,9 @@ fn status(end: Result<(), RunFault>) -> u8
 }
 
 /// What the arguments ask for: none, or the one word `shared`.
-fn asked(rt: &HostRuntime) -> Option<Over> {
-    let mut words = env::args(rt).ok()?;
-    let _program = words.next();
+fn over_of(mut words: Args) -> Option<Over>
+    ensures { result ≡ over_of (map string_bytes (into_iter_items words)) }
+{
     let Some(word) = words.next() else {
         return Some(Over::OneThread);
     };
@@ -90,6 +93,13 @@ fn asked(rt: &HostRuntime) -> Option<Over> {
     } else {
         None
     }
+}
+
+/// What the program is asked for. The first argument is its own name.
+fn asked(rt: &HostRuntime) -> Option<Over> {
+    let mut words = env::args(rt).ok()?;
+    let _name = words.next();
+    over_of(words)
 }
 
 /// Plays standard input to standard output; the exit status is 3 for any argument but the one word `shared`.

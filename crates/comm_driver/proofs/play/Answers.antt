@@ -1,4 +1,4 @@
-use Rattle.std.proofs.Common.{rules, ◌≡◌, ℕ, List, [], ◌∷◌, ◌++◌, map, Option, refl, ap, sym, subst, ◌∙◌}
+use Rattle.std.proofs.Common.{◌≡◌, ℕ, List, [], ◌∷◌, ◌++◌, map, Option, refl, ap, subst, ◌∙◌}
 use Rattle.std.specs.Prelude.{Result, ⊤, OnOk, IfSome}
 use Rattle.std.specs.Io.KnownBytes.{Appends}
 use Rattle.comm_targets.specs.Meaning.{Meaning}
@@ -32,8 +32,8 @@ with_stock : (r : Result ⊤ RunFault) (left before now : Option (List ℕ)) (st
 with_stock r left before now stock is h = subst (λ (s : List Registered). OnOk r (IfSome left (λ input. Appends before now (played program_limits s input)))) is h
 
 -- what a box tells of itself is what its target tells
-pub returns-in-OneThread : goal.returns-in-OneThread
-returns-in-OneThread g c =
+pub returns-in-OneThread-clause-one_thread : goal.returns-in-OneThread-clause-one_thread
+returns-in-OneThread-clause-one_thread g c =
     λ one. with_stock c.run_with.result (g.R.Read.remaining c.args.reader.now) (g.W.Write.contents c.args.writer.now) _ _
     (one_more _ _ _ _ _ WidgetEcho c.in_ok-add-8.ensures.added
     (read_made own.own-1 _ own.at-1-3 refl Registered (λ j v. registered_of (j.1.means v)) c.into_dyn_box-in_ok-new-8.result.vtable c.into_dyn_box-in_ok-new-8.result.value _ c.into_dyn_box-in_ok-new-8.ensures.1
