@@ -45,18 +45,13 @@ impl Log {
         }
     }
 
-    fn push_text(&self, text: &str) {
-        for byte in text.as_bytes() {
-            self.push(*byte);
-        }
-    }
-
-    /// Writes whose note it is, a word, a comm's id, and a blank.
+    /// Writes a blank, whose note it is, a word, and a comm's id.
     pub fn note(&self, whose: &str, word: &str, id: &str) {
-        self.push_text(whose);
-        self.push_text(word);
-        self.push_text(id);
-        self.push(b' ');
+        for part in [" ", whose, word, id] {
+            for byte in part.as_bytes() {
+                self.push(*byte);
+            }
+        }
     }
 
     /// Appends what was written, and begins anew.
