@@ -114,14 +114,7 @@ pub fn append_entry(alloc: Global, entry: &Entry, text: &mut Vec<u8>) -> Result<
         client: *client,
         number: *number,
     };
-    append_answer(
-        alloc,
-        *number,
-        &parent,
-        reply,
-        outgoing.as_slice(),
-        text,
-    )
+    append_answer(alloc, *number, &parent, reply, outgoing.as_slice(), text)
 }
 
 fn append_stated(

@@ -1,5 +1,5 @@
 //! Tables of texts.
-use crate::same::same;
+use crate::differing::same;
 use crate::wrong::Wrong;
 use std::alloc::Global;
 use std::io::Eprint;

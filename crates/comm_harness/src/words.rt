@@ -24,7 +24,11 @@ pub fn append_buffers(
 ) -> Result<(), AllocError> {
     for buffer in buffers.as_slice() {
         let digits = hex::encode(alloc, buffer.as_slice())?;
-        let word = if digits.is_empty() { "-" } else { digits.as_str() };
+        let word = if digits.is_empty() {
+            "-"
+        } else {
+            digits.as_str()
+        };
         append_words(&["", word], text)?;
     }
     Ok(())
