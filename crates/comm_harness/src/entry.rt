@@ -2,7 +2,7 @@
 use crate::answer::append_answer;
 use crate::words::{append_body, append_custom, append_state, append_words};
 use comm_core::{Call, Entry, Row};
-use comm_messages::Parent;
+use comm_messages::{Body, Parent};
 use comm_targets::{Answer, TargetFault};
 use comm_value::{Dict, Text};
 use std::alloc::{AllocError, Global};
@@ -12,6 +12,25 @@ fn or_dash(version: &Option<Text>) -> &str {
         Some(version) => version.as_str(),
         None => "-",
     }
+}
+
+// A word, a comm's id, and a body.
+fn append_sent(
+    alloc: Global,
+    word: &str,
+    id: &Text,
+    body: &Body,
+    text: &mut Vec<u8>,
+) -> Result<(), AllocError> {
+    append_words(&[word, id.as_str()], text)?;
+    append_body(alloc, body, text)
+}
+
+// Words, and a state.
+fn append_named(words: &[&str], state: &Dict, text: &mut Vec<u8>) -> Result<(), AllocError> {
+    append_words(words, text)?;
+    text.push(b' ')?;
+    state.write_json(text)
 }
 
 /// The line of a call, as `call_of` reads it; a register is `register NAME KIND NOTES`.
@@ -27,29 +46,17 @@ pub fn append_call(alloc: Global, call: &Call, text: &mut Vec<u8>) -> Result<(),
             version,
             body,
         } => {
-            append_words(
-                &["open", id.as_str(), target.as_str(), or_dash(version)],
-                text,
-            )?;
+            let words = &["open", id.as_str(), target.as_str(), or_dash(version)];
+            append_words(words, text)?;
             append_body(alloc, body, text)
         }
-        Call::Msg { id, body } => {
-            append_words(&["msg", id.as_str()], text)?;
-            append_body(alloc, body, text)
-        }
-        Call::Send { id, body } => {
-            append_words(&["send", id.as_str()], text)?;
-            append_body(alloc, body, text)
-        }
+        Call::Msg { id, body } => append_sent(alloc, "msg", id, body, text),
+        Call::Send { id, body } => append_sent(alloc, "send", id, body, text),
         Call::Launch { id, target, state } => {
             let id = format!(in alloc; "{id}")?;
-            append_words(&["launch", id.as_str(), target.as_str(), ""], text)?;
-            state.write_json(text)
+            append_named(&["launch", id.as_str(), target.as_str()], state, text)
         }
-        Call::Push { id, state } => {
-            append_words(&["push", id.as_str(), ""], text)?;
-            state.write_json(text)
-        }
+        Call::Push { id, state } => append_named(&["push", id.as_str()], state, text),
         Call::Close { id } => append_words(&["close", id.as_str()], text),
         Call::HangUp { id } => append_words(&["hang_up", id.as_str()], text),
         Call::Unregister { name } => append_words(&["unregister", name.as_str()], text),

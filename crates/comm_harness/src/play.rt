@@ -2,6 +2,7 @@
 ghost use Rattle.std.specs.Prelude.{◌≡◌, true, IfOk, OnErr};
 ghost use Rattle.comm_targets.specs.Meaning.{IsIdle};
 ghost use Rattle.comm_core.specs.Ready.{IsReady};
+ghost use Rattle.comm_core.specs.Tables.{IdleWhere};
 
 use crate::answer::append_answer;
 use crate::call::{call_of, cut};
@@ -99,20 +100,20 @@ fn readied<T: Target>(
     }
 }
 
-// The change that stands ready, and the end of a target that it takes out.
-fn made<T: Target>(core: &mut Core<T>, ready: Ready<T>) -> (Reply, Vec<Outgoing>)
-    requires ready { IsReady core.old ready }
-    ensures { core.new.settled ≡ true }
+// What a change gives is let go, and a target that it took out ends.
+fn let_go<T: Target>(finished: Finished<T>)
+    requires { IdleWhere finished.ended }
 {
     let Finished {
         reply,
         outgoing,
         ended,
-    } = core.finish(ready);
+    } = finished;
     if let Some(held) = ended {
         held.end();
     }
-    (reply, outgoing)
+    drop(reply);
+    drop(outgoing);
 }
 
 fn step<T: Target>(
@@ -148,25 +149,6 @@ fn register<T: Target>(
     let Ok((reply, outgoing)) = core.register(name, target) else {
         return Err(Wrong("no memory where none is refused"));
     };
-    let done = play.answered(alloc, &reply, &outgoing, text);
-    drop(reply);
-    drop(outgoing);
-    done
-}
-
-// Readies a change and makes it.
-fn finish<T: Target>(
-    alloc: Global,
-    core: &mut Core<T>,
-    play: &mut Play<T>,
-    line: &str,
-    text: &mut Vec<u8>,
-) -> Result<(), Wrong>
-    requires settled { core.old.settled ≡ true }
-    ensures { core.new.settled ≡ true }
-{
-    let ready = readied(alloc, core, play, line)?;
-    let (reply, outgoing) = made(core, ready);
     let done = play.answered(alloc, &reply, &outgoing, text);
     drop(reply);
     drop(outgoing);
@@ -216,14 +198,22 @@ fn tell<T: Target>(
     let ready = readied(alloc, core, play, line)?;
     let entry = ready.entry(alloc, 2, 9);
     let row = ready.row(alloc);
-    let (reply, outgoing) = made(core, ready);
-    drop(reply);
-    drop(outgoing);
+    let_go(core.finish(ready));
     play.place = play.place.saturating_add(1);
     append_told(alloc, entry, row, text)
 }
 
-// The same of a call that is spent, once it was readied and taken back.
+// Readies a call that is spent, and takes it back.
+fn try_spent<T: Target>(alloc: Global, core: &mut Core<T>, line: &str) -> Result<(), Wrong>
+    requires settled { core.old.settled ≡ true }
+    ensures { core.new.settled ≡ true }
+{
+    let begun = core.begin_spent(call_of(alloc, line)?)?;
+    let back = core.withdraw_begun(begun);
+    holds(back.is_none(), "a target comes back that nobody handed in")
+}
+
+// What `tell` does, of a call that is spent, once it was readied and taken back.
 fn spend<T: Target>(
     alloc: Global,
     core: &mut Core<T>,
@@ -233,64 +223,57 @@ fn spend<T: Target>(
     requires settled { core.old.settled ≡ true }
     ensures { core.new.settled ≡ true }
 {
-    let call = call_of(alloc, line)?;
-    let begun = core.begin_spent(call)?;
-    if core.withdraw_begun(begun).is_some() {
-        return Err(Wrong("a target came back that nobody handed in"));
-    }
+    try_spent(alloc, core, line)?;
     let call = call_of(alloc, line)?;
     let kept = call.copy(alloc)?;
     let begun = core.begin_spent(call)?;
     let row = begun.row(alloc, &kept);
     let entry = begun.entry(alloc, 2, 9, kept);
-    let Finished {
-        reply,
-        outgoing,
-        ended,
-    } = core.finish_begun(begun);
-    if let Some(held) = ended {
-        held.end();
-    }
-    drop((reply, outgoing));
+    let_go(core.finish_begun(begun));
     append_told(alloc, entry, row, text)
 }
 
-// A read of client 2. Tells whether it is one.
-fn is_read<T: Target>(
+fn read_state<T: Target>(
+    alloc: Global,
+    core: &Core<T>,
+    front: u64,
+    id: &str,
+    text: &mut Vec<u8>,
+) -> Result<(), Wrong> {
+    let id = Text::copy_of(alloc, id)?;
+    let state = core.state(&id)?;
+    let done = append_state_line(alloc, front, &state, text);
+    drop(state);
+    Ok(done?)
+}
+
+// The comms that client 2 is told: of all targets, or, where the word ends in `_of`, of this one.
+fn read_comms<T: Target>(
     alloc: Global,
     core: &mut Core<T>,
     front: u64,
     line: &str,
     text: &mut Vec<u8>,
-) -> Result<bool, Wrong>
+) -> Result<(), Wrong>
     requires settled { core.old.settled ≡ true }
     ensures { core.new.settled ≡ true }
 {
     let (word, name) = cut(line);
     let name = Text::copy_of(alloc, name)?;
-    let comms = if word == "state" {
-        let state = core.state(&name)?;
-        let done = append_state_line(alloc, front, &state, text);
-        drop(state);
-        done?;
-        return Ok(true);
-    } else if word == "infos" {
-        core.infos(None)?
-    } else if word == "infos_of" {
-        core.infos(Some(&name))?
-    } else if word == "listing" {
-        core.listing(None)?
-    } else if word == "listing_of" {
-        core.listing(Some(&name))?
+    let of = if word.ends_with("_of") {
+        Some(&name)
     } else {
-        return Ok(false);
+        None
     };
-    let parent = Parent::Read { client: 2, front };
+    let comms = if word.starts_with("listing") {
+        core.listing(of)?
+    } else {
+        core.infos(of)?
+    };
     let reply = Outgoing::InfoReply { comms };
-    let done = append_out(alloc, &reply, &parent, text);
+    let done = append_out(alloc, &reply, &Parent::Read { client: 2, front }, text);
     drop(reply);
-    done?;
-    Ok(true)
+    Ok(done?)
 }
 
 fn append_log(log: &Log, text: &mut Vec<u8>) -> Result<(), AllocError> {
@@ -301,9 +284,8 @@ fn append_log(log: &Log, text: &mut Vec<u8>) -> Result<(), AllocError> {
 
 /// Appends what comes of a line over a manager: a call's (`call_of`), which is one step, or
 ///
-/// - `register NAME`, of the next target; `finish LINE` makes the change of a call or a register in two steps, and
-///   `withdraw LINE` takes it back
-/// - `tell LINE`, which makes it and tells its entry and its row, and `spend LINE`, which does so of a call that
+/// - `register NAME`, of the next target, and `withdraw LINE`, which readies a call or a register and takes it back
+/// - `tell LINE`, which readies it, tells its entry and its row, and makes it; `spend LINE` does so of a call that
 ///   isn't kept
 /// - `state ID`, `infos`, `infos_of NAME`, `listing` and `listing_of NAME`
 /// - `log`, what targets noted since the last one
@@ -320,8 +302,6 @@ pub fn play_line<T: Target>(
     let (word, rest) = cut(line);
     if word == "register" {
         register(alloc, core, play, rest, text)
-    } else if word == "finish" {
-        finish(alloc, core, play, rest, text)
     } else if word == "withdraw" {
         withdraw(alloc, core, play, rest, text)
     } else if word == "tell" {
@@ -331,8 +311,10 @@ pub fn play_line<T: Target>(
         spend(alloc, core, rest, text)
     } else if word == "log" {
         Ok(append_log(&play.log, text)?)
-    } else if is_read(alloc, core, play.place, line, text)? {
-        Ok(())
+    } else if word == "state" {
+        read_state(alloc, core, play.place, rest, text)
+    } else if word.starts_with("infos") || word.starts_with("listing") {
+        read_comms(alloc, core, play.place, line, text)
     } else {
         step(alloc, core, play, line, text)
     }

@@ -23,7 +23,7 @@ open deaf t - {"n":1}
 msg deaf {"code":8}
 open b t - {"n":1}
 log
-finish msg b {"n":1}
+tell msg b {"n":1}
 log
 open c t - {"n":1}
 close b
@@ -55,7 +55,9 @@ reply 10 opened
 reply 11 fault other 8
 reply 12 opened
 log open:a open:a commit message:a commit open:deaf commit message:deaf open:b commit
-reply 13 delivered
+entry 2 9 msg b {"n":1}
+reply 9 delivered
+row same
 log message:b commit
 reply 14 refused too_many_comms
 out {"buffers":[],"call":14,"client":0,"content":{"comm_id":"c","data":{}},"header":{"msg_type":"comm_close"},"metadata":{}}

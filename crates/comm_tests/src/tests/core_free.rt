@@ -240,7 +240,7 @@ state a
 msg a {"n":1}
 msg a {"now":true}
 open b t - {"state":{"s":2}}
-finish msg b {"now":true}
+tell msg b {"now":true}
 state b
 msg a {"now":true}
 msg b {"code":3}
@@ -261,8 +261,12 @@ reply 6 delivered
 reply 7 delivered
 out {"buffers":[],"call":7,"client":0,"content":{"comm_id":"a","data":{"now":{"s":1}}},"header":{"msg_type":"comm_msg"},"metadata":{}}
 reply 8 opened
+entry 2 9 msg b {"now":true}
+given state {"s":2} []
+given message {"now":{"s":2}}
 reply 9 delivered
-out {"buffers":[],"call":9,"client":0,"content":{"comm_id":"b","data":{"now":{"s":2}}},"header":{"msg_type":"comm_msg"},"metadata":{}}
+out {"buffers":[],"call":9,"client":2,"content":{"comm_id":"b","data":{"now":{"s":2}}},"header":{"msg_type":"comm_msg"},"metadata":{}}
+row put b t {"s":2} []
 state 9 {"buffer_paths":[],"buffers":[],"state":{"s":2}}
 reply 10 delivered
 out {"buffers":[],"call":10,"client":0,"content":{"comm_id":"a","data":{"now":{"s":1}}},"header":{"msg_type":"comm_msg"},"metadata":{}}

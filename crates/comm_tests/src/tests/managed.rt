@@ -1,6 +1,6 @@
 //! Tables of lines that are played over a manager of boxed targets.
 use comm_harness::{Log, Play, Row, ToldTarget, Wrong, is_wanted, played};
-use comm_targets::{Counter, Echo, Latest, Target};
+use comm_targets::{Counter, Echo, Target};
 use std::alloc::Global;
 use std::process::Abort;
 use std::test::Fail;
@@ -15,50 +15,41 @@ pub(super) struct Scene {
     pub row: Row,
 }
 
-fn add<T: Target + 'static>(
-    alloc: Global,
-    target: T,
-    stock: &mut Vec<Box<dyn Target>>,
-) -> Result<(), Wrong> {
-    let target: Box<dyn Target> = Box::new(alloc, target)?;
-    stock.push(target)?;
-    Ok(())
-}
-
-fn add_named(
+// Adds the target of this name.
+fn add(
     alloc: Global,
     name: &str,
     log: &Log,
     stock: &mut Vec<Box<dyn Target>>,
 ) -> Result<(), Wrong> {
-    if name == "told" {
-        add(alloc, ToldTarget::with_log(alloc, "", log.share()?), stock)
-    } else if name == "next" {
-        add(
-            alloc,
-            ToldTarget::with_log(alloc, "next.", log.share()?),
-            stock,
-        )
+    if name == "told" || name == "next" {
+        let whose = if name == "next" { "next." } else { "" };
+        let told = ToldTarget::with_log(alloc, whose, log.share()?);
+        let target: Box<dyn Target> = Box::new(alloc, told)?;
+        stock.push(target)?;
     } else if name == "echo" {
-        add(alloc, Echo::new(alloc), stock)
+        let target: Box<dyn Target> = Box::new(alloc, Echo::new(alloc))?;
+        stock.push(target)?;
     } else if name == "counter" {
-        add(alloc, Counter::new(alloc), stock)
-    } else if name == "latest" {
-        add(alloc, Latest::new(alloc), stock)
+        let target: Box<dyn Target> = Box::new(alloc, Counter::new(alloc))?;
+        stock.push(target)?;
     } else if name == "widget" {
-        add(alloc, WidgetTarget::new(alloc), stock)
+        let target: Box<dyn Target> = Box::new(alloc, WidgetTarget::new(alloc))?;
+        stock.push(target)?;
     } else if name == "widget_echo" {
-        add(alloc, WidgetTarget::with_echo(alloc), stock)
+        let target: Box<dyn Target> = Box::new(alloc, WidgetTarget::with_echo(alloc))?;
+        stock.push(target)?;
     } else {
-        Err(Wrong("no target of this name"))
+        return Err(Wrong("no target of this name"));
     }
+    Ok(())
 }
 
 fn text_of(alloc: Global, scene: &Scene, names: &str) -> Result<Vec<u8>, Wrong> {
     let log = Log::new(alloc)?;
     let mut stock: Vec<Box<dyn Target>> = Vec::new(alloc);
     for name in names.split(' ') {
-        add_named(alloc, name, &log, &mut stock)?;
+        add(alloc, name, &log, &mut stock)?;
     }
     let play = Play {
         stock,

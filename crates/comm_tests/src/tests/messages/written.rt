@@ -18,14 +18,17 @@ fn outgoing_of(alloc: Global, line: &str) -> Result<Outgoing, Wrong>
         Call::Open {
             id,
             target,
-            version: Some(version),
-            body,
-        } => Ok(Outgoing::Open {
-            id,
-            target,
             version,
             body,
-        }),
+        } => match version {
+            Some(version) => Ok(Outgoing::Open {
+                id,
+                target,
+                version,
+                body,
+            }),
+            None => Err(Wrong("no version")),
+        },
         Call::Msg { id, body } => Ok(Outgoing::Msg { id, body }),
         Call::Close { id } => Ok(Outgoing::Close { id }),
         _ => Err(Wrong("no message")),
