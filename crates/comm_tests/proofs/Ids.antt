@@ -5,11 +5,6 @@ use Rattle.std.specs.Str.{bytes_eq}
 use Rattle.comm_messages.specs.Content.{Content}
 use Rattle.comm_targets.specs.Meaning.{Meaning, has_id, without, is_message, notes_after, ids_after, after_prepare, after_commit}
 use Rattle.comm_targets.specs.declared.staged_event.StagedEvent.{StagedEvent}
-use Rattle.comm_targets.specs.declared.kind.Kind.{Kind}
-use Rattle.comm_targets.specs.declared.kind.Kind.TheVariants.{Echo, Counter, Widget, WidgetEcho, Free}
-use Rattle.comm_value.specs.Tree.{Members}
-use Rattle.comm_tests.specs.After.{after}
-use Rattle.comm_tests.specs.Fresh.{with_ids}
 use Rattle.comm_targets.specs.declared.answer.Answer.{Answer}
 use Rattle.comm_targets.specs.declared.event.Event.{Event}
 use Rattle.comm_targets.specs.declared.event.Event.TheVariants.{Open, Msg, Launch, Push}
@@ -42,22 +37,3 @@ ids_now old new e a c =
 
 pub told : (old new : Meaning) (e : Event) (a : Answer) → Commits old new e a → is_message e ≡ true → new.ids ≡ old.ids
 told old new e a c said = ids_now old new e a c ∙ ids_after-message old.ids e said
-
-pub committed : (old new : Meaning) (e : Event) (a : Answer) → Commits old new e a → new ≡ after old e
-committed old new e a c =
-    let s : StagedEvent = record { event = e; answer = a } in
-    c.2 s (ap (λ m. m.staged) c.1) ∙ ap (λ m. after_commit m s) c.1
-
--- a launch is no message
-uncounted : (kind : Kind) (id : List ℕ) (state : Members) → notes_after kind 0 (Launch id state) ≡ 0
-uncounted Echo id state = refl
-uncounted Counter id state = refl
-uncounted Widget id state = refl
-uncounted WidgetEcho id state = refl
-uncounted Free id state = refl
-
-pub launched : (old : Meaning) (id name : List ℕ) (state : Members) → old ≡ with_ids old.kind [] → id ≡ name → after old (Launch id state) ≡ with_ids old.kind (name ∷ [])
-launched old id name state fresh named =
-    ap (λ m. after m (Launch id state)) fresh
-    ∙ ap (λ n. record { kind = old.kind; notes = n; ids = id ∷ []; staged = None }) (uncounted old.kind id state)
-    ∙ ap (λ i. with_ids old.kind (i ∷ [])) named

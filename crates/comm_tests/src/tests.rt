@@ -1,10 +1,13 @@
-//! A file or two for each crate that has tests (`heaps` is of `comm_fakes`, `writing` of `comm_messages`).
-mod core_steps;
+//! A file or a few for each crate that has tests: `json`, `value`, `messages`, `targets`, `widget` and `fakes` are of the crates of these
+//! names, `core_calls`, `core_free` and `core_entries` of `comm_core`, and `faults` of what the faults of all say.
+mod core_calls;
+mod core_entries;
+mod core_free;
+mod fakes;
 mod faults;
-mod heaps;
-mod lines;
+mod json;
+mod managed;
 mod messages;
 mod targets;
 mod value;
 mod widget;
-mod writing;

@@ -1,11 +1,10 @@
 //! What each fault says.
 use comm_core::NewFault;
+use comm_harness::{Wrong, append_words, same};
 use comm_messages::{Field, MessageFault};
 use comm_targets::TargetFault;
 use comm_value::ValueFault;
-use std::alloc::Global;
 use std::fmt::Display;
-use std::process::Abort;
 use std::test::Fail;
 
 const VALUES: [(ValueFault, &str); 6] = [
@@ -120,19 +119,23 @@ const NEW: [(NewFault, &str); 2] = [
     (NewFault::Memory, "memory ran out"),
 ];
 
-fn say<F: Display>(rt: &impl Abort, alloc: Global, rows: &[(F, &str)]) -> Result<(), Fail> {
-    for (fault, want) in rows {
-        let text = format!(in alloc; "{fault}")?;
-        assert_eq!(rt; text.as_str(), *want);
+// What each of these faults says, a line each.
+fn say<F: Display>(rt: &HostRuntime, name: &str, rows: &[(F, &str)]) -> Result<(), Wrong> {
+    let alloc = rt.alloc();
+    let mut text = Vec::new(alloc);
+    let mut want = Vec::new(alloc);
+    for (fault, words) in rows {
+        text.extend_from_slice(format!(in alloc; "{fault}\n")?.as_bytes())?;
+        append_words(&[*words], &mut want)?;
+        want.push(b'\n')?;
     }
-    Ok(())
+    same(rt, name, &text, &want)
 }
 
 #[test]
 fn each_fault_says_what_was_wrong_and_where(rt: HostRuntime) -> Result<(), Fail> {
-    let alloc = rt.alloc();
-    say(&rt, alloc, &VALUES)?;
-    say(&rt, alloc, &MESSAGES)?;
-    say(&rt, alloc, &TARGETS)?;
-    say(&rt, alloc, &NEW)
+    say(&rt, "faults of values", &VALUES)?;
+    say(&rt, "faults of messages", &MESSAGES)?;
+    say(&rt, "faults of targets", &TARGETS)?;
+    Ok(say(&rt, "faults of new managers", &NEW)?)
 }

@@ -1,384 +1,324 @@
-mod many;
-
+use comm_harness::{
+    Reader, Row, Wrong, append_buffers, append_state, append_words, buffers_of, cut, dict_of,
+    holds, read_rows, same,
+};
 use comm_value::{
-    Buffers, Bytes, Dict, Path, Separated, Step, Text, Val, ValueFault, Whole, merge, paths_of,
-    paths_val, put_all, separate, write_text,
+    Buffers, Bytes, Dict, Path, Text, Val, ValueFault, Whole, merge, paths_of, paths_val, put_all,
+    write_text,
 };
 use serde_json::Value;
-use std::alloc::Global;
-use std::process::Abort;
+use std::alloc::{AllocError, Global};
 use std::test::Fail;
 
-fn value(alloc: Global, text: &str) -> Result<Val, Fail> {
-    let json = Value::from_str(alloc, text)?;
-    Ok(Val::from_json(alloc, &json)?)
+mod many;
+
+fn value_of(alloc: Global, json: &str) -> Result<Val, ValueFault> {
+    let Ok(json) = Value::from_str(alloc, json) else {
+        return Err(ValueFault::Memory);
+    };
+    let value = Val::from_json(alloc, &json);
+    drop(json);
+    value
 }
 
-fn dict(alloc: Global, text: &str) -> Result<Dict, Fail> {
-    match value(alloc, text)? {
-        Val::Dict(found) => Ok(found),
-        _ => Ok(Dict::new()),
+// The text of a value without bytes, which is the one of `serde_json`'s value.
+fn append_value(alloc: Global, value: &Val, text: &mut Vec<u8>) -> Result<(), Wrong> {
+    if value.has_bytes() {
+        return Ok(append_words(&["bytes"], text)?);
     }
+    let from = text.len();
+    value.write_json(text)?;
+    let json = value.to_json(alloc)?;
+    let written = json.to_string(alloc);
+    drop(json);
+    let written = written?;
+    holds(
+        &text[from..] == written.as_bytes(),
+        "serde_json writes another text",
+    )
 }
 
-fn paths(alloc: Global, text: &str) -> Result<Vec<Path>, Fail> {
-    Ok(paths_of(alloc, Some(&value(alloc, text)?))?)
+fn append_fault(alloc: Global, fault: ValueFault, text: &mut Vec<u8>) -> Result<(), AllocError> {
+    text.extend_from_slice(format!(in alloc; "{fault:?}")?.as_bytes())
 }
 
-fn buffers(alloc: Global, all: &[&[u8]]) -> Result<Buffers, Fail> {
-    let mut found = Vec::new(alloc);
-    for bytes in all {
-        found.push(Bytes::new(alloc, bytes.to_vec(alloc)?)?)?;
-    }
-    Ok(Buffers::new(found))
-}
-
-fn shown(alloc: Global, of: &Val) -> Result<String, Fail> {
-    if of.has_bytes() {
-        return Ok(String::from_str(alloc, "bytes")?);
-    }
-    Ok(of.to_json(alloc)?.to_string(alloc)?)
-}
-
-fn written(alloc: Global, of: &Val) -> Result<String, Fail> {
-    let mut out = b"> ".to_vec(alloc)?;
-    if !of.has_bytes() {
-        of.write_json(&mut out)?;
-    }
-    Ok(String::from_utf8(out)?)
-}
-
-fn push_bytes(alloc: Global, buffers: &[Bytes], text: &mut String) -> Result<(), Fail> {
-    for buffer in buffers {
-        text.push(' ')?;
-        for byte in buffer.as_slice() {
-            text.push_str(format!(in alloc; "{byte}.")?.as_str())?;
-        }
-    }
-    Ok(())
-}
-
-fn push_shown(alloc: Global, of: Val, text: &mut String) -> Result<(), Fail> {
-    let found = shown(alloc, &of);
-    drop(of);
-    text.push_str(found?.as_str())?;
-    Ok(())
-}
-
-// The plain dict, the paths and the numbers of each buffer.
-fn push_parts(alloc: Global, parts: Separated, text: &mut String) -> Result<(), Fail> {
-    let Separated {
-        plain,
-        paths,
-        buffers,
-    } = parts;
-    let listed = paths_val(alloc, paths.as_slice());
-    drop(paths);
-    push_shown(alloc, Val::Dict(plain), text)?;
-    text.push(' ')?;
-    push_shown(alloc, listed?, text)?;
-    push_bytes(alloc, buffers.as_slice(), text)
-}
-
-fn separated(alloc: Global, state: &Dict) -> Result<String, Fail> {
-    let mut text = String::new(alloc);
-    push_parts(alloc, separate(alloc, state)?, &mut text)?;
-    Ok(text)
-}
-
-// What becomes of a state with these buffers at these paths.
-fn placed(alloc: Global, state: &str, at: &str, all: &[&[u8]]) -> Result<String, Fail> {
-    let paths = paths(alloc, at)?;
-    match put_all(
-        alloc,
-        dict(alloc, state)?,
-        paths.as_slice(),
-        buffers(alloc, all)?,
-    ) {
-        Ok(found) => separated(alloc, &found),
-        Err(fault) => Ok(format!(in alloc; "{fault:?}")?),
-    }
-}
-
-fn read_from(alloc: Global, listed: &Val) -> Result<String, Fail> {
-    match paths_of(alloc, Some(listed)) {
-        Ok(found) => shown(alloc, &paths_val(alloc, found.as_slice())?),
-        Err(fault) => Ok(format!(in alloc; "{fault:?}")?),
-    }
-}
-
-// What becomes of a value that lists paths.
-fn read(alloc: Global, text: &str) -> Result<String, Fail> {
-    let listed = value(alloc, text)?;
-    let found = read_from(alloc, &listed);
-    drop(listed);
-    found
-}
-
-// The text of a value that is let go.
-fn text_of(alloc: Global, of: Val) -> Result<String, Fail> {
-    let found = shown(alloc, &of);
-    drop(of);
-    found
-}
-
-fn is_whole(alloc: Global, text: &str) -> Result<bool, Fail> {
-    let json = Value::from_str(alloc, text)?;
-    Ok(!matches!(Val::from_json(alloc, &json), Err(ValueFault::NotWhole)))
-}
-
-/// A state, paths and buffers, and the state with the buffers, taken apart again.
-const PLACED: [(&str, &str, &[&[u8]], &str); 4] = [
-    (
-        "{\"y\":{\"z\":[null]}}",
-        "[[\"x\"],[\"y\",\"z\",0]]",
-        &[&[1, 2], &[255]],
-        "{\"y\":{\"z\":[null]}} [[\"x\"],[\"y\",\"z\",0]] 1.2. 255.",
-    ),
-    (
-        "{\"k\":1}",
-        "[[\"x\"]]",
-        &[&[1, 2], &[255]],
-        "{\"k\":1} [[\"x\"]] 1.2.",
-    ),
-    (
-        "{}",
-        "[[\"x\"],[\"x\"]]",
-        &[&[1, 2], &[255]],
-        "{} [[\"x\"]] 255.",
-    ),
-    (
-        "{\"b\":{\"k\":1},\"a\":[[2],3]}",
-        "[[\"b\",\"x\"],[\"a\",0,0]]",
-        &[&[7], &[8]],
-        "{\"a\":[[null],3],\"b\":{\"k\":1}} [[\"a\",0,0],[\"b\",\"x\"]] 8. 7.",
-    ),
-];
-
-fn all_placed(
-    rt: &impl Abort,
+// A copy of a value, which is let go first.
+fn append_copy(
     alloc: Global,
-    rows: &[(&str, &str, &[&[u8]], &str)],
-) -> Result<(), Fail> {
-    for (state, paths, buffers, wanted) in rows {
-        let found = placed(alloc, state, paths, buffers)?;
-        assert!(rt; found.as_str() == *wanted, "at {state} {paths}");
-    }
-    Ok(())
-}
-
-#[test]
-fn places_buffers_and_separates_them(rt: HostRuntime) -> Result<(), Fail> {
-    all_placed(&rt, rt.alloc(), &PLACED)
-}
-
-/// A state, paths without a place for these buffers, and the fault.
-const MISPLACED: [(&str, &str, &[&[u8]], &str); 6] = [
-    ("{}", "[[]]", &[&[1, 2]], "BadPath(0)"),
-    ("{\"l\":[null]}", "[[\"l\",1]]", &[&[1, 2]], "BadPath(0)"),
-    (
-        "{\"l\":[null]}",
-        "[[\"l\",18446744073709551615]]",
-        &[&[1, 2]],
-        "BadPath(0)",
-    ),
-    (
-        "{}",
-        "[[\"p\"],[\"p\",\"q\"]]",
-        &[&[1, 2], &[255]],
-        "BadPath(1)",
-    ),
-    ("{}", "[[\"x\"],[\"y\"]]", &[&[1, 2]], "BufferMissing(1)"),
-    ("{}", "[[]]", &[], "BufferMissing(0)"),
-];
-
-#[test]
-fn refuses_paths_without_a_place(rt: HostRuntime) -> Result<(), Fail> {
-    all_placed(&rt, rt.alloc(), &MISPLACED)
-}
-
-/// A text, and the paths that it lists or the fault.
-const LISTED: [(&str, &str); 6] = [
-    (
-        "[[\"a\",18446744073709551615],[],[\"0\",0]]",
-        "[[\"a\",18446744073709551615],[],[\"0\",0]]",
-    ),
-    ("null", "[]"),
-    ("7", "BadPath(0)"),
-    ("[[\"l\",-1]]", "BadPath(0)"),
-    ("[[\"x\"],7]", "BadPath(1)"),
-    ("[[\"x\"],[true]]", "BadPath(1)"),
-];
-
-#[test]
-fn reads_and_writes_paths(rt: HostRuntime) -> Result<(), Fail> {
-    let alloc = rt.alloc();
-    for (text, wanted) in &LISTED {
-        let found = read(alloc, text)?;
-        assert!(rt; found.as_str() == *wanted, "at {text}");
-    }
-    let none = paths_of(alloc, None)?;
-    assert!(rt; none.is_empty());
-    Ok(())
-}
-
-#[test]
-fn reads_whole_numbers_alone(rt: HostRuntime) -> Result<(), Fail> {
-    let alloc = rt.alloc();
-    let all = "[-9223372036854775808,0,18446744073709551615,{\"a\":[],\"b\":\"text\"},true,null]";
-    assert!(rt; shown(alloc, &value(alloc, all)?)?.as_str() == all);
-    assert!(rt; is_whole(alloc, "{\"v\":[18446744073709551615]}")?);
-    for text in [
-        "{\"v\":[1.5]}",
-        "1e2",
-        "-0",
-        "18446744073709551616",
-        "-9223372036854775809",
-    ] {
-        assert!(rt; !is_whole(alloc, text)?, "{text}");
-    }
-    assert!(rt; Whole::new(18_446_744_073_709_551_616).is_none());
-    assert!(rt; Whole::new(-5).is_some_and(|whole| whole.get() == -5));
-    Ok(())
-}
-
-// A state, and what an update makes of it.
-fn merged(alloc: Global, state: Dict, update: &str) -> Result<(Dict, Dict), Fail> {
-    let update = dict(alloc, update)?;
-    let found = merge(alloc, state.copy()?, update)?;
-    Ok((state, found))
-}
-
-#[test]
-fn merges_by_top_level_keys(rt: HostRuntime) -> Result<(), Fail> {
-    let alloc = rt.alloc();
-    let state = dict(alloc, "{\"a\":{\"old\":1},\"b\":2,\"d\":4}")?;
-    let (state, found) = merged(alloc, state, "{\"a\":{\"new\":1},\"c\":3}")?;
-    assert!(rt; found.len() == 4 && found.get("a").is_some() && found.get("e").is_none());
-    let after = text_of(alloc, Val::Dict(found))?;
-    let before = text_of(alloc, Val::Dict(state))?;
-    assert!(rt; after.as_str() == "{\"a\":{\"new\":1},\"b\":2,\"c\":3,\"d\":4}");
-    assert!(rt; before.as_str() == "{\"a\":{\"old\":1},\"b\":2,\"d\":4}");
-    Ok(())
-}
-
-// `{"b":true}`
-fn one_key(alloc: Global) -> Result<Dict, Fail> {
-    let key = Text::copy_of(alloc, "b")?;
-    Ok(Dict::new().insert(alloc, key, Val::Bool(true))?)
-}
-
-// The dict with the bytes 1 and 2 at the key `a`.
-fn with_bytes(alloc: Global, one: Dict) -> Result<Dict, Fail> {
-    let bytes = Bytes::new(alloc, [1, 2].to_vec(alloc)?)?;
-    let value = Val::Bytes(bytes);
-    let key = Text::new(alloc, String::from_str(alloc, "a")?)?;
-    Ok(one.insert(alloc, key, value)?)
-}
-
-fn copied(of: &Dict) -> Result<Val, Fail> {
-    let value = Val::Dict(of.copy()?);
+    value: Result<Val, ValueFault>,
+    text: &mut Vec<u8>,
+) -> Result<(), Wrong> {
+    let value = match value {
+        Ok(value) => value,
+        Err(fault) => return Ok(append_fault(alloc, fault, text)?),
+    };
     let copy = value.copy();
     drop(value);
-    Ok(copy?)
+    let copy = copy?;
+    let done = append_value(alloc, &copy, text);
+    drop(copy);
+    done
 }
 
-#[test]
-fn inserts_at_a_key_and_leaves_copies(rt: HostRuntime) -> Result<(), Fail> {
-    let alloc = rt.alloc();
-    let empty = Dict::new();
-    assert!(rt; empty.is_empty() && !empty.has_bytes());
-    drop(empty);
-    let one = one_key(alloc)?;
-    let kept = copied(&one)?;
-    let two = with_bytes(alloc, one)?;
-    assert!(rt; two.has_bytes() && two.len() == 2);
-    let found = separated(alloc, &two)?;
-    drop(two);
-    assert!(rt; found.as_str() == "{\"b\":true} [[\"a\"]] 1.2.");
-    let found = text_of(alloc, kept)?;
-    assert!(rt; found.as_str() == "{\"b\":true}");
-    Ok(())
-}
-
-fn is_copied(alloc: Global, key: &str, other: &str) -> Result<bool, Fail> {
-    let text = Text::copy_of(alloc, key)?;
-    let copy = text.copy()?;
-    Ok(copy.is(key) && !text.is(other))
-}
-
-#[test]
-fn copies_texts(rt: HostRuntime) -> Result<(), Fail> {
-    let alloc = rt.alloc();
-    assert!(rt; is_copied(alloc, "key", "other")?);
-    assert!(rt; is_copied(alloc, "more than four and twenty bytes", "more than")?);
-    assert!(rt;
-        is_copied(
-            alloc,
-            "more than the forty bytes of a short text",
-            "more than"
-        )?
-    );
-    Ok(())
-}
-
-fn steps_in(alloc: Global, key: Text) -> Result<usize, Fail> {
-    let steps = [Step::Key(key), Step::Index(7)];
-    let path = Path::copy_of(alloc, &steps);
-    drop(steps);
-    let path = path?;
-    Ok(path.as_slice().len())
-}
-
-#[test]
-fn copies_steps(rt: HostRuntime) -> Result<(), Fail> {
-    let alloc = rt.alloc();
-    let key = Text::copy_of(alloc, "key")?;
-    assert!(rt; steps_in(alloc, key)? == 2);
-    Ok(())
-}
-
-#[test]
-fn copies_buffers(rt: HostRuntime) -> Result<(), Fail> {
-    let alloc = rt.alloc();
-    let all = buffers(alloc, &[&[1, 2], &[255]])?;
-    let again = all.copy(alloc);
-    drop(all);
-    let again = again?;
-    assert_eq!(rt; again.as_slice().len(), 2);
-    assert!(rt; again.as_slice()[1].copy()?.as_slice() == [255].as_slice());
-    assert!(rt; Buffers::none(alloc).as_slice().is_empty());
-    Ok(())
-}
-
-#[test]
-fn writes_json_text(rt: HostRuntime) -> Result<(), Fail> {
-    let alloc = rt.alloc();
-    let text =
-        "> {\"a\":[-9223372036854775808,18446744073709551615,[],{}],\"b\":null,\"c\":[true,false],\"d\":\"\"}";
-    let value = value(alloc, &text[2..])?;
-    let found = written(alloc, &value);
+// The paths that a value lists, or none, by copies of them.
+fn paths_in(alloc: Global, json: &str) -> Result<Vec<Path>, ValueFault> {
+    if json.is_empty() {
+        return paths_of(alloc, None);
+    }
+    let value = value_of(alloc, json)?;
+    let paths = paths_of(alloc, Some(&value));
     drop(value);
-    assert!(rt; found?.as_str() == text);
+    let mut copies = Vec::new(alloc);
+    for path in paths? {
+        copies.push(Path::copy_of(alloc, path.as_slice())?)?;
+    }
+    Ok(copies)
+}
+
+fn append_paths(alloc: Global, json: &str, text: &mut Vec<u8>) -> Result<(), Wrong> {
+    match paths_in(alloc, json) {
+        Ok(paths) => append_copy(alloc, Ok(paths_val(alloc, &paths)?), text),
+        Err(fault) => Ok(append_fault(alloc, fault, text)?),
+    }
+}
+
+// A state with these buffers at these paths, taken apart again, or the fault.
+fn append_placed(alloc: Global, words: &str, text: &mut Vec<u8>) -> Result<(), Wrong> {
+    let (json, words) = cut(words);
+    let (paths, words) = cut(words);
+    let buffers = buffers_of(alloc, words)?;
+    let paths = paths_in(alloc, paths)?;
+    let state = dict_of(alloc, json)?;
+    match put_all(alloc, state, &paths, buffers) {
+        Ok(placed) => {
+            let done = append_state(alloc, &placed, text);
+            drop(placed);
+            Ok(done?)
+        }
+        Err(fault) => Ok(append_fault(alloc, fault, text)?),
+    }
+}
+
+// How many keys a dict has, and it.
+fn append_dict(alloc: Global, dict: &Dict, text: &mut Vec<u8>) -> Result<(), Wrong> {
+    let len = dict.len();
+    let (is_empty, has_bytes) = (dict.is_empty(), dict.has_bytes());
+    holds(is_empty == (len == 0), "an empty dict has keys")?;
+    let head = format!(in alloc; " {len} {has_bytes}")?;
+    text.extend_from_slice(head.as_bytes())?;
+    Ok(append_state(alloc, dict, text)?)
+}
+
+// A state, what an update makes of it, and the state as it still is.
+fn append_merged(alloc: Global, words: &str, text: &mut Vec<u8>) -> Result<(), Wrong> {
+    let (state, update) = cut(words);
+    let state = dict_of(alloc, state)?;
+    let merged = merge(alloc, state.copy()?, dict_of(alloc, update)?)?;
+    append_dict(alloc, &merged, text)?;
+    append_dict(alloc, &state, text)
+}
+
+// A dict with bytes at a key, and a copy that was made before.
+fn append_inserted(alloc: Global, words: &str, text: &mut Vec<u8>) -> Result<(), Wrong> {
+    let (json, words) = cut(words);
+    let (key, bytes) = cut(words);
+    let key = Text::new(alloc, String::from_str(alloc, key)?)?;
+    let bytes = match buffers_of(alloc, bytes)?.as_slice() {
+        [bytes] => bytes.copy()?,
+        _ => return Err(Wrong("no bytes")),
+    };
+    let dict = dict_of(alloc, json)?;
+    let kept = dict.copy()?;
+    let dict = dict.insert(alloc, key, Val::Bytes(bytes))?;
+    append_dict(alloc, &dict, text)?;
+    append_dict(alloc, &kept, text)
+}
+
+// Whether a copy of a text is it, and isn't another.
+fn append_is(alloc: Global, words: &str, text: &mut Vec<u8>) -> Result<(), Wrong> {
+    let (word, other) = cut(words);
+    let from = Text::copy_of(alloc, word)?;
+    let copy = from.copy()?;
+    drop(from);
+    let line = format!(in alloc; "{} {}", copy.is(word), copy.is(other))?;
+    Ok(text.extend_from_slice(line.as_bytes())?)
+}
+
+// A number, where it is whole.
+fn append_whole(alloc: Global, digits: &str, text: &mut Vec<u8>) -> Result<(), Wrong> {
+    let Ok(number) = digits.parse::<i128>() else {
+        return Err(Wrong("no number"));
+    };
+    match Whole::new(number) {
+        Some(whole) => {
+            let number = whole.get();
+            Ok(text.extend_from_slice(format!(in alloc; "{number}")?.as_bytes())?)
+        }
+        None => Ok(append_words(&["not whole"], text)?),
+    }
+}
+
+// A copy of buffers, which are let go first, and a copy of the last of them.
+fn append_buffers_copy(alloc: Global, words: &str, text: &mut Vec<u8>) -> Result<(), Wrong> {
+    let all = buffers_of(alloc, words)?;
+    let copy = all.copy(alloc);
+    drop(all);
+    let copy = copy?;
+    append_buffers(alloc, &copy, text)?;
+    if let Some(last) = copy.as_slice().last() {
+        let mut one = Vec::new(alloc);
+        one.push(last.copy()?)?;
+        append_words(&[" last"], text)?;
+        append_buffers(alloc, &Buffers::new(one), text)?;
+    }
     Ok(())
 }
 
-#[test]
-fn writes_an_empty_dict(rt: HostRuntime) -> Result<(), Fail> {
-    let mut empty = Vec::new(rt.alloc());
-    Dict::new().write_json(&mut empty)?;
-    assert!(rt; empty.as_slice() == b"{}".as_slice());
-    Ok(())
+// The JSON text of the text of these bytes.
+fn append_quoted(alloc: Global, word: &str, text: &mut Vec<u8>) -> Result<(), Wrong> {
+    let Ok(bytes) = hex::decode(alloc, word) else {
+        return Err(Wrong("no hexadecimal digits"));
+    };
+    match std::str::from_utf8(&bytes) {
+        Ok(of) => Ok(write_text(of, text)?),
+        Err(_) => Err(Wrong("no text")),
+    }
 }
 
+/// Reads `value JSON`, `paths JSON` (nothing for none), `placed STATE PATHS BUFFER..`, `merged STATE UPDATE`,
+/// `inserted DICT KEY BYTES`, `is TEXT OTHER`, `whole NUMBER`, `buffers BUFFER..` and `quoted HEX`.
+struct Values;
+
+impl Reader for Values {
+    fn answer(&self, alloc: Global, line: &str, text: &mut Vec<u8>) -> Result<(), Wrong> {
+        let (kind, words) = cut(line);
+        if kind == "value" {
+            append_copy(alloc, value_of(alloc, words), text)?;
+        } else if kind == "paths" {
+            append_paths(alloc, words, text)?;
+        } else if kind == "placed" {
+            append_placed(alloc, words, text)?;
+        } else if kind == "merged" {
+            append_merged(alloc, words, text)?;
+        } else if kind == "inserted" {
+            append_inserted(alloc, words, text)?;
+        } else if kind == "is" {
+            append_is(alloc, words, text)?;
+        } else if kind == "whole" {
+            append_whole(alloc, words, text)?;
+        } else if kind == "buffers" {
+            append_buffers_copy(alloc, words, text)?;
+        } else {
+            append_quoted(alloc, words, text)?;
+        }
+        Ok(append_words(&["\n"], text)?)
+    }
+}
+
+const VALUES: [Row; 9] = [
+    Row {
+        name: "buffers are placed in a state and separated from it",
+        lines: r#"placed {"y":{"z":[null]}} [["x"],["y","z",0]] 0102 ff
+placed {"k":1} [["x"]] 0102 ff
+placed {} [["x"],["x"]] 0102 ff
+placed {"b":{"k":1},"a":[[2],3]} [["b","x"],["a",0,0]] 07 08"#,
+        want: r#" {"y":{"z":[null]}} [["x"],["y","z",0]] 0102 ff
+ {"k":1} [["x"]] 0102
+ {} [["x"]] ff
+ {"a":[[null],3],"b":{"k":1}} [["a",0,0],["b","x"]] 08 07
+"#,
+    },
+    Row {
+        name: "paths without a place, or without a buffer, are refused",
+        lines: r#"placed {} [[]] 0102
+placed {"l":[null]} [["l",1]] 0102
+placed {"l":[null]} [["l",18446744073709551615]] 0102
+placed {} [["p"],["p","q"]] 0102 ff
+placed {} [["x"],["y"]] 0102
+placed {} [[]]"#,
+        want: "BadPath(0)\nBadPath(0)\nBadPath(0)\nBadPath(1)\nBufferMissing(1)\nBufferMissing(0)\n",
+    },
+    Row {
+        name: "paths are read and written",
+        lines: r#"paths [["a",18446744073709551615],[],["0",0]]
+paths null
+paths
+paths 7
+paths [["l",-1]]
+paths [["x"],7]
+paths [["x"],[true]]
+paths [["key",7]]"#,
+        want: r#"[["a",18446744073709551615],[],["0",0]]
+[]
+[]
+BadPath(0)
+BadPath(0)
+BadPath(1)
+BadPath(1)
+[["key",7]]
+"#,
+    },
+    Row {
+        name: "whole numbers alone are read",
+        lines: r#"value [-9223372036854775808,0,18446744073709551615,{"a":[],"b":"text"},true,null]
+value {"v":[18446744073709551615]}
+value {"v":[1.5]}
+value 1e2
+value -0
+value 18446744073709551616
+value -9223372036854775809
+whole 18446744073709551616
+whole -5"#,
+        want: r#"[-9223372036854775808,0,18446744073709551615,{"a":[],"b":"text"},true,null]
+{"v":[18446744073709551615]}
+NotWhole
+NotWhole
+NotWhole
+NotWhole
+NotWhole
+not whole
+-5
+"#,
+    },
+    Row {
+        name: "an update changes top-level keys, and leaves the state that it was made of",
+        lines: r#"merged {"a":{"old":1},"b":2,"d":4} {"a":{"new":1},"c":3}
+merged {} {}"#,
+        want: r#" 4 false {"a":{"new":1},"b":2,"c":3,"d":4} [] 3 false {"a":{"old":1},"b":2,"d":4} []
+ 0 false {} [] 0 false {} []
+"#,
+    },
+    Row {
+        name: "bytes are let in at a key, and copies are left as they were",
+        lines: r#"inserted {"b":true} a 0102"#,
+        want: r#" 2 true {"b":true} [["a"]] 0102 1 false {"b":true} []
+"#,
+    },
+    Row {
+        name: "texts, short and long, and buffers are copied",
+        lines: "is key other
+is more_than_four_and_twenty_bytes more_than
+is more_than_the_forty_bytes_of_a_short_text more_than
+buffers 0102 ff
+buffers",
+        want: "true false\ntrue false\ntrue false\n 0102 ff last ff\n\n",
+    },
+    Row {
+        name: "JSON texts are written",
+        lines: r#"value {"a":[-9223372036854775808,18446744073709551615,[],{}],"b":null,"c":[true,false],"d":""}
+value {}"#,
+        want: r#"{"a":[-9223372036854775808,18446744073709551615,[],{}],"b":null,"c":[true,false],"d":""}
+{}
+"#,
+    },
+    Row {
+        name: "a text is quoted, each control by its escape",
+        lines: "quoted 225c2f080c0a0d09011f7fe280a8c3a9",
+        want: "\"\\\"\\\\/\\b\\f\\n\\r\\t\\u0001\\u001f\u{7f}\u{2028}é\"\n",
+    },
+];
+
 #[test]
-fn quotes_a_text(rt: HostRuntime) -> Result<(), Fail> {
-    let mut quoted = Vec::new(rt.alloc());
-    write_text(
-        "\"\\/\u{8}\u{c}\n\r\t\u{1}\u{1f}\u{7f}\u{2028}é",
-        &mut quoted,
-    )?;
-    let wanted = "\"\\\"\\\\/\\b\\f\\n\\r\\t\\u0001\\u001f\u{7f}\u{2028}é\"";
-    assert!(rt; quoted.as_slice() == wanted.as_bytes());
-    Ok(())
+fn values_and_their_texts(rt: HostRuntime) -> Result<(), Fail> {
+    Ok(read_rows(&rt, rt.alloc(), &Values, &VALUES)?)
 }

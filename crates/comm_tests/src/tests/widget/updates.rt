@@ -1,100 +1,217 @@
-// Updates: what they change, and what a widget that echoes tells of them.
-use super::{KINDS, ONE, tells};
-use comm_targets::Kind;
-use std::alloc::Global;
+//! Updates: what they change, and what a widget that echoes tells of them.
+use crate::tests::managed::{Scene, play_scenes};
+use comm_harness::Row;
 use std::test::Fail;
 
-// What is shown of an answer, to which one that echoes adds a message.
-fn with_echo(alloc: Global, kind: Kind, shown: &str, echo: &str) -> Result<String, Fail> {
-    match kind {
-        Kind::WidgetEcho => Ok(format!(in alloc; "{shown}{echo}")?),
-        _ => Ok(String::from_str(alloc, shown)?),
-    }
-}
+const UPDATED: Scene = Scene {
+    stocks: &["widget"],
+    comms: 4096,
+    row: Row {
+        name: "an update changes key by key and places its buffers or is refused, of a widget that is silent",
+        lines: r#"register w
+open a w 2.0.0 {"state":{"value":1,"min":0},"buffer_paths":[]}
+msg a {"method":"update","state":{"value":2,"max":9}}
+state a
+close a
+open a w 2.0.0 {"state":{"k":1}}
+msg a {"method":"update","state":{},"buffer_paths":[["x"],["y"]]} 0102
+state a
+close a
+open a w 2.0.0 {"state":{"k":1}}
+msg a {"method":"update","state":{},"buffer_paths":[["x"]]} 0102 ff
+state a
+close a
+open a w 2.0.0 {"state":{"k":1}}
+msg a {"method":"update","state":{},"buffer_paths":[["x"],["x"]]} 0102 ff
+state a
+close a
+open a w 2.0.0 {"state":{"k":1}}
+msg a {"method":"update","state":{"k":{"y":[0]}},"buffer_paths":[["k","y",0],["a"]]} 0102 ff
+state a
+close a
+open a w 2.0.0 {"state":{"k":1}}
+msg a {"method":"update","state":{},"buffer_paths":[]} 0102
+state a
+close a
+open a w 2.0.0 {"state":{"k":1}}
+msg a {"method":"update","state":{},"buffer_paths":[[]]} 0102
+state a
+close a
+open a w 2.0.0 {"state":{"k":1}}
+msg a {"method":"update","state":{"l":[null]},"buffer_paths":[["l",1]]} 0102
+state a
+close a
+open a w 2.0.0 {"state":{"k":1}}
+msg a {"method":"update","state":{},"buffer_paths":[["p"],["p","q"]]} 0102 ff
+state a
+close a
+open a w 2.0.0 {"state":{"k":1}}
+msg a {"method":"update","state":[],"buffer_paths":7} 0102
+state a
+close a
+open a w 2.0.0 {"state":{"k":1}}
+msg a {"method":"update","state":{},"buffer_paths":7} 0102
+state a
+close a
+"#,
+        want: r#"reply 1 registered
+reply 2 opened
+reply 3 delivered
+state 3 {"buffer_paths":[],"buffers":[],"state":{"max":9,"min":0,"value":2}}
+reply 4 closed
+reply 5 opened
+reply 6 fault buffer_missing 1
+state 6 {"buffer_paths":[],"buffers":[],"state":{"k":1}}
+reply 7 closed
+reply 8 opened
+reply 9 delivered
+state 9 {"buffer_paths":[["x"]],"buffers":["AQI="],"state":{"k":1}}
+reply 10 closed
+reply 11 opened
+reply 12 delivered
+state 12 {"buffer_paths":[["x"]],"buffers":["/w=="],"state":{"k":1}}
+reply 13 closed
+reply 14 opened
+reply 15 delivered
+state 15 {"buffer_paths":[["a"],["k","y",0]],"buffers":["/w==","AQI="],"state":{"k":{"y":[null]}}}
+reply 16 closed
+reply 17 opened
+reply 18 delivered
+state 18 {"buffer_paths":[],"buffers":[],"state":{"k":1}}
+reply 19 closed
+reply 20 opened
+reply 21 fault bad_path 0
+state 21 {"buffer_paths":[],"buffers":[],"state":{"k":1}}
+reply 22 closed
+reply 23 opened
+reply 24 fault bad_path 0
+state 24 {"buffer_paths":[],"buffers":[],"state":{"k":1}}
+reply 25 closed
+reply 26 opened
+reply 27 fault bad_path 1
+state 27 {"buffer_paths":[],"buffers":[],"state":{"k":1}}
+reply 28 closed
+reply 29 opened
+reply 30 fault bad_state
+state 30 {"buffer_paths":[],"buffers":[],"state":{"k":1}}
+reply 31 closed
+reply 32 opened
+reply 33 fault bad_path 0
+state 33 {"buffer_paths":[],"buffers":[],"state":{"k":1}}
+reply 34 closed
+stopped 1
+log
+"#,
+    },
+};
+
+const ECHOED: Scene = Scene {
+    stocks: &["widget_echo"],
+    comms: 4096,
+    row: Row {
+        name: "an update changes key by key and places its buffers or is refused, of a widget that echoes",
+        lines: r#"register w
+open a w 2.0.0 {"state":{"value":1,"min":0},"buffer_paths":[]}
+msg a {"method":"update","state":{"value":2,"max":9}}
+state a
+close a
+open a w 2.0.0 {"state":{"k":1}}
+msg a {"method":"update","state":{},"buffer_paths":[["x"],["y"]]} 0102
+state a
+close a
+open a w 2.0.0 {"state":{"k":1}}
+msg a {"method":"update","state":{},"buffer_paths":[["x"]]} 0102 ff
+state a
+close a
+open a w 2.0.0 {"state":{"k":1}}
+msg a {"method":"update","state":{},"buffer_paths":[["x"],["x"]]} 0102 ff
+state a
+close a
+open a w 2.0.0 {"state":{"k":1}}
+msg a {"method":"update","state":{"k":{"y":[0]}},"buffer_paths":[["k","y",0],["a"]]} 0102 ff
+state a
+close a
+open a w 2.0.0 {"state":{"k":1}}
+msg a {"method":"update","state":{},"buffer_paths":[]} 0102
+state a
+close a
+open a w 2.0.0 {"state":{"k":1}}
+msg a {"method":"update","state":{},"buffer_paths":[[]]} 0102
+state a
+close a
+open a w 2.0.0 {"state":{"k":1}}
+msg a {"method":"update","state":{"l":[null]},"buffer_paths":[["l",1]]} 0102
+state a
+close a
+open a w 2.0.0 {"state":{"k":1}}
+msg a {"method":"update","state":{},"buffer_paths":[["p"],["p","q"]]} 0102 ff
+state a
+close a
+open a w 2.0.0 {"state":{"k":1}}
+msg a {"method":"update","state":[],"buffer_paths":7} 0102
+state a
+close a
+open a w 2.0.0 {"state":{"k":1}}
+msg a {"method":"update","state":{},"buffer_paths":7} 0102
+state a
+close a
+"#,
+        want: r#"reply 1 registered
+reply 2 opened
+reply 3 delivered
+out {"buffers":[],"call":3,"client":0,"content":{"comm_id":"a","data":{"buffer_paths":[],"method":"echo_update","state":{"max":9,"value":2}}},"header":{"msg_type":"comm_msg"},"metadata":{}}
+state 3 {"buffer_paths":[],"buffers":[],"state":{"max":9,"min":0,"value":2}}
+reply 4 closed
+reply 5 opened
+reply 6 fault buffer_missing 1
+state 6 {"buffer_paths":[],"buffers":[],"state":{"k":1}}
+reply 7 closed
+reply 8 opened
+reply 9 delivered
+out {"buffers":["AQI="],"call":9,"client":0,"content":{"comm_id":"a","data":{"buffer_paths":[["x"]],"method":"echo_update","state":{}}},"header":{"msg_type":"comm_msg"},"metadata":{}}
+state 9 {"buffer_paths":[["x"]],"buffers":["AQI="],"state":{"k":1}}
+reply 10 closed
+reply 11 opened
+reply 12 delivered
+out {"buffers":["/w=="],"call":12,"client":0,"content":{"comm_id":"a","data":{"buffer_paths":[["x"]],"method":"echo_update","state":{}}},"header":{"msg_type":"comm_msg"},"metadata":{}}
+state 12 {"buffer_paths":[["x"]],"buffers":["/w=="],"state":{"k":1}}
+reply 13 closed
+reply 14 opened
+reply 15 delivered
+out {"buffers":["/w==","AQI="],"call":15,"client":0,"content":{"comm_id":"a","data":{"buffer_paths":[["a"],["k","y",0]],"method":"echo_update","state":{"k":{"y":[null]}}}},"header":{"msg_type":"comm_msg"},"metadata":{}}
+state 15 {"buffer_paths":[["a"],["k","y",0]],"buffers":["/w==","AQI="],"state":{"k":{"y":[null]}}}
+reply 16 closed
+reply 17 opened
+reply 18 delivered
+state 18 {"buffer_paths":[],"buffers":[],"state":{"k":1}}
+reply 19 closed
+reply 20 opened
+reply 21 fault bad_path 0
+state 21 {"buffer_paths":[],"buffers":[],"state":{"k":1}}
+reply 22 closed
+reply 23 opened
+reply 24 fault bad_path 0
+state 24 {"buffer_paths":[],"buffers":[],"state":{"k":1}}
+reply 25 closed
+reply 26 opened
+reply 27 fault bad_path 1
+state 27 {"buffer_paths":[],"buffers":[],"state":{"k":1}}
+reply 28 closed
+reply 29 opened
+reply 30 fault bad_state
+state 30 {"buffer_paths":[],"buffers":[],"state":{"k":1}}
+reply 31 closed
+reply 32 opened
+reply 33 fault bad_path 0
+state 33 {"buffer_paths":[],"buffers":[],"state":{"k":1}}
+reply 34 closed
+stopped 1
+log
+"#,
+    },
+};
 
 #[test]
-fn update_changes_key_by_key(rt: HostRuntime) -> Result<(), Fail> {
-    let alloc = rt.alloc();
-    let first = r#"{"state":{"value":1,"min":0},"buffer_paths":[]}"#;
-    let update = r#"{"method":"update","state":{"value":2,"max":9}}"#;
-    let merged = r#"state {"max":9,"min":0,"value":2} [];"#;
-    let echo = r#"message {"buffer_paths":[],"method":"echo_update","state":{"max":9,"value":2}};"#;
-    for kind in KINDS {
-        let found = tells(alloc, kind, first, update, "[]")?;
-        let wanted = with_echo(alloc, kind, merged, echo)?;
-        assert_eq!(rt; found.as_str(), wanted.as_str(), "of {kind:?}");
-    }
-    Ok(())
-}
-
-const ONE_BUFFER: &str = r#"["AQI="]"#;
-
-const TWO_BUFFERS: &str = r#"["AQI=","/w=="]"#;
-
-/// An update's state, paths and buffers, the answer, and what a widget that echoes tells besides.
-const UPDATES: [(&str, &str, &str, &str, &str); 10] = [
-    ("{}", r#"[["x"],["y"]]"#, ONE_BUFFER, "BufferMissing(1)", ""),
-    (
-        "{}",
-        r#"[["x"]]"#,
-        TWO_BUFFERS,
-        r#"state {"k":1} [["x"]] 1.2.;"#,
-        r#"message {"buffer_paths":[["x"]],"method":"echo_update","state":{}} 1.2.;"#,
-    ),
-    (
-        "{}",
-        r#"[["x"],["x"]]"#,
-        TWO_BUFFERS,
-        r#"state {"k":1} [["x"]] 255.;"#,
-        r#"message {"buffer_paths":[["x"]],"method":"echo_update","state":{}} 255.;"#,
-    ),
-    (
-        r#"{"k":{"y":[0]}}"#,
-        r#"[["k","y",0],["a"]]"#,
-        TWO_BUFFERS,
-        r#"state {"k":{"y":[null]}} [["a"],["k","y",0]] 255. 1.2.;"#,
-        r#"message {"buffer_paths":[["a"],["k","y",0]],"method":"echo_update","state":{"k":{"y":[null]}}} 255. 1.2.;"#,
-    ),
-    ("{}", "[]", ONE_BUFFER, r#"state {"k":1} [];"#, ""),
-    ("{}", "[[]]", ONE_BUFFER, "BadPath(0)", ""),
-    (
-        r#"{"l":[null]}"#,
-        r#"[["l",1]]"#,
-        ONE_BUFFER,
-        "BadPath(0)",
-        "",
-    ),
-    ("{}", r#"[["p"],["p","q"]]"#, TWO_BUFFERS, "BadPath(1)", ""),
-    ("[]", "7", ONE_BUFFER, "BadState", ""),
-    ("{}", "7", ONE_BUFFER, "BadPath(0)", ""),
-];
-
-fn updates(
-    alloc: Global,
-    kind: Kind,
-    state: &str,
-    paths: &str,
-    buffers: &str,
-) -> Result<String, Fail> {
-    let update = format!(in alloc;
-        r#"{{"method":"update","state":{state},"buffer_paths":{paths}}}"#
-    )?;
-    tells(alloc, kind, ONE, update.as_str(), buffers)
-}
-
-#[test]
-fn buffers_of_an_update_are_placed_or_refused(rt: HostRuntime) -> Result<(), Fail> {
-    let alloc = rt.alloc();
-    for kind in KINDS {
-        for (state, paths, buffers, answer, echo) in &UPDATES {
-            let found = updates(alloc, kind, state, paths, buffers)?;
-            let wanted = with_echo(alloc, kind, answer, echo)?;
-            assert_eq!(rt;
-                found.as_str(),
-                wanted.as_str(),
-                "of {kind:?} at {state} {paths}"
-            );
-        }
-    }
-    Ok(())
+fn updates_of_widgets(rt: HostRuntime) -> Result<(), Fail> {
+    play_scenes(&rt, &[UPDATED, ECHOED])
 }

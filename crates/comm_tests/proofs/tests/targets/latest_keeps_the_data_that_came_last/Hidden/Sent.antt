@@ -1,8 +1,0 @@
-use denote.Exit
-use denote.Param.Send.{arg_send}
-use denote.Param.Sent.{Sends}
-use Rattle.comm_targets.proofs.Sends.{latest_sends}
-use Rattle.comm_tests.proofs.tests.targets.latest_keeps_the_data_that_came_last.OwnLists as own
-
-pub sends-part-1-1 : Sends own.part-1-1
-sends-part-1-1 i = arg_send _ Exit.no _ latest_sends
