@@ -51,12 +51,13 @@ enum {
 };
 
 /* Makes a manager that has played nothing, with so many targets of each kind to register. At most `comms` comms are open at a time.
- * The number of targets takes no memory. */
+ * The number of targets takes no memory. The handle is tested before the limit. */
 uint32_t comm_open(comm_handle *handle, uint32_t echo, uint32_t counter, uint32_t widget, uint32_t widget_echo, uint32_t plain, size_t comms);
 
 /* Registers a target of a kind under a name, which is UTF-8 and not ended by a zero. The answer is 'reply <number> registered', with a line feed.
  * Where a target has the name, it is replaced and its comms are closed: 'reply <number> replaced [..]' with a JSON list of their ids, and a line
- * 'out ..' for the close of each. The command `register` of a line does the same for the kinds but COMM_PLAIN. */
+ * 'out ..' for the close of each. The command `register` of a line does the same for the kinds but COMM_PLAIN. Tested are the handle, the kind, the name,
+ * whether a target of the kind is left, and how many calls were made, in this order: the first that isn't as it should be gives the number. */
 uint32_t comm_register(comm_handle *handle, uint32_t kind, const uint8_t *name, size_t name_size, uint8_t *out, size_t out_size, size_t *size);
 
 /* Plays a line, a message of a frontend or a command of the kernel, and writes what is said to it: nothing, or lines 'reply ..', 'out ..',
@@ -97,7 +98,8 @@ enum {
  * to say in it, `{}`; and `count` binary frames, which stand one after another in `frames` and have the sizes in `sizes`. The clients are numbered
  * 0 to 3. What is said is what comm_line says to the line {"header":..,"metadata":..,"content":..,"buffers":[..],"client":..} of these parts;
  * it is told by `*reply`, one of the numbers above, and by how many messages are sent: `*sent`. comm_part and comm_reply_part have them,
- * and comm_text the text, until the next call that is made. */
+ * and comm_text the text, until the next call that is made. Tested are the handle, the sizes, the three JSON texts, and how many calls were made, in this
+ * order: the first that isn't as it should be gives the number. */
 uint32_t comm_message(comm_handle *handle, uint32_t client, const uint8_t *header, size_t header_size, const uint8_t *metadata, size_t metadata_size,
                       const uint8_t *content, size_t content_size, const uint8_t *frames, size_t frames_size, const size_t *sizes, size_t count,
                       uint32_t *reply, size_t *sent);

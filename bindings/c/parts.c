@@ -78,6 +78,8 @@ static void nothing_there(const char *when) {
 
 static void opened(comm_handle *at) {
   check(comm_open(at, 1, 1, 1, 1, 1, 4) == COMM_OK, "open");
+  reply = 7, sent = 7;
+  check(comm_answer(at, &reply, &sent) == COMM_OK && reply == COMM_REPLY_NONE && sent == 0, "no call yet");
   check(comm_register(at, COMM_ECHO, bytes("echo"), 4, out, sizeof out, &size) == COMM_OK, "register");
   check(comm_register(at, COMM_PLAIN, bytes("mine"), 4, out, sizeof out, &size) == COMM_OK, "register");
   check(comm_register(at, COMM_WIDGET, bytes("jupyter.widget"), 14, out, sizeof out, &size) == COMM_OK, "register");
@@ -104,6 +106,13 @@ static void frames_there_and_back(void) {
   check_no_part(1, COMM_PART_TYPE, "no second message");
   check_no_part(SIZE_MAX, SIZE_MAX, "no last message");
   check_no_reply_part(COMM_PART_CONTENT, "nothing for the kernel");
+}
+
+static void a_blank_line(const char *line) {
+  check(plainly("comm_info_request", "{}") == COMM_OK && reply == COMM_REPLY_READ && sent == 1, "a call that isn't blank");
+  check(comm_line(&handle, bytes(line), strlen(line), out, sizeof out, &size) == COMM_OK && size == 0, "a blank line");
+  check(comm_answer(&handle, &reply, &sent) == COMM_OK && reply == COMM_REPLY_NONE && sent == 0, "comes to nothing");
+  check_no_part(0, COMM_PART_TYPE, "and sends nothing");
 }
 
 static void for_the_kernel(void) {
@@ -182,6 +191,7 @@ static void refusals(void) {
   check(message(0, "{}", "{}", "{}", "abc", 3, few, 2) == COMM_BAD_SIZES && reply == 0 && sent == 0, "too few");
   check(message(0, "{}", "{}", "{}", "abc", 3, many, 2) == COMM_BAD_SIZES, "too many");
   check(message(0, "{}", "{}", "{}", "abc", 3, vast, 2) == COMM_BAD_SIZES, "more than there can be");
+  check(message(0, "{", "{}", "{}", "abc", 3, few, 2) == COMM_BAD_SIZES, "sizes are tested before JSON texts");
   check(message(0, "{},\"call\":\"hang_up\",\"id\":\"m\",\"x\":{}", "{}", "{}", "", 0, no_sizes, 0) == COMM_NOT_JSON, "a header that reaches beyond");
   check(message(0, "{}", "", "{}", "", 0, no_sizes, 0) == COMM_NOT_JSON, "no metadata");
   check(message(0, "{}", "{}", "\xff", "", 0, no_sizes, 0) == COMM_NOT_JSON && reply == 0, "a content that isn't UTF-8");
@@ -198,6 +208,8 @@ int main(void) {
   check(comm_answer(&handle, &reply, &sent) == COMM_OK && reply == COMM_REPLY_REGISTERED && sent == 0, "registered");
   opened(&other);
   frames_there_and_back();
+  a_blank_line("");
+  a_blank_line(" \t\r");
   for_the_kernel();
   a_widget();
   a_widget_that_echoes();

@@ -48,6 +48,7 @@ static void opening(void) {
   check(comm_open(&handle, 1, 1, 1, 1, 1, 4097) == COMM_BAD_LIMIT, "too many comms");
   check(comm_open(&handle, 0, 4294967295u, 1, 0, 1, 2) == COMM_OK, "open");
   check(comm_open(&handle, 1, 1, 1, 1, 1, 2) == COMM_BUSY, "open again");
+  check(comm_open(&handle, 1, 1, 1, 1, 1, 0) == COMM_BUSY, "the handle is tested before the limit");
 }
 
 static void registering(void) {
@@ -55,6 +56,8 @@ static void registering(void) {
   check(named(COMM_ECHO, "x") == COMM_NO_STOCK, "no echo in stock");
   check(named(COMM_WIDGET_ECHO, "x") == COMM_NO_STOCK, "no widgets that echo in stock");
   check(named(COMM_PLAIN, "\xff") == COMM_BAD_NAME, "a name that isn't UTF-8");
+  check(named(5, "\xff") == COMM_BAD_KIND, "the kind is tested before the name");
+  check(named(COMM_ECHO, "\xff") == COMM_BAD_NAME, "the name is tested before what is left");
   check(named(COMM_COUNTER, "mine") == COMM_OK && said("reply 1 registered\n"), "a counter");
   check(named(COMM_PLAIN, "mine") == COMM_OK && said("reply 2 replaced []\n"), "a plain target in its place");
   check(named(COMM_PLAIN, "other") == COMM_NO_STOCK && size == 0, "no second plain target");

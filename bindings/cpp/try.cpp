@@ -91,6 +91,8 @@ static void answers(comm::manager &manager) {
   const std::vector<comm::answer> bad = comm::answers(manager.line("{"));
   check(bad.size() == 1 && bad[0].word == "bad" && bad[0].number == 7 && bad[0].words == "not_json", "a bad line");
   check(manager.line("").empty() && manager.line({}).empty() && comm::answers("").empty(), "an empty line says nothing");
+  const comm::outcome blank = manager.answer();
+  check(blank.reply == comm::reply::none && blank.sent.empty(), "and comes to nothing");
 }
 
 static void long_texts(comm::manager &manager) {

@@ -47,6 +47,7 @@ def plain(library) -> None:
     handed = manager.line(b'{"header":{"msg_type":"comm_msg"},"content":{"comm_id":"a","data":{"k":"' + long + b'"}}}')
     check("a long text", handed == b'reply 3 custom {"buffers":[],"content":{"k":"' + long + b'"}}\n')
     check("the same again", manager.text() == handed)
+    check("a blank line", manager.line(b" ") == b"" and manager.answer() == Answer(Reply.NONE, []))
     manager.end()
     try:
         manager.line(b"{}")

@@ -52,6 +52,7 @@ fn lines(checks: &mut Checks, manager: &mut Manager) {
     let bad = manager.line(b"{").map(|text| answers(text).collect::<Vec<_>>());
     checks.check("a bad line", bad.as_deref() == Ok(&[Answer::Bad(7, "not_json")]));
     checks.check("an empty line says nothing", manager.line(b"") == Ok(b""));
+    checks.check("and comes to nothing", manager.answer() == Ok(Outcome { reply: Reply::None, sent: vec![] }));
 }
 
 fn long_texts(checks: &mut Checks, manager: &mut Manager) {

@@ -1,5 +1,5 @@
 //! What C gets of a manager.
-ghost use Rattle.std.specs.Prelude.{◌≡◌, ◌≢◌, ◌⊎◌, ◌<◌, ◌≤◌, ◌^◌, None, Some, option_map, length, IsUtf8};
+ghost use Rattle.std.specs.Prelude.{◌≡◌, ◌≢◌, ◌⊎◌, ◌<◌, ◌≤◌, ◌^◌, None, Some, option_map, length, IsSome, IsUtf8};
 ghost use Rattle.comm_c.specs.Codes.{ok, memory, short, full, bad_name, bad_kind, no_stock, kind_numbered};
 ghost use Rattle.comm_c.specs.Kept.{Plays, Shows};
 ghost use Rattle.comm_c.specs.Said.{EntersAs, Fills, LacksKind};
@@ -81,7 +81,8 @@ pub fn played(
     }
 }
 
-/// Registers a target of the kind that has this number under a name, and writes what was said.
+/// Registers a target of the kind that has this number under a name, and writes what was said. The kind is tested first, then the name, then
+/// whether a target is left, then whether a call is.
 pub fn entered(
     manager: &mut Manager,
     alloc: Global,
@@ -98,9 +99,12 @@ pub fn entered(
     ensures short { result ≡ short → length out.old < length manager.new.text }
     ensures same { result ≢ ok → result ≢ short → manager.new ≡ manager.old }
     ensures full { result ≡ full → 2 ^ 62 ≤ manager.old.number }
-    ensures name { result ≡ bad_name → ¬ (IsUtf8 name.now) }
     ensures kind { result ≡ bad_kind → kind_numbered kind ≡ None }
+    ensures known { result ≢ bad_kind → IsSome (kind_numbered kind) }
+    ensures name { result ≡ bad_name → ¬ (IsUtf8 name.now) }
+    ensures utf8 { result ≢ bad_kind → result ≢ bad_name → IsUtf8 name.now }
     ensures stock { result ≡ no_stock → LacksKind manager.old (kind_numbered kind) }
+    ensures stocked { (result ≡ ok) ⊎ (result ≡ short) ⊎ (result ≡ memory) ⊎ (result ≡ full) → ¬ (LacksKind manager.old (kind_numbered kind)) }
     ensures codes { (result ≡ ok) ⊎ (result ≡ memory) ⊎ (result ≡ short) ⊎ (result ≡ full) ⊎ (result ≡ bad_name) ⊎ (result ≡ bad_kind) ⊎ (result ≡ no_stock) }
 {
     let Some(kind) = kind_numbered(kind) else {

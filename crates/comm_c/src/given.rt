@@ -14,12 +14,12 @@ use crate::part::Piece;
 use crate::parts::Parts;
 use std::alloc::Global;
 
-/// Plays a message by its parts.
+/// Plays a message by its parts. The sizes are tested first, then whether the parts are JSON, then whether a call is left.
 pub fn played_by_parts(manager: &mut Manager, alloc: Global, parts: &Parts<'_>) -> u32
     ensures plays { result ≡ ok → Plays manager.old (line_of parts.now) manager.new }
     ensures shows { result ≡ ok → Shows manager.new }
-    ensures json { result ≡ ok → AreJson parts.now.header.now parts.now.metadata.now parts.now.content.now }
-    ensures sizes { result ≡ ok → AddUp parts.now.sizes.now parts.now.frames.now }
+    ensures sizes { result ≢ bad_sizes → AddUp parts.now.sizes.now parts.now.frames.now }
+    ensures json { (result ≡ ok) ⊎ (result ≡ full) → AreJson parts.now.header.now parts.now.metadata.now parts.now.content.now }
     ensures same { result ≢ ok → manager.new ≡ manager.old }
     ensures full { result ≡ full → 2 ^ 62 ≤ manager.old.number }
     ensures bad_sizes { result ≡ bad_sizes → ¬ (AddUp parts.now.sizes.now parts.now.frames.now) }

@@ -54,6 +54,7 @@ pub extern "C" fn comm_open(
     ensures same { result ≢ ok → handle.new.value ≡ handle.old.value }
     ensures busy { result ≡ busy ↔ IsSome handle.old.value }
     ensures limit { result ≡ bad_limit → ¬ (AreAllowed (limits_of comms)) }
+    ensures allowed { (result ≡ ok) ⊎ (result ≡ memory) → AreAllowed (limits_of comms) }
     ensures codes { (result ≡ ok) ⊎ (result ≡ memory) ⊎ (result ≡ bad_limit) ⊎ (result ≡ busy) }
 {
     match take(handle, alloc) {
@@ -133,9 +134,12 @@ pub extern "C" fn comm_register(
     ensures same { result ≢ ok → result ≢ short → handle.new.value ≡ handle.old.value }
     ensures closed { result ≡ closed ↔ (handle.old.value ≡ None) }
     ensures full { result ≡ full → IsFull handle.old.value }
-    ensures name { result ≡ bad_name → ¬ (IsUtf8 name.now) }
     ensures kind { result ≡ bad_kind → kind_numbered kind ≡ None }
+    ensures known { result ≢ closed → result ≢ bad_kind → IsSome (kind_numbered kind) }
+    ensures name { result ≡ bad_name → ¬ (IsUtf8 name.now) }
+    ensures utf8 { result ≢ closed → result ≢ bad_kind → result ≢ bad_name → IsUtf8 name.now }
     ensures stock { result ≡ no_stock → IsOut handle.old.value (kind_numbered kind) }
+    ensures stocked { (result ≡ ok) ⊎ (result ≡ short) ⊎ (result ≡ memory) ⊎ (result ≡ full) → ¬ (IsOut handle.old.value (kind_numbered kind)) }
     ensures codes { (result ≡ ok) ⊎ (result ≡ closed) ⊎ (result ≡ memory) ⊎ (result ≡ short) ⊎ (result ≡ full) ⊎ (result ≡ bad_name) ⊎ (result ≡ bad_kind) ⊎ (result ≡ no_stock) }
 {
     *size = 0;
@@ -167,8 +171,8 @@ pub extern "C" fn comm_message(
     ensures played { result ≡ ok → HasPlayed handle.old.value (message_line client header.now metadata.now content.now (frames_in frames.now sizes.now)) handle.new.value }
     ensures shown { result ≡ ok → HasShown handle.new.value }
     ensures answered { result ≡ ok → HasAnswered handle.new.value reply.new sent.new }
-    ensures json { result ≡ ok → AreJson header.now metadata.now content.now }
-    ensures sizes { result ≡ ok → AddUp sizes.now frames.now }
+    ensures sizes { result ≢ closed → result ≢ bad_sizes → AddUp sizes.now frames.now }
+    ensures json { (result ≡ ok) ⊎ (result ≡ full) → AreJson header.now metadata.now content.now }
     ensures same { result ≢ ok → handle.new.value ≡ handle.old.value }
     ensures nothing { result ≢ ok → (reply.new ≡ 0) × (sent.new ≡ 0) }
     ensures closed { result ≡ closed ↔ (handle.old.value ≡ None) }
