@@ -1,5 +1,5 @@
 -- Why a change or a shutdown is refused.
-use Rattle.std.specs.Prelude.{ℕ, zero, suc, ◌≡◌, ◌≤◌, ◌==◌, Bool, true, false, ◌&&◌, List, length}
+use Rattle.std.specs.Prelude.{ℕ, zero, suc, ◌≡◌, ◌<◌, ◌≤◌, ◌==◌, Bool, true, false, ◌&&◌, List, length}
 use Rattle.std.specs.List.{list_any}
 use Rattle.comm_core.specs.History.{IsLegal}
 use Rattle.comm_core.specs.Limits.{AreAllowed}
@@ -18,6 +18,12 @@ abbrev pub Because : Limits → Unavailable (List Entry) → Type 0
 Because limits (HistoryFull stamp) = (length stamp ≡ limits.history) × IsLegal limits.clients limits.comms stamp
 Because limits (OutboxFull waiting) = limits.outbox ≤ waiting
 Because limits Memory = Unit {0}
+
+-- After so many entries: the history is full, and the stamp is of all of it. Each other reason comes only where there is room for one
+-- more, so that a full history is told first.
+abbrev pub IsHistoryFirst : Limits → List Entry → Unavailable (List Entry) → Type 0
+IsHistoryFirst limits history (HistoryFull stamp) = (stamp ≡ history) × (length history ≡ limits.history)
+IsHistoryFirst limits history why = length history < limits.history
 
 -- a limit is out of its bounds; or memory ran out
 abbrev pub Barred : Limits → NewFault → Type 0

@@ -1,5 +1,5 @@
 //! One change, in its order.
-ghost use Rattle.std.specs.Prelude.{◌≡◌, ◌+◌, ◌<◌, ◌≤◌, ◌^◌, ◌++◌, [], ◌∷◌, length, true, ◌⊎◌, IfOk, IfErr, OnErr, OnOk, MatchOption, MatchResult, slice_index, slice_set};
+ghost use Rattle.std.specs.Prelude.{◌≡◌, ◌+◌, ◌<◌, ◌≤◌, ◌^◌, ◌++◌, [], ◌∷◌, length, true, ◌⊎◌, IfOk, IfErr, IfSome, OnErr, OnOk, MatchOption, MatchResult, slice_index, slice_set};
 ghost use mathlib.Core.List.{IsPrefix};
 ghost use Rattle.std.specs.Arc.{arc_value};
 ghost use Rattle.comm_core.specs.History.{IsLegal, mine, replay};
@@ -10,7 +10,7 @@ ghost use Rattle.comm_targets.specs.Meaning.{IsIdle};
 ghost use Rattle.comm_manager.specs.Asked.{IsNext, entry_of};
 ghost use Rattle.comm_manager.specs.Kept.{IsKept, Puts};
 ghost use Rattle.comm_manager.specs.Tally.{tally};
-ghost use Rattle.comm_manager.specs.Why.{Because};
+ghost use Rattle.comm_manager.specs.Why.{Because, IsHistoryFirst};
 
 use crate::answered::Answered;
 use crate::journal::Journal;
@@ -94,6 +94,7 @@ fn refusal<J: Naming, R: Wait>(
     requires few { made ≤ J.limits.history }
     requires puts { Puts J.queue J.limits writer.now.front outbox.old }
     ensures why { MatchOption result ((length writer.now.front < J.limits.history) × (2 ≤ outbox.new.room)) (λ e. Because J.limits e) }
+    ensures first { IfSome result (λ e. IsHistoryFirst J.limits writer.now.front e) }
     ensures puts { Puts J.queue J.limits writer.now.front outbox.new }
 {
     if made as u64 >= limits.history {
@@ -141,6 +142,7 @@ fn admit<J: Naming, R: Wait>(
     ensures known { OnOk result ((ticket.old.client < 4) × (slice_index books.old ticket.old.client ≡ ticket.old.number)) }
     ensures seen { OnOk result (length reader.now ≤ length journal.old.all) }
     ensures why { IfErr result (λ e. Because J.limits e) }
+    ensures first { IfErr result (λ e. IsHistoryFirst J.limits journal.old.all e) }
 {
     let made = journal.len();
     if let Some(why) = refusal(rt, limits, made, writer, outbox) {
@@ -219,6 +221,7 @@ pub fn ask<J: Naming, T: Target, R: Wait>(
     ensures idle { IfOk result (λ m. IdleWhere m.ended) }
     ensures err { OnErr result ((ticket.new ≡ ticket.old) × (reader.new ≡ reader.old) × (journal.new.all ≡ journal.old.all)) }
     ensures why { IfErr result (λ e. Because J.limits e) }
+    ensures first { IfErr result (λ e. IsHistoryFirst J.limits journal.old.all e) }
 {
     replays_grow();
     legal_histories_grow();
@@ -289,6 +292,7 @@ pub fn register<J: Naming, T: Target, R: Wait>(
     ensures idle { IfOk result (λ m. IdleWhere m.ended) }
     ensures err { OnErr result ((ticket.new ≡ ticket.old) × (reader.new ≡ reader.old) × (journal.new.all ≡ journal.old.all)) }
     ensures why { IfErr result (λ e. Because J.limits e.0) }
+    ensures first { IfErr result (λ e. IsHistoryFirst J.limits journal.old.all e.0) }
     ensures boxed { IfErr result (λ e. T.means e.1 ≡ T.means boxed) }
 {
     replays_grow();

@@ -14,7 +14,7 @@ ghost use Rattle.comm_manager.specs.Asked.{IsNext};
 ghost use Rattle.comm_outbox.specs.Sides.{entries_of, unfilled};
 ghost use Rattle.comm_manager.specs.Kept.{Puts, counts};
 ghost use Rattle.comm_manager.specs.Mine.{IsAnswered, IsSettled};
-ghost use Rattle.comm_manager.specs.Why.{Because};
+ghost use Rattle.comm_manager.specs.Why.{Because, IsHistoryFirst};
 
 use crate::change::{self, Made};
 use crate::client::Client;
@@ -114,6 +114,7 @@ impl<J: Naming, T: Target> Inner<J, T> {
         ensures idle { IfOk result (λ m. IdleWhere m.ended) }
         ensures err { OnErr result ((client.new ≡ client.old) × (self.new ≡ self.old)) }
         ensures why { IfErr result (λ e. Because J.limits e) }
+        ensures first { IfErr result (λ e. IsHistoryFirst J.limits self.old e) }
     {
         change::ask(
             rt,
@@ -146,6 +147,7 @@ impl<J: Naming, T: Target> Inner<J, T> {
         ensures idle { IfOk result (λ m. IdleWhere m.ended) }
         ensures err { OnErr result ((client.new ≡ client.old) × (self.new ≡ self.old)) }
         ensures why { IfErr result (λ e. Because J.limits e.0) }
+        ensures first { IfErr result (λ e. IsHistoryFirst J.limits self.old e.0) }
         ensures boxed { IfErr result (λ e. T.means e.1 ≡ T.means boxed) }
     {
         change::register(

@@ -1,5 +1,5 @@
 //! Readers, which take no lock.
-ghost use Rattle.std.specs.Prelude.{◌≡◌, ◌⊎◌, length, true, IfOk, IfSome, OnOk, IsErrOf, option_map};
+ghost use Rattle.std.specs.Prelude.{◌≡◌, ◌⊎◌, length, true, None, IfOk, IfSome, OnOk, IsErrOf, option_map};
 ghost use mathlib.Core.List.{IsPrefix};
 ghost use Rattle.std.specs.Arc.{arc_value};
 ghost use Rattle.left_right.specs.Sides.{view};
@@ -79,6 +79,35 @@ fn look(lens: Lens) -> (Lens, Option<Found>)
     }
 }
 
+// Sees what was found. NoVersion comes only where nothing was. A version whose root couldn't be shared is want of memory. So is
+// one that lags behind what was seen: there is none, since a stamp is made after its front was published, but no contract says so.
+fn see<J: History>(sight: &mut Sight<J>, found: Option<Found>) -> Result<Shown, ReadFault>
+    requires origin { IfSome found (λ r. r.0.origin ≡ origin_of J.book J.limits) }
+    requires version { IfSome found (λ r. IfOk r.1 (λ v. v.mark ≡ r.0)) }
+    ensures later { IsPrefix sight.old sight.new }
+    ensures shown { IfOk result (λ r. (r.front ≡ length sight.new) × IsLegal J.limits.clients J.limits.comms sight.new × (arc_value r.root ≡ rows (replay J.limits.comms sight.new)) × IsSettled J.limits.comms r.since sight.new) }
+    ensures nothing { IsErrOf result fault.NoVersion → found ≡ None }
+    ensures none { IsErrOf result fault.NoVersion → sight.new ≡ sight.old }
+{
+    let Some((mark, version)) = found else {
+        return Err(ReadFault::NoVersion);
+    };
+    let shown: Front<J> = Front::of(mark);
+    if !sight.front().begins(&shown) {
+        return Err(ReadFault::Memory);
+    }
+    let front = shown.len();
+    sight.advance(shown);
+    match version {
+        Ok(version) => Ok(Shown {
+            front,
+            since: version.since,
+            root: version.into_root(),
+        }),
+        Err(_) => Err(ReadFault::Memory),
+    }
+}
+
 impl<J: History> VersionReader<J> {
     pub(crate) fn new(lens: Lens, front: Front<J>) -> VersionReader<J>
         requires { ((view lens.place).0 ≡ true) × ((view lens.place).1.origin ≡ origin_of J.book J.limits) }
@@ -97,23 +126,7 @@ impl<J: History> VersionReader<J> {
         ensures none { IsErrOf result fault.NoVersion → self.new ≡ self.old }
     {
         let found = replace_with(&mut self.lens, (), |lens, _| look(lens));
-        let Some((mark, version)) = found else {
-            return Err(ReadFault::NoVersion);
-        };
-        let shown: Front<J> = Front::of(mark);
-        if !self.sight.front().begins(&shown) {
-            return Err(ReadFault::NoVersion);
-        }
-        let front = shown.len();
-        self.sight.advance(shown);
-        match version {
-            Ok(version) => Ok(Shown {
-                front,
-                since: version.since,
-                root: version.into_root(),
-            }),
-            Err(_) => Err(ReadFault::Memory),
-        }
+        see(&mut self.sight, found)
     }
 
     // The comms that are shown and asked for: the list that was read last, where no comm came or went since.
