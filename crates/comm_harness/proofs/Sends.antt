@@ -7,4 +7,4 @@ use Rattle.comm_targets.proofs.Sends.{open_comms_sends}
 use Rattle.comm_harness.specs.contracts.told.ToldTarget as told
 
 pub told_sends : IsSend told.the_row
-told_sends = search (open_comms_sends, global.the_field_send, option.the_field_send, option.the_send, Crossing.crosses, sendable) depth 60 fits 20000
+told_sends = search (open_comms_sends, global.the_field_send, option.the_field_send, Crossing.crosses, sendable) depth 60 fits 20000

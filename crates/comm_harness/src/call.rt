@@ -107,11 +107,11 @@ fn full_call(alloc: Global, kind: &str, words: &str) -> Result<Call, Wrong>
     }
 }
 
-/// The call of a line. Its words stand at single spaces, JSON has no space in it, and buffers are words of hexadecimal digits (`-`: no byte).
-/// Data or a state that are left out are `{}`; a version `-` is none.
+/// The call of a line. Its words stand at single spaces, JSON has no space in it, and buffers are words of
+/// hexadecimal digits (`-`: no byte). Data or a state that are left out are `{}`; a version `-` is none.
 ///
-/// `open ID TARGET VERSION DATA BUFFER..`, `msg ID DATA BUFFER..`, `send ID DATA BUFFER..`, `close ID`, `hang_up ID`, `unregister NAME`,
-/// `launch UUID NAME STATE`, `push ID STATE`
+/// `open ID TARGET VERSION DATA BUFFER..`, `msg ID DATA BUFFER..`, `send ID DATA BUFFER..`, `close ID`, `hang_up ID`,
+/// `unregister NAME`, `launch UUID NAME STATE`, `push ID STATE`
 pub fn call_of(alloc: Global, line: &str) -> Result<Call, Wrong>
     ensures { IfOk result HandsNothingIn }
 {

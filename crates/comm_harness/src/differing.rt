@@ -31,8 +31,8 @@ fn tell_line<R: Eprint>(rt: &R, name: &str, got: &str, want: &str) {
     }
 }
 
-/// Err where a row's text isn't the one that is wanted: the row's name, the first line that differs, what came and what was wanted are
-/// printed as an error.
+/// Err where a row's text isn't the one that is wanted: the row's name, the first line that differs, what came and
+/// what was wanted are printed as an error.
 pub fn same<R: Eprint>(rt: &R, name: &str, got: &[u8], want: &[u8]) -> Result<(), Wrong> {
     if got == want {
         return Ok(());

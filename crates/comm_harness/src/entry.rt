@@ -56,7 +56,8 @@ pub fn append_call(alloc: Global, call: &Call, text: &mut Vec<u8>) -> Result<(),
     }
 }
 
-/// A line for the state, for each message and for what the caller is handed, as far as an answer has them, each behind `given`.
+/// A line for the state, for each message and for what the caller is handed, as far as an answer has them, each
+/// behind `given`.
 pub fn append_given(alloc: Global, answer: &Answer, text: &mut Vec<u8>) -> Result<(), AllocError> {
     if let Some(state) = &answer.state {
         append_words(&["given", "state"], text)?;
@@ -128,7 +129,8 @@ fn append_stated(
     }
 }
 
-/// What a change does to the comms that readers see: `row same`, `row put ID TARGET STATE` (`-`: none), `row out ID..` or `row clear`.
+/// What a change does to the comms that readers see: `row same`, `row put ID TARGET STATE` (`-`: none),
+/// `row out ID..` or `row clear`.
 pub fn append_row(alloc: Global, row: &Row, text: &mut Vec<u8>) -> Result<(), AllocError> {
     match row {
         Row::Same => append_words(&["row", "same"], text)?,

@@ -1,5 +1,5 @@
-//! What the crates of tests share: calls from lines of words, what came of them as words, a target that is told what to do, tables of
-//! texts, and how a row of one fails.
+//! What the crates of tests share: calls from lines of words, what came of them as words, a target that is told what
+//! to do, tables of texts, and how a row of one fails.
 #![tactic(auto)]
 
 mod answer;

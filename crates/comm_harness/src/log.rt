@@ -6,7 +6,8 @@ use std::sync::atomic::{AtomicU64, Ordering};
 /// More than any text of a test is long.
 const ROOM: usize = 512;
 
-/// The text's bytes, each in a place of its own. 0 stands in the places behind its end, and what finds no place is dropped.
+/// The text's bytes, each in a place of its own. 0 stands in the places behind its end, and what finds no place is
+/// dropped.
 #[derive(Drop)]
 pub struct Log {
     places: Arc<Vec<AtomicU64>>,

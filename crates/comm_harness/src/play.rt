@@ -301,8 +301,10 @@ fn append_log(log: &Log, text: &mut Vec<u8>) -> Result<(), AllocError> {
 
 /// Appends what comes of a line over a manager: a call's (`call_of`), which is one step, or
 ///
-/// - `register NAME`, of the next target; `finish LINE` makes the change of a call or a register in two steps, and `withdraw LINE` takes it back
-/// - `tell LINE`, which makes it and tells its entry and its row, and `spend LINE`, which does so of a call that isn't kept
+/// - `register NAME`, of the next target; `finish LINE` makes the change of a call or a register in two steps, and
+///   `withdraw LINE` takes it back
+/// - `tell LINE`, which makes it and tells its entry and its row, and `spend LINE`, which does so of a call that
+///   isn't kept
 /// - `state ID`, `infos`, `infos_of NAME`, `listing` and `listing_of NAME`
 /// - `log`, what targets noted since the last one
 pub fn play_line<T: Target>(
@@ -352,7 +354,8 @@ fn play_lines<T: Target>(
     Ok(())
 }
 
-/// What comes of lines over a manager of at most so many comms, and at last how many targets it ended and what these noted.
+/// What comes of lines over a manager of at most so many comms, and at last how many targets it ended and what these
+/// noted.
 pub fn played<T: Target>(
     alloc: Global,
     comms: usize,

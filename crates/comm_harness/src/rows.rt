@@ -26,7 +26,8 @@ fn text_of<R: Reader>(alloc: Global, reader: &R, lines: &str) -> Result<Vec<u8>,
     Ok(text)
 }
 
-/// What a row comes to is as wanted: a text that is another, and what went wrong instead of one, are printed as errors behind its name.
+/// What a row comes to is as wanted: a text that is another, and what went wrong instead of one, are printed as
+/// errors behind its name.
 pub fn is_wanted<E: Eprint>(rt: &E, row: &Row, came: Result<Vec<u8>, Wrong>) -> bool {
     match came {
         Ok(text) => same(rt, row.name, &text, row.want.as_bytes()).is_ok(),

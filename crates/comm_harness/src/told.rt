@@ -10,13 +10,13 @@ use std::alloc::{AllocError, Global};
 
 /// A target of kind Free that gives what the data of an event tell it to.
 ///
-/// `"code":n` refuses the event with `Other(n)`, and `"memory":true` with `Memory`. Else `first` and `second` are the data of its
-/// messages, `state` is the comm's new state, and to a message `custom` is what the caller is handed, with the buffers of the event.
-/// `"now":true` gives the state that it was asked with as its state, and first of all messages `{"now":STATE}`, or `{"now":null}` where it
-/// was asked with none.
+/// `"code":n` refuses the event with `Other(n)`, and `"memory":true` with `Memory`. Else `first` and `second` are the
+/// data of its messages, `state` is the comm's new state, and to a message `custom` is what the caller is handed,
+/// with the buffers of the event. `"now":true` gives the state that it was asked with as its state, and first of all
+/// messages `{"now":STATE}`, or `{"now":null}` where it was asked with none.
 ///
-/// Each call of it, but for those that only ask what it is, is noted in a log that it is given: `open:ID`, `message:ID`, `commit`,
-/// `abandon`, `close:ID` and `stop`, each behind whose it is.
+/// Each call of it, but for those that only ask what it is, is noted in a log that it is given: `open:ID`,
+/// `message:ID`, `commit`, `abandon`, `close:ID` and `stop`, each behind whose it is.
 #[derive(Drop)]
 pub struct ToldTarget {
     alloc: Global,

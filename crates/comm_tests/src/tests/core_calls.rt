@@ -1,4 +1,5 @@
-//! How often a target is called, and in which order; what targets of the stock are answered, and how many comms may be open.
+//! How often a target is called, and in which order; what targets of the stock are answered, and how many comms may
+//! be open.
 use super::managed::{Scene, play_scenes};
 use comm_core::Limits;
 use comm_harness::{Row, Wrong, holds};

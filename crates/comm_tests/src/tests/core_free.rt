@@ -1,4 +1,5 @@
-//! What a free target is asked with, and that what it gives goes on unaltered: its code, or its messages, its state and its value for the caller.
+//! What a free target is asked with, and that what it gives goes on unaltered: its code, or its messages, its state
+//! and its value for the caller.
 use super::managed::{Scene, play_scenes};
 use comm_harness::Row;
 use std::test::Fail;
@@ -221,7 +222,8 @@ log open:c open:b commit open:a commit message:a commit close:b close:a stop
     },
 };
 
-/// An opening is asked without a state, a message with the one that the comm was given last, if any, each comm with its own.
+/// An opening is asked without a state, a message with the one that the comm was given last, if any, each comm with
+/// its own.
 const ASKED_WITH_STATE: Scene = Scene {
     stocks: &["told"],
     comms: 4,

@@ -90,8 +90,8 @@ fn append_owned(alloc: Global, json: &str, key: &str, text: &mut Vec<u8>) -> Res
     done
 }
 
-/// Reads `line KEY JSON` as a line, `owned KEY JSON` as `serde_json`'s value, of the key `*` as all members in order, and `hex HEX` as a
-/// line of these bytes.
+/// Reads `line KEY JSON` as a line, `owned KEY JSON` as `serde_json`'s value, of the key `*` as all members in order,
+/// and `hex HEX` as a line of these bytes.
 struct Lines;
 
 impl Reader for Lines {

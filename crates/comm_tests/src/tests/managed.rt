@@ -6,7 +6,8 @@ use std::process::Abort;
 use std::test::Fail;
 use widget_target::WidgetTarget;
 
-/// What is played over a manager of at most so many comms, once with each of these stocks of targets, which are named by words.
+/// What is played over a manager of at most so many comms, once with each of these stocks of targets, which are named
+/// by words.
 #[derive(Clone, Copy)]
 pub(super) struct Scene {
     pub stocks: &'static [&'static str],

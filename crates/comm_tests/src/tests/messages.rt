@@ -100,8 +100,8 @@ fn append_base64(alloc: Global, json: &str, out: &mut Vec<u8>) -> Result<(), Wro
     Ok(append_words(&["\n"], out)?)
 }
 
-/// Reads `hex HEX` as a message of these bytes, `nested N` as one of so many lists inside one another, `base64 JSON` as a list of buffers,
-/// and any other line as a message.
+/// Reads `hex HEX` as a message of these bytes, `nested N` as one of so many lists inside one another, `base64 JSON`
+/// as a list of buffers, and any other line as a message.
 struct Messages;
 
 impl Reader for Messages {

@@ -73,8 +73,8 @@ fn is_taken_back<T: Target>(held: &mut Held<T>, opening: &Event) -> bool
     is_staged && held.idle()
 }
 
-/// Opens a comm, sends the same message twice, closes the comm and ends the target. Tells whether an opening before is taken back, both
-/// answers and the notes.
+/// Opens a comm, sends the same message twice, closes the comm and ends the target. Tells whether an opening before
+/// is taken back, both answers and the notes.
 fn talk<T: Target>(
     alloc: Global,
     target: T,
@@ -132,7 +132,8 @@ fn conversation<T: Target>(
     end
 }
 
-/// Reads `TARGET OPENING MESSAGE BUFFER..`, of the data of an opening and of a message. At the end stands what a told target noted.
+/// Reads `TARGET OPENING MESSAGE BUFFER..`, of the data of an opening and of a message. At the end stands what a told
+/// target noted.
 struct Conversations;
 
 impl Reader for Conversations {

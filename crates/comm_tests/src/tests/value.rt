@@ -185,8 +185,8 @@ fn append_quoted(alloc: Global, word: &str, text: &mut Vec<u8>) -> Result<(), Wr
     }
 }
 
-/// Reads `value JSON`, `paths JSON` (nothing for none), `placed STATE PATHS BUFFER..`, `merged STATE UPDATE`, `inserted DICT KEY BYTES`,
-/// `is TEXT OTHER`, `whole NUMBER`, `buffers BUFFER..` and `quoted HEX`.
+/// Reads `value JSON`, `paths JSON` (nothing for none), `placed STATE PATHS BUFFER..`, `merged STATE UPDATE`,
+/// `inserted DICT KEY BYTES`, `is TEXT OTHER`, `whole NUMBER`, `buffers BUFFER..` and `quoted HEX`.
 struct Values;
 
 impl Reader for Values {

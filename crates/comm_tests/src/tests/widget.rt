@@ -1,4 +1,5 @@
-//! Worked cases of the widgets' protocol, played with a widget and with one that echoes. The base64 AQI= is the bytes 0102, /w== is ff.
+//! Worked cases of the widgets' protocol, played with a widget and with one that echoes. The base64 AQI= is the bytes
+//! 0102, /w== is ff.
 use super::managed::{Scene, play_scenes};
 use comm_harness::Row;
 use std::test::Fail;

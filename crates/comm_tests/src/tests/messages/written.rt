@@ -1,5 +1,5 @@
 //! Messages that go out, as lines that are read again.
-ghost use Rattle.std.specs.Prelude.{◌≡◌, true, IfOk};
+ghost use Rattle.std.specs.Prelude.{◌≡◌, ℕ, true, IfOk};
 ghost use Rattle.comm_messages.specs.Text.{goes_with};
 
 use super::append_read;
@@ -44,7 +44,8 @@ fn line_of(alloc: Global, message: Outgoing, parent: &Parent) -> Result<Vec<u8>,
     line
 }
 
-/// Reads `CLIENT NUMBER LINE`: tells the line of the message, as an answer to this call, and what it says where it is read.
+/// Reads `CLIENT NUMBER LINE`: tells the line of the message, as an answer to this call, and what it says where it is
+/// read.
 struct Written;
 
 impl Reader for Written {
