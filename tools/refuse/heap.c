@@ -1,13 +1,14 @@
 /* A heap that refuses an allocation where a test asks for it. tools/refuse/run puts it before the C library's.
 
-   A request of one of four sizes, which no heap can grant, is a word of the test (crates/comm_fakes/src/heap.rt):
+   A request of one of five sizes, which no heap can grant, is a word of the test (crates/comm_fakes/src/heap.rt):
      MARK         from here on blocks are counted; granted
      REFUSE + n   from here on requests are counted, and the one of number n (malloc, calloc or realloc) is refused, once; granted
-     TOLD         from here on no request is counted; granted if that request was refused
+     ABOVE + n    from here on each request of more than n bytes is refused; granted
+     TOLD         from here on no request is refused; granted if one was since REFUSE or ABOVE
      LEAKED       granted if more blocks are held than at MARK
    A program says no word: with REFUSE_AT=n in the environment the request of number n of the whole process is refused, once.
-   At the end of the process one line goes to the descriptor REFUSE_TO: 'asked=A refused=R', A being the words REFUSE + n and R the
-   refusals. It needs no header, so that the kit's clang alone compiles it. */
+   At the end of the process one line goes to the descriptor REFUSE_TO: 'asked=A refused=R', A being the words REFUSE + n and ABOVE + n, and
+   R the refusals. It needs no header, so that the kit's clang alone compiles it. */
 typedef unsigned long size;
 extern void *__libc_malloc(size), *__libc_calloc(size, size), *__libc_realloc(void *, size), *__libc_memalign(size, size);
 extern void __libc_free(void *);
@@ -17,13 +18,25 @@ extern int *__errno_location(void);
 extern void _Exit(int) __attribute__((noreturn));
 
 static const size REFUSE = 0x5EED000100000000, TOLD = 0x5EED000200000000, LEAKED = 0x5EED000300000000, MARK = 0x5EED000400000000;
+static const size ABOVE = 0x5EED000500000000, ANY = 0xFFFFFFFFFFFFFFFF;
 static const int NO_MEMORY = 12, BAD_ALIGNMENT = 22;
 
 /* What a word is granted. */
 static char granted[64] __attribute__((aligned(64)));
 
 static _Atomic long refused_number, requests, held, words, refusals;
+static _Atomic size most;
 static _Atomic int counts, was_refused;
+
+/* From here on the request of this number is refused, and each that is larger. */
+static void refuse_from_here(long number, size larger) {
+    refused_number = number;
+    most = larger;
+    requests = 0;
+    was_refused = 0;
+    counts = 1;
+    words++;
+}
 
 /* Whether a request is a word, and what it is answered. */
 static int is_word(size n, void **answer) {
@@ -33,11 +46,11 @@ static int is_word(size n, void **answer) {
         *answer = granted;
         return 1;
     case REFUSE:
-        refused_number = n - REFUSE;
-        requests = 0;
-        was_refused = 0;
-        counts = 1;
-        words++;
+        refuse_from_here(n - REFUSE, ANY);
+        *answer = granted;
+        return 1;
+    case ABOVE:
+        refuse_from_here(0, n - ABOVE);
         *answer = granted;
         return 1;
     case TOLD:
@@ -51,8 +64,8 @@ static int is_word(size n, void **answer) {
     return 0;
 }
 
-static int refuses(void) {
-    if (!counts || ++requests != refused_number) return 0;
+static int refuses(size n) {
+    if (!counts || (++requests != refused_number && n <= most)) return 0;
     was_refused = 1;
     refusals++;
     *__errno_location() = NO_MEMORY;
@@ -67,21 +80,21 @@ static void *counted(void *block) {
 void *malloc(size n) {
     void *answer;
     if (is_word(n, &answer)) return answer;
-    return refuses() ? 0 : counted(__libc_malloc(n));
+    return refuses(n) ? 0 : counted(__libc_malloc(n));
 }
 
 void *calloc(size n, size m) {
-    return refuses() ? 0 : counted(__libc_calloc(n, m));
+    return refuses(n * m) ? 0 : counted(__libc_calloc(n, m));
 }
 
 void *realloc(void *block, size n) {
-    if (block == granted || refuses()) return 0;
+    if (block == granted || refuses(n)) return 0;
     void *moved = __libc_realloc(block, n);
     return block ? moved : counted(moved);
 }
 
 void *memalign(size to, size n) {
-    return refuses() ? 0 : counted(__libc_memalign(to, n));
+    return refuses(n) ? 0 : counted(__libc_memalign(to, n));
 }
 
 void *aligned_alloc(size to, size n) {
@@ -122,6 +135,7 @@ static long number(const char *name) {
 
 static __attribute__((constructor)) void begin(void) {
     refused_number = number("REFUSE_AT");
+    most = ANY;
     counts = refused_number > 0;
 }
 

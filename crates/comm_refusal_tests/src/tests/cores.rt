@@ -1,188 +1,191 @@
-//! Each call of the manager of one thread, with each allocation refused in turn.
+//! A trial over the manager of one thread.
 ghost use Rattle.std.specs.Prelude.{◌≡◌, true};
 ghost use Rattle.comm_targets.specs.Meaning.{IsIdle};
 
-use crate::tests::asked::{ALL, Asked, OF_OTHERS, sizes};
-use crate::tests::core_reads::read;
-use crate::tests::filled::{Of, Trial, fill};
-use crate::tests::registers::{register, spare};
-use crate::tests::steps::change;
-use crate::tests::words::{LIMITS, Wrong, holds};
+use crate::tests::rows::STATE;
+use crate::tests::steps::{asked, look, play, register, registered};
+use crate::tests::trial::{LIMITS, Of, Trial, is_made};
 use comm_core::Core;
-use comm_fakes::{has_leaked, mark, refuse, was_refused};
+use comm_fakes::{refuse, was_refused};
+use comm_harness::{ToldTarget, Wrong, cut, holds};
 use comm_targets::{Counter, Echo, Kind, Target};
-use std::alloc::Global;
-use std::process::Abort;
-use std::test::Fail;
+use std::alloc::{AllocError, Global};
 use widget_target::WidgetTarget;
+
+/// The openings of `a`, and of as many comms more.
+pub fn openings(alloc: Global, more: usize) -> Result<String, AllocError> {
+    let mut lines = format!(in alloc; "open a w 2.0.0 {STATE}\n")?;
+    for number in 0..more {
+        let line = format!(in alloc; "open c{number} w 2.0.0 {STATE}\n")?;
+        lines.push_str(line.as_str())?;
+    }
+    Ok(lines)
+}
+
+// Registers the target, opens the comms, and tells what the manager then has.
+fn fill<T: Target>(
+    alloc: Global,
+    core: &mut Core<T>,
+    target: T,
+    more: usize,
+    text: &mut Vec<u8>,
+) -> Result<(), Wrong>
+    requires settled { core.old.settled ≡ true }
+    requires idle { IsIdle (T.means target) }
+    ensures { core.new.settled ≡ true }
+{
+    let mut unheard = Vec::new(alloc);
+    let (_is_refused, _back) = register(alloc, core, "w", 0, target, &mut unheard)?;
+    let lines = openings(alloc, more)?;
+    play(alloc, core, lines.as_str(), &mut unheard)?;
+    look(alloc, core, text)
+}
+
+// A change. Where it wasn't made by then, all is as before, and it is made.
+fn change<T: Target>(
+    alloc: Global,
+    core: &mut Core<T>,
+    trial: &Trial,
+    number: u32,
+    text: &mut Vec<u8>,
+) -> Result<bool, Wrong>
+    requires settled { core.old.settled ≡ true }
+    ensures { core.new.settled ≡ true }
+{
+    let line = trial.row.line;
+    if trial.of == Of::Lines {
+        play(alloc, core, line, text)?;
+        return Ok(false);
+    }
+    let is_refused = asked(alloc, core, trial.of, line, number, text)?;
+    if !is_made(trial.of, is_refused) {
+        look(alloc, core, text)?;
+        let again = if trial.of == Of::Read {
+            Of::Read
+        } else {
+            Of::Step
+        };
+        let _is_refused = asked(alloc, core, again, line, 0, text)?;
+    }
+    Ok(is_refused)
+}
+
+// The same of a register: the target comes back idle, and is registered.
+fn registration<T: Target>(
+    alloc: Global,
+    core: &mut Core<T>,
+    trial: &Trial,
+    number: u32,
+    target: T,
+    text: &mut Vec<u8>,
+) -> Result<bool, Wrong>
+    requires settled { core.old.settled ≡ true }
+    requires idle { IsIdle (T.means target) }
+    ensures { core.new.settled ≡ true }
+{
+    let (_, name) = cut(trial.row.line);
+    let (is_refused, back) = registered(alloc, core, trial.of, name, number, target, text)?;
+    if let Some(target) = back {
+        look(alloc, core, text)?;
+        if !target.idle() {
+            return Err(Wrong("another target"));
+        }
+        let (_is_refused, _back) = register(alloc, core, name, 0, target, text)?;
+    }
+    Ok(is_refused)
+}
 
 fn work<T: Target>(
     alloc: Global,
     core: &mut Core<T>,
-    trial: Trial,
+    trial: &Trial,
+    number: u32,
     target: T,
     other: T,
+    text: &mut Vec<u8>,
 ) -> Result<bool, Wrong>
     requires settled { core.old.settled ≡ true }
     requires target { IsIdle (T.means target) }
     requires other { IsIdle (T.means other) }
     ensures { core.new.settled ≡ true }
 {
-    fill(alloc, core, target, trial.more)?;
-    match trial.of {
-        Of::Register | Of::Replace => register(alloc, core, other, trial),
-        Of::FinishReplace | Of::WithdrawReplace => spare(alloc, core, other, trial),
-        Of::Infos | Of::InfosOfTarget | Of::Listing | Of::State => read(alloc, core, trial),
-        _ => change(alloc, core, trial),
+    fill(alloc, core, target, trial.more, text)?;
+    if trial.row.line.starts_with("register ") {
+        registration(alloc, core, trial, number, other, text)
+    } else {
+        change(alloc, core, trial, number, text)
     }
 }
 
-// Whether the manager is then stopped without memory.
-fn is_spared(of: Of) -> bool {
-    matches!(
-        of,
-        Of::Finish | Of::Withdraw | Of::FinishReplace | Of::WithdrawReplace
-    )
-}
-
-// Tells whether no allocation was refused. To stop the manager takes none.
-fn tried<T: Target>(alloc: Global, trial: Trial, target: T, other: T) -> Result<bool, Wrong>
+// To stop the manager takes no memory.
+fn tried<T: Target>(
+    alloc: Global,
+    trial: &Trial,
+    number: u32,
+    target: T,
+    other: T,
+    text: &mut Vec<u8>,
+) -> Result<bool, Wrong>
     requires target { IsIdle (T.means target) }
     requires other { IsIdle (T.means other) }
 {
     let Ok(mut core) = Core::new(alloc, LIMITS) else {
         return Err(Wrong("no manager"));
     };
-    let done = work(alloc, &mut core, trial, target, other);
-    let is_spared = is_spared(trial.of);
-    let _is_heard = refuse(alloc, u32::from(is_spared));
+    let done = work(alloc, &mut core, trial, number, target, other, text);
+    let _is_heard = refuse(alloc, 1);
     core.stop_all();
     holds(!was_refused(alloc), "memory was asked for at the end")?;
     done
 }
 
-fn try_once(alloc: Global, trial: Trial) -> Result<bool, Wrong> {
+/// The trial with the allocation of this number refused. Tells whether one was.
+pub fn try_once(
+    alloc: Global,
+    trial: &Trial,
+    number: u32,
+    text: &mut Vec<u8>,
+) -> Result<bool, Wrong> {
     match trial.kind {
         Kind::Widget => tried(
             alloc,
             trial,
+            number,
             WidgetTarget::new(alloc),
             WidgetTarget::new(alloc),
+            text,
         ),
         Kind::WidgetEcho => tried(
             alloc,
             trial,
+            number,
             WidgetTarget::with_echo(alloc),
             WidgetTarget::with_echo(alloc),
+            text,
         ),
-        Kind::Counter => tried(alloc, trial, Counter::new(alloc), Counter::new(alloc)),
-        _ => tried(alloc, trial, Echo::new(alloc), Echo::new(alloc)),
+        Kind::Echo => tried(
+            alloc,
+            trial,
+            number,
+            Echo::new(alloc),
+            Echo::new(alloc),
+            text,
+        ),
+        Kind::Counter => tried(
+            alloc,
+            trial,
+            number,
+            Counter::new(alloc),
+            Counter::new(alloc),
+            text,
+        ),
+        Kind::Free => tried(
+            alloc,
+            trial,
+            number,
+            ToldTarget::new(alloc),
+            ToldTarget::new(alloc),
+            text,
+        ),
     }
-}
-
-// Each allocation in turn, until the call asks for fewer.
-fn try_each(rt: &impl Abort, alloc: Global, trial: Trial) -> Result<(), Fail> {
-    for number in 1..10_000u32 {
-        mark(alloc);
-        let trial = Trial { number, ..trial };
-        match try_once(alloc, trial) {
-            Ok(is_whole) => {
-                assert!(rt; !has_leaked(alloc), "{trial:?} leaks");
-                if is_whole {
-                    return Ok(());
-                }
-            }
-            Err(Wrong(what)) => panic!(rt; "{trial:?}: {what}"),
-        }
-    }
-    panic!(rt; "it never answered");
-}
-
-fn try_sizes(rt: &impl Abort, alloc: Global, of: Of, kind: Kind, asked: Asked) -> Result<(), Fail> {
-    for more in sizes(asked) {
-        let trial = Trial {
-            of,
-            kind,
-            asked,
-            more: *more,
-            number: 0,
-        };
-        try_each(rt, alloc, trial)?;
-    }
-    Ok(())
-}
-
-// Of a widget, and of one that echoes.
-fn of_both(rt: &impl Abort, alloc: Global, of: Of, asked: Asked) -> Result<(), Fail> {
-    for kind in [Kind::Widget, Kind::WidgetEcho] {
-        try_sizes(rt, alloc, of, kind, asked)?;
-    }
-    Ok(())
-}
-
-fn try_all(rt: &impl Abort, alloc: Global, of: Of) -> Result<(), Fail> {
-    for asked in ALL {
-        of_both(rt, alloc, of, asked)?;
-    }
-    Ok(())
-}
-
-#[test]
-fn refused_step(rt: HostRuntime) -> Result<(), Fail> {
-    try_all(&rt, rt.alloc(), Of::Step)
-}
-
-/// What a target other than a widget makes ready.
-#[test]
-fn refused_step_of_others(rt: HostRuntime) -> Result<(), Fail> {
-    for kind in [Kind::Echo, Kind::Counter] {
-        for asked in OF_OTHERS {
-            try_sizes(&rt, rt.alloc(), Of::Step, kind, asked)?;
-        }
-    }
-    Ok(())
-}
-
-#[test]
-fn refused_begin(rt: HostRuntime) -> Result<(), Fail> {
-    try_all(&rt, rt.alloc(), Of::Begin)
-}
-
-#[test]
-fn refused_entry(rt: HostRuntime) -> Result<(), Fail> {
-    try_all(&rt, rt.alloc(), Of::Entry)
-}
-
-#[test]
-fn refused_row(rt: HostRuntime) -> Result<(), Fail> {
-    try_all(&rt, rt.alloc(), Of::Row)
-}
-
-#[test]
-fn refused_register(rt: HostRuntime) -> Result<(), Fail> {
-    of_both(&rt, rt.alloc(), Of::Register, Asked::Open)
-}
-
-#[test]
-fn refused_replacement(rt: HostRuntime) -> Result<(), Fail> {
-    of_both(&rt, rt.alloc(), Of::Replace, Asked::Unregister)
-}
-
-#[test]
-fn refused_reads(rt: HostRuntime) -> Result<(), Fail> {
-    for of in [Of::Infos, Of::InfosOfTarget, Of::Listing] {
-        of_both(&rt, rt.alloc(), of, Asked::Close)?;
-    }
-    Ok(())
-}
-
-#[test]
-fn spared_ends(rt: HostRuntime) -> Result<(), Fail> {
-    for of in [Of::Finish, Of::Withdraw, Of::State] {
-        try_all(&rt, rt.alloc(), of)?;
-    }
-    for of in [Of::FinishReplace, Of::WithdrawReplace] {
-        of_both(&rt, rt.alloc(), of, Asked::Unregister)?;
-    }
-    Ok(())
 }

@@ -1,97 +1,114 @@
-//! A manager that threads share, whose name one call picks, and what is tried with it.
+//! A manager that threads share, whose name one call picks, and a trial with it.
 ghost use Rattle.std.specs.Prelude.{◌≡◌};
 ghost use Rattle.comm_targets.specs.Meaning.{IsIdle};
 ghost use Rattle.comm_manager.specs.Names.{Named};
 
-use crate::tests::asked::Asked;
 use crate::tests::managers::tried;
-use crate::tests::words::{LIMITS, Wrong, holds};
+use crate::tests::trial::{LIMITS, MEMORY, Of, Trial};
 use comm_core::NewFault;
 use comm_fakes::{refuse, was_refused};
+use comm_harness::{ToldTarget, Wrong, holds};
 use comm_manager::{Manager, Naming, Opening, OpeningFault};
-use comm_targets::Target;
+use comm_targets::{Kind, Target};
 use std::alloc::Global;
 use std::marker::Brand;
 use std::sync::Wait;
-
-/// Which call meets the refusal.
-#[derive(Clone, Copy, Debug, PartialEq, Eq, Drop)]
-pub enum Of {
-    /// `Opening::new` and `Manager::open`.
-    Opening,
-    Register,
-    /// A register in the place of the target.
-    Replace,
-    Change(Asked),
-    Infos,
-    InfosOfTarget,
-    State,
-    Shutdown,
-    /// A target that answers Memory of its own accord.
-    Thrice,
-    /// What takes no memory: a client's stamp that another hears, the publisher, and the end of it all.
-    Spared,
-}
-
-/// What is tried: the call, how many comms are open beside one, and the number of the allocation that is refused.
-#[derive(Clone, Copy, Debug, PartialEq, Eq, Drop)]
-pub struct Trial {
-    pub of: Of,
-    pub more: usize,
-    pub number: u32,
-}
+use widget_target::WidgetTarget;
 
 fn opened<J: Naming, T: Target, R: Wait>(
     rt: &R,
     alloc: Global,
     opening: Opening,
-    trial: Trial,
+    trial: &Trial,
+    number: u32,
     target: T,
     other: T,
+    text: &mut Vec<u8>,
 ) -> Result<bool, Wrong>
     requires named { Named opening J.book J.ledgers J.queue J.limits }
     requires target { IsIdle (T.means target) }
     requires other { IsIdle (T.means other) }
 {
     let opened = Manager::<J, T>::open(rt, alloc, opening);
-    let is_refused = trial.of == Of::Opening && was_refused(alloc);
+    let is_refused = was_refused(alloc);
     match opened {
         Ok((manager, clients, publisher)) => {
-            let done = tried(rt, alloc, manager, clients, publisher, trial, target, other);
+            let done = tried(
+                rt, alloc, manager, clients, publisher, trial, number, target, other, text,
+            );
             holds(!is_refused, "a manager in the face of a refusal")?;
             done
         }
         Err(OpeningFault::Memory) => {
-            holds(is_refused, "no manager where nothing is refused")?;
-            Ok(false)
+            text.extend_from_slice(MEMORY.as_bytes())?;
+            Ok(is_refused)
         }
         Err(OpeningFault::NoReader) => Err(Wrong("no reader")),
     }
 }
 
-/// Tries it with a new manager, and two targets. Tells whether no allocation was refused.
-pub fn named<T: Target, R: Wait>(
+// A trial with a new manager, and two targets.
+fn named<T: Target, R: Wait>(
     rt: &R,
     alloc: Global,
-    trial: Trial,
+    trial: &Trial,
+    number: u32,
     target: T,
     other: T,
+    text: &mut Vec<u8>,
 ) -> Result<bool, Wrong>
     requires target { IsIdle (T.means target) }
     requires other { IsIdle (T.means other) }
 {
-    if trial.of == Of::Opening {
-        let _is_heard = refuse(alloc, trial.number);
-    }
+    let refused = if trial.of == Of::Opening { number } else { 0 };
+    let _is_heard = refuse(alloc, refused);
     match Opening::new(alloc, LIMITS) {
-        Ok(opening) => opened::<Brand, T, R>(rt, alloc, opening, trial, target, other),
+        Ok(opening) => opened::<Brand, T, R>(
+            rt, alloc, opening, trial, number, target, other, text,
+        ),
         Err(NewFault::Memory) => {
-            holds(
-                trial.of == Of::Opening && was_refused(alloc),
-                "no opening where nothing is refused",
-            )?;
-            Ok(false)
+            text.extend_from_slice(MEMORY.as_bytes())?;
+            Ok(was_refused(alloc))
         }
         Err(NewFault::BadLimits) => Err(Wrong("bad limits")),
+    }
+}
+
+/// The trial with the allocation of this number refused. Tells whether one was.
+pub fn try_once<R: Wait>(
+    rt: &R,
+    alloc: Global,
+    trial: &Trial,
+    number: u32,
+    text: &mut Vec<u8>,
+) -> Result<bool, Wrong> {
+    match trial.kind {
+        Kind::Free => named(
+            rt,
+            alloc,
+            trial,
+            number,
+            ToldTarget::new(alloc),
+            ToldTarget::new(alloc),
+            text,
+        ),
+        Kind::WidgetEcho => named(
+            rt,
+            alloc,
+            trial,
+            number,
+            WidgetTarget::with_echo(alloc),
+            WidgetTarget::with_echo(alloc),
+            text,
+        ),
+        _ => named(
+            rt,
+            alloc,
+            trial,
+            number,
+            WidgetTarget::new(alloc),
+            WidgetTarget::new(alloc),
+            text,
+        ),
     }
 }

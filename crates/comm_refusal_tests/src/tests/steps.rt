@@ -1,98 +1,143 @@
-//! The manager of one thread: after a refusal it is settled, reads and the next step answer as before, and nothing leaks.
+//! Steps of the manager of one thread, and what came of them in words.
 ghost use Rattle.std.specs.Prelude.{◌≡◌, true};
-ghost use Rattle.comm_core.specs.Ready.{HandsNothingIn, IsReady};
+ghost use Rattle.comm_core.specs.Ready.{IsReady};
 ghost use Rattle.comm_targets.specs.Meaning.{IsIdle};
 
-use crate::tests::asked::{Asked, call_of, is_answered};
-use crate::tests::filled::{Of, Trial, is_as_before};
-use crate::tests::words::{Wrong, holds};
-use comm_core::{Call, Core, Finished, Ready};
-use comm_fakes::{refuse, was_refused};
-use comm_messages::Outgoing;
-use comm_targets::{Kind, Target};
-use comm_value::Val;
-use std::alloc::Global;
+use crate::tests::trial::{ENDED, MEMORY, Of, READY, refuse_at, was_refused_at};
+use comm_core::{Core, Finished, Ready, Reply};
+use comm_harness::{Wrong, append_answer, call_of, cut, holds};
+use comm_messages::{Infos, Outgoing, Parent};
+use comm_script::append_state_line;
+use comm_targets::Target;
+use comm_value::Text;
+use std::alloc::{AllocError, Global};
 
-// A counter that was asked once answers 1, however often it was asked in vain.
-fn is_first(trial: Trial, outgoing: &[Outgoing]) -> bool {
-    match (trial.kind, trial.asked, outgoing) {
-        (Kind::Counter, Asked::Say, [Outgoing::Msg { body, .. }]) => {
-            matches!(body.content().get("count"), Some(Val::Whole(count)) if count.get() == 1)
-        }
-        (Kind::Counter, Asked::Say, _) => false,
-        _ => true,
+/// Whom what goes out answers.
+pub const PARENT: Parent = Parent::Call {
+    client: 0,
+    number: 1,
+};
+
+// What came of a step.
+fn append_given(
+    alloc: Global,
+    given: Result<(Reply, Vec<Outgoing>), AllocError>,
+    text: &mut Vec<u8>,
+) -> Result<(), Wrong> {
+    match given {
+        Ok((reply, outgoing)) => append_answer(alloc, 1, &PARENT, &reply, &outgoing, text)?,
+        Err(_) => text.extend_from_slice(MEMORY.as_bytes())?,
     }
+    Ok(())
 }
 
-// One step in which the allocation of this number is refused. Tells whether none was.
+// The step of a line, in which the allocation of this number is refused. Each of these tells whether one was.
 fn step<T: Target>(
     alloc: Global,
     core: &mut Core<T>,
-    trial: Trial,
-    call: Call,
+    line: &str,
     number: u32,
+    text: &mut Vec<u8>,
 ) -> Result<bool, Wrong>
     requires settled { core.old.settled ≡ true }
-    requires call { HandsNothingIn call }
     ensures { core.new.settled ≡ true }
 {
-    let _is_heard = refuse(alloc, number);
-    let result = core.step(call);
-    let is_whole = !was_refused(alloc);
-    match result {
-        Ok((reply, outgoing)) => {
-            let is_right = is_answered(trial.asked, &reply) && is_first(trial, &outgoing);
-            drop(outgoing);
-            drop(reply);
-            holds(is_right, "another reply")?;
-            holds(is_whole, "a reply in the face of a refusal")?;
-        }
-        Err(_) => holds(!is_whole, "no reply where nothing is refused")?,
-    }
-    Ok(is_whole)
+    let call = call_of(alloc, line)?;
+    refuse_at(alloc, number);
+    let given = core.step(call);
+    let is_refused = was_refused_at(alloc, number);
+    append_given(alloc, given, text)?;
+    Ok(is_refused)
 }
 
-// Makes the change that stands ready, and ends a target that it takes out. Tells whether the reply is as it should be.
-fn is_made<T: Target>(core: &mut Core<T>, asked: Asked, ready: Ready<T>) -> bool
-    requires ready { IsReady core.old ready }
+/// The step of each line, in which nothing is refused.
+pub fn play<T: Target>(
+    alloc: Global,
+    core: &mut Core<T>,
+    lines: &str,
+    text: &mut Vec<u8>,
+) -> Result<(), Wrong>
+    requires settled { core.old.settled ≡ true }
     ensures { core.new.settled ≡ true }
 {
-    let Finished {
-        reply,
-        outgoing,
-        ended,
-    } = core.finish(ready);
-    if let Some(held) = ended {
-        held.end();
+    for line in lines.lines() {
+        let _is_refused = step(alloc, core, line, 0, text)?;
     }
-    drop(outgoing);
-    let is_right = is_answered(asked, &reply);
-    drop(reply);
-    is_right
+    Ok(())
 }
 
 // A change stands ready, or doesn't, and is taken back.
 fn begin<T: Target>(
     alloc: Global,
     core: &mut Core<T>,
-    call: Call,
+    line: &str,
     number: u32,
+    text: &mut Vec<u8>,
 ) -> Result<bool, Wrong>
     requires settled { core.old.settled ≡ true }
-    requires call { HandsNothingIn call }
     ensures { core.new.settled ≡ true }
 {
-    let _is_heard = refuse(alloc, number);
-    let result = core.begin(call);
-    let is_whole = !was_refused(alloc);
-    match result {
+    let call = call_of(alloc, line)?;
+    refuse_at(alloc, number);
+    let given = core.begin(call);
+    let is_refused = was_refused_at(alloc, number);
+    let words = match given {
         Ok(ready) => {
             let _back = core.withdraw(ready);
-            holds(is_whole, "a change stands ready in the face of a refusal")?;
+            READY
         }
-        Err(_) => holds(!is_whole, "no change stands ready where nothing is refused")?,
-    }
-    Ok(is_whole)
+        Err(_) => MEMORY,
+    };
+    text.extend_from_slice(words.as_bytes())?;
+    Ok(is_refused)
+}
+
+// Makes the change that stands ready, and ends a target that it takes out.
+fn finish<T: Target>(
+    alloc: Global,
+    core: &mut Core<T>,
+    ready: Ready<T>,
+    number: u32,
+    text: &mut Vec<u8>,
+) -> Result<bool, Wrong>
+    requires ready { IsReady core.old ready }
+    ensures { core.new.settled ≡ true }
+{
+    refuse_at(alloc, number);
+    let Finished {
+        reply,
+        outgoing,
+        ended,
+    } = core.finish(ready);
+    let words = match ended {
+        Some(held) => {
+            held.end();
+            ENDED
+        }
+        None => "",
+    };
+    let is_refused = was_refused_at(alloc, number);
+    append_given(alloc, Ok((reply, outgoing)), text)?;
+    text.extend_from_slice(words.as_bytes())?;
+    Ok(is_refused)
+}
+
+// Takes the change back that stands ready. A target that it had comes back.
+fn withdraw<T: Target>(
+    alloc: Global,
+    core: &mut Core<T>,
+    ready: Ready<T>,
+    number: u32,
+    text: &mut Vec<u8>,
+) -> Result<(bool, Option<T>), Wrong>
+    requires ready { IsReady core.old ready }
+    ensures { core.new.settled ≡ true }
+{
+    refuse_at(alloc, number);
+    let back = core.withdraw(ready);
+    let is_refused = was_refused_at(alloc, number);
+    text.extend_from_slice(READY.as_bytes())?;
+    Ok((is_refused, back))
 }
 
 fn is_told<T: Target>(alloc: Global, ready: &Ready<T>, of: Of) -> bool {
@@ -106,87 +151,183 @@ fn is_told<T: Target>(alloc: Global, ready: &Ready<T>, of: Of) -> bool {
 fn tell<T: Target>(
     alloc: Global,
     core: &mut Core<T>,
-    trial: Trial,
-    call: Call,
+    of: Of,
+    line: &str,
+    number: u32,
+    text: &mut Vec<u8>,
 ) -> Result<bool, Wrong>
     requires settled { core.old.settled ≡ true }
-    requires call { HandsNothingIn call }
     ensures { core.new.settled ≡ true }
 {
+    let call = call_of(alloc, line)?;
     let ready = core.begin(call)?;
-    let _is_heard = refuse(alloc, trial.number);
-    let is_first = is_told(alloc, &ready, trial.of);
-    let is_whole = !was_refused(alloc);
-    let is_next = is_told(alloc, &ready, trial.of);
-    if is_whole {
-        let is_right = is_made(core, trial.asked, ready);
-        holds(is_right, "another reply")?;
-    } else {
+    refuse_at(alloc, number);
+    let is_first = is_told(alloc, &ready, of);
+    let is_refused = was_refused_at(alloc, number);
+    let is_next = is_told(alloc, &ready, of);
+    if is_refused {
         let _back = core.withdraw(ready);
+        text.extend_from_slice(MEMORY.as_bytes())?;
+    } else {
+        let _is_refused = finish(alloc, core, ready, 0, text)?;
     }
-    holds(is_first == is_whole, "an answer in the face of a refusal")?;
-    holds(is_next, "no answer after a refusal")?;
-    Ok(is_whole)
+    holds(
+        is_first != is_refused,
+        "it is told in the face of a refusal",
+    )?;
+    holds(is_next, "it isn't told after a refusal")?;
+    Ok(is_refused)
 }
 
-// What stands ready is made or taken back, and no memory is asked for.
-fn spare<T: Target>(
+// What stands ready is made or taken back.
+fn end<T: Target>(
     alloc: Global,
     core: &mut Core<T>,
-    trial: Trial,
-    call: Call,
+    of: Of,
+    line: &str,
+    number: u32,
+    text: &mut Vec<u8>,
 ) -> Result<bool, Wrong>
     requires settled { core.old.settled ≡ true }
-    requires call { HandsNothingIn call }
     ensures { core.new.settled ≡ true }
 {
+    let call = call_of(alloc, line)?;
     let ready = core.begin(call)?;
-    let _is_heard = refuse(alloc, 1);
-    let is_right = if trial.of == Of::Finish {
-        is_made(core, trial.asked, ready)
+    if of == Of::Finish {
+        finish(alloc, core, ready, number, text)
     } else {
-        let _back = core.withdraw(ready);
-        true
+        let (is_refused, _back) = withdraw(alloc, core, ready, number, text)?;
+        Ok(is_refused)
+    }
+}
+
+/// The line of a trial.
+pub fn asked<T: Target>(
+    alloc: Global,
+    core: &mut Core<T>,
+    of: Of,
+    line: &str,
+    number: u32,
+    text: &mut Vec<u8>,
+) -> Result<bool, Wrong>
+    requires settled { core.old.settled ≡ true }
+    ensures { core.new.settled ≡ true }
+{
+    match of {
+        Of::Begin => begin(alloc, core, line, number, text),
+        Of::Entry | Of::Row => tell(alloc, core, of, line, number, text),
+        Of::Finish | Of::Withdraw => end(alloc, core, of, line, number, text),
+        Of::Read => read(alloc, core, line, number, text),
+        _ => step(alloc, core, line, number, text),
+    }
+}
+
+/// A target is registered under a name. It comes back where it isn't.
+pub fn register<T: Target>(
+    alloc: Global,
+    core: &mut Core<T>,
+    name: &str,
+    number: u32,
+    target: T,
+    text: &mut Vec<u8>,
+) -> Result<(bool, Option<T>), Wrong>
+    requires settled { core.old.settled ≡ true }
+    requires idle { IsIdle (T.means target) }
+    ensures { core.new.settled ≡ true }
+{
+    let name = Text::copy_of(alloc, name)?;
+    refuse_at(alloc, number);
+    let given = core.register(name, target);
+    let is_refused = was_refused_at(alloc, number);
+    let (given, back) = match given {
+        Ok(given) => (Ok(given), None),
+        Err((error, target)) => (Err(error), Some(target)),
     };
-    let is_spared = core.settled() && !was_refused(alloc);
-    holds(is_right, "another reply")?;
-    holds(is_spared, "memory was asked for")?;
-    Ok(true)
+    append_given(alloc, given, text)?;
+    Ok((is_refused, back))
 }
 
-// The call of the trial. Tells whether no allocation was refused.
-fn ask<T: Target>(alloc: Global, core: &mut Core<T>, trial: Trial) -> Result<bool, Wrong>
+/// The same by the parts of a trial.
+pub fn registered<T: Target>(
+    alloc: Global,
+    core: &mut Core<T>,
+    of: Of,
+    name: &str,
+    number: u32,
+    target: T,
+    text: &mut Vec<u8>,
+) -> Result<(bool, Option<T>), Wrong>
     requires settled { core.old.settled ≡ true }
+    requires idle { IsIdle (T.means target) }
     ensures { core.new.settled ≡ true }
 {
-    let call = call_of(alloc, trial.asked)?;
-    match trial.of {
-        Of::Begin => begin(alloc, core, call, trial.number),
-        Of::Entry | Of::Row => tell(alloc, core, trial, call),
-        Of::Finish | Of::Withdraw => spare(alloc, core, trial, call),
-        _ => step(alloc, core, trial, call, trial.number),
+    if of == Of::Step {
+        return register(alloc, core, name, number, target, text);
+    }
+    let name = Text::copy_of(alloc, name)?;
+    let Ok(ready) = core.begin_register(name, target) else {
+        return Err(Wrong("no change stands ready where nothing is refused"));
+    };
+    if of == Of::Finish {
+        Ok((finish(alloc, core, ready, number, text)?, None))
+    } else {
+        withdraw(alloc, core, ready, number, text)
     }
 }
 
-// One more step, in which nothing is refused.
-fn ask_again<T: Target>(alloc: Global, core: &mut Core<T>, trial: Trial) -> Result<bool, Wrong>
-    requires settled { core.old.settled ≡ true }
-    ensures { core.new.settled ≡ true }
-{
-    let call = call_of(alloc, trial.asked)?;
-    step(alloc, core, trial, call, 0)
+// How many comms are listed.
+fn append_count(
+    alloc: Global,
+    given: Result<Infos, AllocError>,
+    text: &mut Vec<u8>,
+) -> Result<(), AllocError> {
+    match given {
+        Ok(infos) => {
+            let count = infos.as_slice().len();
+            text.extend_from_slice(format!(in alloc; "comms {count}\n")?.as_bytes())
+        }
+        Err(_) => text.extend_from_slice(MEMORY.as_bytes()),
+    }
 }
 
-/// An allocation is refused in the call; then all is as before, and the next step is answered. Tells whether none was.
-pub fn change<T: Target>(alloc: Global, core: &mut Core<T>, trial: Trial) -> Result<bool, Wrong>
-    requires settled { core.old.settled ≡ true }
-    ensures { core.new.settled ≡ true }
+// The list or the state that a line asks for.
+fn read<T: Target>(
+    alloc: Global,
+    core: &mut Core<T>,
+    line: &str,
+    number: u32,
+    text: &mut Vec<u8>,
+) -> Result<bool, Wrong>
+    ensures { core.new ≡ core.old }
 {
-    let is_whole = ask(alloc, core, trial)?;
-    if !is_whole {
-        is_as_before(alloc, core, trial)?;
-        let is_next = ask_again(alloc, core, trial)?;
-        holds(is_next, "the next step is refused")?;
+    let (word, name) = cut(line);
+    let name = Text::copy_of(alloc, name)?;
+    let target = if name.is("") { None } else { Some(&name) };
+    refuse_at(alloc, number);
+    if word == "state" {
+        let given = core.state(&name);
+        let is_refused = was_refused_at(alloc, number);
+        append_state_line(alloc, 0, &given?, text)?;
+        return Ok(is_refused);
     }
-    Ok(is_whole)
+    let given = if word == "listing" {
+        core.listing(None)
+    } else {
+        core.infos(target)
+    };
+    let is_refused = was_refused_at(alloc, number);
+    append_count(alloc, given, text)?;
+    Ok(is_refused)
+}
+
+/// What the manager has.
+pub fn look<T: Target>(alloc: Global, core: &mut Core<T>, text: &mut Vec<u8>) -> Result<(), Wrong>
+    ensures { core.new ≡ core.old }
+{
+    if core.settled() {
+        text.extend_from_slice(b"settled\n")?;
+    }
+    let _is_refused = read(alloc, core, "infos", 0, text)?;
+    let _is_refused = read(alloc, core, "state a", 0, text)?;
+    Ok(())
 }

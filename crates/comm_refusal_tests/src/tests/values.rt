@@ -1,252 +1,301 @@
-//! Values of widget states: for want of memory there is none, and nothing leaks.
-use crate::tests::words::{Wrong, answered};
-use comm_fakes::{has_leaked, mark, refuse, was_refused};
+//! Values of widget states, and messages, that are made with an allocation refused.
+use crate::tests::steps::PARENT;
+use crate::tests::trial::MEMORY;
+use comm_fakes::{refuse, was_refused};
+use comm_harness::{Wrong, body_of, buffers_of};
+use comm_messages::{Incoming, MessageFault, Outgoing, message_of, read_message, write_message};
 use comm_value::{
-    Buffers, Bytes, Dict, Separated, Val, ValueFault, merge, paths_of, paths_val, put_all, separate,
+    Buffers, Dict, Path, Separated, Text, Val, ValueFault, merge, paths_of, paths_val, put_all,
+    separate,
 };
 use serde_json::Value;
 use std::alloc::Global;
-use std::process::Abort;
-use std::test::Fail;
 
 /// What meets the refusal.
 #[derive(Clone, Copy, Debug, PartialEq, Eq, Drop)]
-enum Of {
-    FromJson,
-    ToJson,
-    Merge,
-    PathsOf,
-    PathsVal,
-    Separate,
-    PutAll,
+pub enum Made {
+    /// A value of JSON, JSON of that, and a value again.
+    Json,
+    /// A copy, which shares all that it is made of.
     Copy,
+    /// A dict that another is merged into.
+    Merged,
+    /// Paths of a list, and a list of those.
+    Paths,
+    /// A state that three buffers are put into, and taken out of again.
+    Placed,
+    /// The message of a line.
+    Read,
+    /// The message of a line's JSON.
+    Taken,
+    /// The line of a message.
+    Written,
+}
+
+/// What is made of a text, and of another, and what comes, as a text.
+pub struct Making {
+    pub made: Made,
+    pub of: &'static str,
+    pub other: &'static str,
+    pub text: &'static str,
 }
 
 const STATE: &str =
     r#"{"k":1,"l":[null,true,"text",-5,{"z":"y"}],"m":{"a":{"b":{}},"c":[[],["deep"]]},"n":18446744073709551615}"#;
 
-const UPDATE: &str = r#"{"a":[1],"k":2,"z":{"new":"key"}}"#;
-
-const MERGED: &str =
-    r#"{"a":[1],"k":2,"l":[null,true,"text",-5,{"z":"y"}],"m":{"a":{"b":{}},"c":[[],["deep"]]},"n":18446744073709551615,"z":{"new":"key"}}"#;
-
 const PATHS: &str = r#"[["k"],["l",0],["m","c",1,0]]"#;
 
-fn value(alloc: Global, json: &str) -> Result<Val, Wrong> {
-    let Ok(json) = Value::from_str(alloc, json) else {
-        return Err(Wrong("no JSON"));
-    };
-    match Val::from_json(alloc, &json) {
-        Ok(value) => Ok(value),
-        Err(_) => Err(Wrong("no value")),
+const LINE: &str =
+    r#"{"buffers":["AQI=","AwQF"],"content":{"comm_id":"a","data":{"k":[1,"\u00e9",{"l":null}]},"target_name":"t"},
+"header":{"msg_type":"comm_open"},"metadata":{"version":"2.0.0"}}"#;
+
+const OPENS: &str = "client 0 opens a of t, with a version, 1 key and 2 buffers";
+
+pub const VALUES: [Making; 2] = [
+    Making {
+        made: Made::Json,
+        of: STATE,
+        other: "{}",
+        text: STATE,
+    },
+    Making {
+        made: Made::Merged,
+        of: STATE,
+        other: r#"{"a":[1],"k":2,"z":{"new":"key"}}"#,
+        text: r#"{"a":[1],"k":2,"l":[null,true,"text",-5,{"z":"y"}],"m":{"a":{"b":{}},"c":[[],["deep"]]},"n":18446744073709551615,"z":{"new":"key"}}"#,
+    },
+];
+
+pub const PLACES: [Making; 2] = [
+    Making {
+        made: Made::Paths,
+        of: PATHS,
+        other: "{}",
+        text: PATHS,
+    },
+    Making {
+        made: Made::Placed,
+        of: STATE,
+        other: PATHS,
+        text: r#"{"l":[null,true,"text",-5,{"z":"y"}],"m":{"a":{"b":{}},"c":[[],[null]]},"n":18446744073709551615}[["k"],["l",0],["m","c",1,0]]3 buffers"#,
+    },
+];
+
+pub const COPIES: [Making; 1] = [Making {
+    made: Made::Copy,
+    of: STATE,
+    other: "{}",
+    text: STATE,
+}];
+
+pub const MESSAGES: [Making; 3] = [
+    Making {
+        made: Made::Read,
+        of: LINE,
+        other: "{}",
+        text: OPENS,
+    },
+    Making {
+        made: Made::Taken,
+        of: LINE,
+        other: "{}",
+        text: OPENS,
+    },
+    Making {
+        made: Made::Written,
+        of: r#"{"k":[1,"x"]}"#,
+        other: r#"{"k":[1,"x"]} 0102"#,
+        text: r#"{"buffers":["AQI="],"call":1,"client":0,"content":{"comm_id":"a","data":{"k":[1,"x"]}},"header":{"msg_type":"comm_msg"},"metadata":{}}"#,
+    },
+];
+
+/// Whether it is right that this came. The arena for lines asks again for less where it is refused a chunk, so a refusal needn't end the
+/// reading of a line.
+pub fn wanted(row: &Making, is_refused: bool, came: &[u8]) -> &'static str {
+    let may_do_without = row.made == Made::Read && came == row.text.as_bytes();
+    if is_refused && !may_do_without {
+        MEMORY
+    } else {
+        row.text
     }
 }
 
-fn dict(alloc: Global, json: &str) -> Result<Dict, Wrong> {
-    match value(alloc, json)? {
-        Val::Dict(dict) => Ok(dict),
-        _ => Err(Wrong("no dict")),
+fn json_of(alloc: Global, text: &str) -> Result<Value, Wrong> {
+    match Value::from_str(alloc, text) {
+        Ok(json) => Ok(json),
+        Err(_) => Err(Wrong("no JSON")),
     }
 }
 
-// Whether this is the text of a value.
-fn is_text(value: &Val, text: &str, alloc: Global) -> Result<bool, Wrong> {
+fn val_of(alloc: Global, text: &str) -> Result<Val, Wrong> {
+    let json = json_of(alloc, text)?;
+    Ok(Val::from_json(alloc, &json)?)
+}
+
+fn through_json(alloc: Global, json: &Value) -> Result<Val, ValueFault> {
+    let value = Val::from_json(alloc, json)?;
     if value.has_bytes() {
-        return Ok(false);
+        return Ok(value);
     }
-    let mut out = Vec::new(alloc);
-    value.write_json(&mut out)?;
-    Ok(out.as_slice() == text.as_bytes())
+    let again = value.to_json(alloc)?;
+    Val::from_json(alloc, &again)
 }
 
-// Whether a value came that has this text, or none for want of memory.
-fn judge(
+fn through_paths(alloc: Global, list: &Val) -> Result<Val, ValueFault> {
+    let paths = paths_of(alloc, Some(list))?;
+    Ok(paths_val(alloc, paths.as_slice())?)
+}
+
+fn merged(alloc: Global, value: Val, other: Val) -> Result<Val, ValueFault> {
+    match (value, other) {
+        (Val::Dict(state), Val::Dict(update)) => Ok(Val::Dict(merge(alloc, state, update)?)),
+        (value, _) => Ok(value),
+    }
+}
+
+// What came, or that there was no memory for it.
+fn append_val(given: Result<Val, ValueFault>, text: &mut Vec<u8>) -> Result<(), Wrong> {
+    match given {
+        Ok(value) if value.has_bytes() => Err(Wrong("bytes")),
+        Ok(value) => Ok(value.write_json(text)?),
+        Err(ValueFault::Memory) => Ok(text.extend_from_slice(MEMORY.as_bytes())?),
+        Err(_) => Err(Wrong("another fault")),
+    }
+}
+
+fn value(alloc: Global, row: &Making, number: u32, text: &mut Vec<u8>) -> Result<bool, Wrong> {
+    let json = json_of(alloc, row.of)?;
+    let value = val_of(alloc, row.of)?;
+    let other = val_of(alloc, row.other)?;
+    let _is_heard = refuse(alloc, number);
+    let given = match row.made {
+        Made::Json => through_json(alloc, &json),
+        Made::Copy => value.copy().map_err(ValueFault::from),
+        Made::Paths => through_paths(alloc, &value),
+        _ => merged(alloc, value, other),
+    };
+    let is_refused = was_refused(alloc);
+    append_val(given, text)?;
+    Ok(is_refused)
+}
+
+fn through_places(
     alloc: Global,
-    given: Result<Val, ValueFault>,
-    text: &str,
-    is_whole: bool,
-) -> Result<bool, Wrong> {
+    state: Dict,
+    paths: &[Path],
+    buffers: Buffers,
+) -> Result<Separated, ValueFault> {
+    let placed = put_all(alloc, state, paths, buffers)?;
+    Ok(separate(alloc, &placed)?)
+}
+
+fn append_parts(
+    alloc: Global,
+    given: Result<Separated, ValueFault>,
+    text: &mut Vec<u8>,
+) -> Result<(), Wrong> {
     match given {
-        Ok(value) => answered(is_whole, Some(is_text(&value, text, alloc)?)),
-        Err(ValueFault::Memory) => answered(is_whole, None),
-        Err(_) => Err(Wrong("another fault")),
-    }
-}
-
-fn from_json(alloc: Global, number: u32) -> Result<bool, Wrong> {
-    let Ok(json) = Value::from_str(alloc, STATE) else {
-        return Err(Wrong("no JSON"));
-    };
-    let _is_heard = refuse(alloc, number);
-    let given = Val::from_json(alloc, &json);
-    let is_whole = !was_refused(alloc);
-    judge(alloc, given, STATE, is_whole)
-}
-
-fn to_json(alloc: Global, number: u32) -> Result<bool, Wrong> {
-    let state = value(alloc, STATE)?;
-    if state.has_bytes() {
-        return Err(Wrong("bytes"));
-    }
-    let _is_heard = refuse(alloc, number);
-    let given = state.to_json(alloc);
-    let is_whole = !was_refused(alloc);
-    match given {
-        Ok(json) => {
-            let text = json.to_string(alloc)?;
-            answered(is_whole, Some(text.as_str() == STATE))
-        }
-        Err(_) => answered(is_whole, None),
-    }
-}
-
-fn merged(alloc: Global, number: u32) -> Result<bool, Wrong> {
-    let (state, update) = (dict(alloc, STATE)?, dict(alloc, UPDATE)?);
-    let _is_heard = refuse(alloc, number);
-    let given = merge(alloc, state, update);
-    let is_whole = !was_refused(alloc);
-    match given {
-        Ok(dict) => answered(is_whole, Some(is_text(&Val::Dict(dict), MERGED, alloc)?)),
-        Err(_) => answered(is_whole, None),
-    }
-}
-
-fn paths_read(alloc: Global, number: u32) -> Result<bool, Wrong> {
-    let listed = value(alloc, PATHS)?;
-    let _is_heard = refuse(alloc, number);
-    let given = paths_of(alloc, Some(&listed));
-    let is_whole = !was_refused(alloc);
-    match given {
-        Ok(paths) => answered(is_whole, Some(paths.len() == 3)),
-        Err(ValueFault::Memory) => answered(is_whole, None),
-        Err(_) => Err(Wrong("another fault")),
-    }
-}
-
-fn paths_listed(alloc: Global, number: u32) -> Result<bool, Wrong> {
-    let Ok(paths) = paths_of(alloc, Some(&value(alloc, PATHS)?)) else {
-        return Err(Wrong("no paths"));
-    };
-    let _is_heard = refuse(alloc, number);
-    let given = paths_val(alloc, paths.as_slice());
-    let is_whole = !was_refused(alloc);
-    match given {
-        Ok(value) => answered(is_whole, Some(is_text(&value, PATHS, alloc)?)),
-        Err(_) => answered(is_whole, None),
-    }
-}
-
-fn three_buffers(alloc: Global) -> Result<Buffers, Wrong> {
-    let mut all = Vec::new(alloc);
-    for byte in 1..4u8 {
-        all.push(Bytes::new(alloc, vec![in alloc; byte]?)?)?;
-    }
-    Ok(Buffers::new(all))
-}
-
-// A state with bytes in three places.
-fn placed(alloc: Global, number: u32) -> Result<Result<Dict, ValueFault>, Wrong> {
-    let state = dict(alloc, STATE)?;
-    let buffers = three_buffers(alloc)?;
-    let Ok(paths) = paths_of(alloc, Some(&value(alloc, PATHS)?)) else {
-        return Err(Wrong("no paths"));
-    };
-    let _is_heard = refuse(alloc, number);
-    Ok(put_all(alloc, state, paths.as_slice(), buffers))
-}
-
-fn put(alloc: Global, number: u32) -> Result<bool, Wrong> {
-    let given = placed(alloc, number)?;
-    let is_whole = !was_refused(alloc);
-    match given {
-        Ok(dict) => {
-            let is_bytes = matches!(dict.get("k"), Some(Val::Bytes(_)));
-            answered(is_whole, Some(is_bytes && dict.len() == 4))
-        }
-        Err(ValueFault::Memory) => answered(is_whole, None),
-        Err(_) => Err(Wrong("another fault")),
-    }
-}
-
-fn separated(alloc: Global, number: u32) -> Result<bool, Wrong> {
-    let Ok(state) = placed(alloc, 0)? else {
-        return Err(Wrong("no state with bytes"));
-    };
-    let _is_heard = refuse(alloc, number);
-    let given = separate(alloc, &state);
-    let is_whole = !was_refused(alloc);
-    match given {
-        Ok(parts) => {
-            let Separated {
+        Ok(
+            Separated {
                 plain,
                 paths,
                 buffers,
-            } = parts;
-            let is_right = plain.len() == 3 && paths.len() == 3 && buffers.as_slice().len() == 3;
-            answered(is_whole, Some(is_right))
+            },
+        ) => {
+            let count = buffers.as_slice().len();
+            append_val(Ok(Val::Dict(plain)), text)?;
+            append_val(Ok(paths_val(alloc, paths.as_slice())?), text)?;
+            Ok(text.extend_from_slice(format!(in alloc; "{count} buffers")?.as_bytes())?)
         }
-        Err(_) => answered(is_whole, None),
+        Err(fault) => append_val(Err(fault), text),
     }
 }
 
-fn copied(alloc: Global, number: u32) -> Result<bool, Wrong> {
-    let state = value(alloc, STATE)?;
+fn places(alloc: Global, row: &Making, number: u32, text: &mut Vec<u8>) -> Result<bool, Wrong> {
+    let Val::Dict(state) = val_of(alloc, row.of)? else {
+        return Err(Wrong("no dict"));
+    };
+    let paths = paths_of(alloc, Some(&val_of(alloc, row.other)?))?;
+    let buffers = buffers_of(alloc, "01 02 03")?;
     let _is_heard = refuse(alloc, number);
-    let given = state.copy();
-    let is_whole = !was_refused(alloc);
-    match given {
-        Ok(value) => answered(is_whole, Some(is_text(&value, STATE, alloc)?)),
-        Err(_) => answered(is_whole, None),
-    }
+    let given = through_places(alloc, state, paths.as_slice(), buffers);
+    let is_refused = was_refused(alloc);
+    append_parts(alloc, given, text)?;
+    Ok(is_refused)
 }
 
-fn try_once(alloc: Global, of: Of, number: u32) -> Result<bool, Wrong> {
-    match of {
-        Of::FromJson => from_json(alloc, number),
-        Of::ToJson => to_json(alloc, number),
-        Of::Merge => merged(alloc, number),
-        Of::PathsOf => paths_read(alloc, number),
-        Of::PathsVal => paths_listed(alloc, number),
-        Of::Separate => separated(alloc, number),
-        Of::PutAll => put(alloc, number),
-        Of::Copy => copied(alloc, number),
-    }
-}
-
-fn try_each(rt: &impl Abort, alloc: Global, of: Of) -> Result<(), Fail> {
-    for number in 1..10_000u32 {
-        mark(alloc);
-        match try_once(alloc, of, number) {
-            Ok(is_whole) => {
-                assert!(rt; !has_leaked(alloc), "{of:?} leaks at {number}");
-                if is_whole {
-                    return Ok(());
-                }
-            }
-            Err(Wrong(what)) => panic!(rt; "{of:?} at {number}: {what}"),
+// What a client's message is.
+fn incoming_words(alloc: Global, client: u8, message: &Incoming) -> Result<String, Wrong> {
+    match message {
+        Incoming::Open {
+            id,
+            target,
+            version: Some(_),
+            body,
+        } => {
+            let (id, target) = (id.as_str(), target.as_str());
+            let (keys, buffers) = (body.content().len(), body.buffers().as_slice().len());
+            Ok(format!(in alloc;
+                "client {client} opens {id} of {target}, with a version, {keys} key and {buffers} buffers"
+            )?)
         }
+        _ => Err(Wrong("another message")),
     }
-    panic!(rt; "it never answered");
 }
 
-#[test]
-fn refused_values(rt: HostRuntime) -> Result<(), Fail> {
-    for of in [Of::FromJson, Of::ToJson, Of::Merge] {
-        try_each(&rt, rt.alloc(), of)?;
+fn append_incoming(
+    alloc: Global,
+    given: Result<(u8, Incoming), MessageFault>,
+    text: &mut Vec<u8>,
+) -> Result<(), Wrong> {
+    match given {
+        Ok((client, message)) => {
+            let words = incoming_words(alloc, client, &message)?;
+            Ok(text.extend_from_slice(words.as_bytes())?)
+        }
+        Err(MessageFault::Memory) => Ok(text.extend_from_slice(MEMORY.as_bytes())?),
+        Err(_) => Err(Wrong("another fault")),
     }
-    Ok(())
 }
 
-#[test]
-fn refused_paths(rt: HostRuntime) -> Result<(), Fail> {
-    for of in [Of::PathsOf, Of::PathsVal, Of::Separate, Of::PutAll] {
-        try_each(&rt, rt.alloc(), of)?;
-    }
-    Ok(())
+fn message(alloc: Global, row: &Making, number: u32, text: &mut Vec<u8>) -> Result<bool, Wrong> {
+    let json = json_of(alloc, row.of)?;
+    let _is_heard = refuse(alloc, number);
+    let given = match row.made {
+        Made::Read => read_message(alloc, row.of.as_bytes(), 2),
+        _ => message_of(alloc, &json, 2),
+    };
+    let is_refused = was_refused(alloc);
+    append_incoming(alloc, given, text)?;
+    Ok(is_refused)
 }
 
-/// A copy shares all that it is made of.
-#[test]
-fn spared_copy(rt: HostRuntime) -> Result<(), Fail> {
-    try_each(&rt, rt.alloc(), Of::Copy)
+fn written(alloc: Global, row: &Making, number: u32, text: &mut Vec<u8>) -> Result<bool, Wrong> {
+    let body = body_of(alloc, row.other)?;
+    let id = Text::copy_of(alloc, "a")?;
+    let message = Outgoing::Msg { id, body };
+    let _is_heard = refuse(alloc, number);
+    let given = write_message(alloc, &message, &PARENT);
+    let is_refused = was_refused(alloc);
+    drop(message);
+    match given {
+        Ok(line) => text.extend_from_slice(line.as_slice())?,
+        Err(_) => text.extend_from_slice(MEMORY.as_bytes())?,
+    }
+    Ok(is_refused)
+}
+
+/// Makes it with the allocation of this number refused. Tells whether one was.
+pub fn make_once(
+    alloc: Global,
+    row: &Making,
+    number: u32,
+    text: &mut Vec<u8>,
+) -> Result<bool, Wrong> {
+    match row.made {
+        Made::Placed => places(alloc, row, number, text),
+        Made::Read | Made::Taken => message(alloc, row, number, text),
+        Made::Written => written(alloc, row, number, text),
+        _ => value(alloc, row, number, text),
+    }
 }

@@ -1,31 +1,11 @@
 // Scripts that are cut after each of their bytes: the whole lines are answered, and a part of a line isn't JSON.
-use super::{BOTH, Over, ROOM, Row, echoes, frontends, kernels, limits, play_over, widgets};
-use comm_fakes::{Pieces, Sink, Then};
-use std::alloc::Global;
-use std::io::ErrorKind;
-use std::process::Abort;
+use super::scripts::{BOTH, Over, Script, gives, limits};
+use super::{Row, echoes, frontends, kernels, widgets};
+use comm_harness::{Wrong, holds};
+use std::alloc::{AllocError, Global};
+use std::io::Eprint;
 use std::sync::Wait;
 use std::test::Fail;
-
-/// What is said to a part of a line, by the line's number.
-const NOT_JSON: [&[u8]; 16] = [
-    b"bad 0 not_json\n",
-    b"bad 1 not_json\n",
-    b"bad 2 not_json\n",
-    b"bad 3 not_json\n",
-    b"bad 4 not_json\n",
-    b"bad 5 not_json\n",
-    b"bad 6 not_json\n",
-    b"bad 7 not_json\n",
-    b"bad 8 not_json\n",
-    b"bad 9 not_json\n",
-    b"bad 10 not_json\n",
-    b"bad 11 not_json\n",
-    b"bad 12 not_json\n",
-    b"bad 13 not_json\n",
-    b"bad 14 not_json\n",
-    b"bad 15 not_json\n",
-];
 
 /// A line of a row: where it begins, the answers to what stands before it, and those to the line too.
 #[derive(Drop)]
@@ -60,49 +40,46 @@ fn first_answer(answers: &[u8]) -> usize {
     length
 }
 
-/// What must be written where the line is cut before its byte `at`: the answers before it, and one to the part that is left.
-fn is_right(taken: &[u8], line: &Line<'_>, part: &[u8], rest: &[u8]) -> bool {
+/// What must be written where the line is cut between these parts: the answers before it, and one to the part that is left.
+fn wanted(alloc: Global, line: &Line<'_>, part: &[u8], rest: &[u8]) -> Result<Vec<u8>, AllocError> {
+    let mut text = Vec::new(alloc);
     if is_blank(rest) {
-        taken == line.answered
-    } else if is_blank(part) {
-        taken == line.before
+        text.extend_from_slice(line.answered)?;
     } else {
-        taken.strip_prefix(line.before) == NOT_JSON.get(line.number).copied()
+        text.extend_from_slice(line.before)?;
+        if !is_blank(part) {
+            let number = line.number;
+            text.extend_from_slice(format!(in alloc; "bad {number} not_json\n")?.as_bytes())?;
+        }
     }
+    Ok(text)
 }
 
 /// The line is cut before each of its bytes.
-fn cuts_of<R: Abort + Wait>(
+fn cut_each<R: Eprint + Wait>(
     rt: &R,
     alloc: Global,
     row: &Row,
     over: Over,
     line: &Line<'_>,
-) -> Result<(), Fail> {
-    let name = row.name;
+) -> Result<(), Wrong> {
+    let (name, number) = (row.name, line.number);
     for at in 0..line.bytes.len() {
+        let name = format!(in alloc; "{name}, line {number} cut at {at}")?;
         let end = line.start.saturating_add(at);
-        let script = row.script.get(..end).unwrap_or(row.script);
-        let mut reader = Pieces::new(script, 4096, 0, ErrorKind::Other);
-        let mut writer = Sink::new(alloc, ROOM, ROOM, 0, Then::TakeNothing)?;
-        let result = play_over(rt, alloc, over, &mut reader, &mut writer, limits(row.comms));
+        let script = Script {
+            limits: limits(row.comms),
+            ..Script::over(over, row.script.get(..end).unwrap_or(row.script))
+        };
         let (part, rest) = line.bytes.split_at(at);
-        assert!(rt; result.is_ok(), "{name}, {over:?}, at {end}");
-        assert!(rt;
-            is_right(writer.taken(), line, part, rest),
-            "{name}, {over:?}, at {end}"
-        );
+        let text = wanted(alloc, line, part, rest)?;
+        gives(rt, alloc, name.as_str(), &script, Ok(()), &text)?;
     }
     Ok(())
 }
 
-/// Each line of the row in turn. Tells how many answers were left over.
-fn row_is_cut<R: Abort + Wait>(
-    rt: &R,
-    alloc: Global,
-    row: &Row,
-    over: Over,
-) -> Result<usize, Fail> {
+/// Each line of the row in turn.
+fn cut_row<R: Eprint + Wait>(rt: &R, alloc: Global, row: &Row, over: Over) -> Result<(), Wrong> {
     let mut start = 0usize;
     let mut answered = 0usize;
     for (before, bytes) in row
@@ -126,19 +103,17 @@ fn row_is_cut<R: Abort + Wait>(
                 .get(..answered.saturating_add(own))
                 .unwrap_or(b""),
         };
-        cuts_of(rt, alloc, row, over, &line)?;
+        cut_each(rt, alloc, row, over, &line)?;
         start = start.saturating_add(bytes.len());
         answered = answered.saturating_add(own);
     }
-    Ok(row.answers.len().saturating_sub(answered))
+    holds(row.answers.len() == answered, "answers are left over")
 }
 
-fn all_are_cut<R: Abort + Wait>(rt: &R, alloc: Global, rows: &[Row]) -> Result<(), Fail> {
+fn cut_all<R: Eprint + Wait>(rt: &R, alloc: Global, rows: &[Row]) -> Result<(), Fail> {
     for row in rows {
         for over in BOTH {
-            let left = row_is_cut(rt, alloc, row, over)?;
-            let name = row.name;
-            assert!(rt; left == 0, "{name}");
+            cut_row(rt, alloc, row, over)?;
         }
     }
     Ok(())
@@ -146,27 +121,27 @@ fn all_are_cut<R: Abort + Wait>(rt: &R, alloc: Global, rows: &[Row]) -> Result<(
 
 #[test]
 fn cut_scripts_of_frontends_give_their_whole_lines(rt: HostRuntime) -> Result<(), Fail> {
-    all_are_cut(&rt, rt.alloc(), &frontends::ROWS)
+    cut_all(&rt, rt.alloc(), &frontends::ROWS)
 }
 
 #[test]
 fn cut_scripts_of_kernels_give_their_whole_lines(rt: HostRuntime) -> Result<(), Fail> {
-    all_are_cut(&rt, rt.alloc(), &kernels::ROWS)
+    cut_all(&rt, rt.alloc(), &kernels::ROWS)
 }
 
 #[test]
 fn cut_scripts_of_widgets_give_their_whole_lines(rt: HostRuntime) -> Result<(), Fail> {
-    all_are_cut(&rt, rt.alloc(), &widgets::ROWS)
+    cut_all(&rt, rt.alloc(), &widgets::ROWS)
 }
 
 #[test]
 fn cut_scripts_of_widgets_that_echo_give_their_whole_lines(rt: HostRuntime) -> Result<(), Fail> {
-    all_are_cut(&rt, rt.alloc(), &echoes::ROWS)
+    cut_all(&rt, rt.alloc(), &echoes::ROWS)
 }
 
 #[test]
 fn cut_scripts_of_widgets_that_echo_as_others_give_their_whole_lines(
     rt: HostRuntime,
 ) -> Result<(), Fail> {
-    all_are_cut(&rt, rt.alloc(), &echoes::AS_OTHERS)
+    cut_all(&rt, rt.alloc(), &echoes::AS_OTHERS)
 }

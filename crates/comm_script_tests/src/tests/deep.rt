@@ -1,8 +1,8 @@
 // What nests as deep as a line may, in a thread with a stack of 256 KiB: read, kept, merged, told apart, written and dropped.
-use super::{BOTH, MOST, Over, ROOM, limits, play_over};
-use comm_fakes::{Pieces, Sink, Then};
+use super::scripts::{BOTH, Over, ROOM, Script, gives};
+use comm_harness::Wrong;
 use std::alloc::{AllocError, Global};
-use std::io::ErrorKind;
+use std::io::Eprint;
 use std::sync::Wait;
 use std::test::Fail;
 use std::thread::Builder;
@@ -11,6 +11,7 @@ const STACK: usize = 262_144;
 
 /// A script and its answers, in which `<`, `>` and `@` stand for as many of what opens, closes and leads into a level.
 struct Deep {
+    name: &'static str,
     levels: u8,
     script: &'static [u8],
     answers: &'static [u8],
@@ -38,6 +39,7 @@ const LEVELS: [Level; 2] = [
 
 /// The line and the state are around the levels, and a list with a buffer is in them: 127 in all.
 const COMMANDS: Deep = Deep {
+    name: "commands",
     levels: 124,
     script: br#"{"call":"register","kind":"widget","name":"w"}
 {"call":"launch","name":"w","uuid":"67e5504410b1426f9247bb680e5fe0c8","state":{"s":<[null]>},"buffer_paths":[["s"@,0]],"buffers":["AQI="]}
@@ -63,6 +65,7 @@ out {"buffers":[],"call":5,"client":0,"content":{"comm_id":"67e55044-10b1-426f-9
 
 /// The line, the content, the data and the state are around the levels, and a list is in them: 127 in all.
 const MESSAGES: Deep = Deep {
+    name: "messages",
     levels: 122,
     script: br#"{"call":"register","kind":"widget","name":"w"}
 {"header":{"msg_type":"comm_open"},"content":{"comm_id":"a","target_name":"w","data":{"state":{"s":<[null]>},"buffer_paths":[["s"@,0]]}},"metadata":{"version":"2"},"buffers":["AQI="]}
@@ -89,6 +92,7 @@ reply 7 closed
 
 /// The same of a widget that echoes what the updates bring.
 const ECHOED: Deep = Deep {
+    name: "messages that are echoed",
     levels: 122,
     script: br#"{"call":"register","kind":"widget_echo","name":"w"}
 {"header":{"msg_type":"comm_open"},"content":{"comm_id":"a","target_name":"w","data":{"state":{"k":1}}},"metadata":{"version":"2"}}
@@ -132,37 +136,20 @@ fn filled(alloc: Global, text: &[u8], level: &Level, levels: u8) -> Result<Vec<u
     Ok(bytes)
 }
 
-/// Whether the deep script is answered as it must be.
-fn is_answered(
-    rt: &impl Wait,
-    alloc: Global,
-    over: Over,
-    deep: &Deep,
-    level: &Level,
-) -> Result<bool, AllocError> {
-    let script = filled(alloc, deep.script, level, deep.levels)?;
-    let answers = filled(alloc, deep.answers, level, deep.levels)?;
-    let mut reader = Pieces::new(script.as_slice(), 4096, 0, ErrorKind::Other);
-    let mut writer = Sink::new(
-        alloc,
-        answers.len().saturating_add(ROOM),
-        ROOM,
-        0,
-        Then::TakeNothing,
-    )?;
-    let result = play_over(rt, alloc, over, &mut reader, &mut writer, limits(MOST));
-    Ok(result == Ok(()) && writer.taken() == answers.as_slice())
-}
-
-/// Whether each is, in this thread.
-fn all_are_answered(rt: &impl Wait, alloc: Global, over: Over) -> Result<bool, AllocError> {
-    let mut are_right = true;
+/// Each is answered as it must be, in this thread.
+fn all_are_answered<R: Eprint + Wait>(rt: &R, alloc: Global, over: Over) -> Result<(), Wrong> {
     for level in &LEVELS {
         for deep in &SCRIPTS {
-            are_right = is_answered(rt, alloc, over, deep, level)? && are_right;
+            let bytes = filled(alloc, deep.script, level, deep.levels)?;
+            let answers = filled(alloc, deep.answers, level, deep.levels)?;
+            let script = Script {
+                room: answers.len().saturating_add(ROOM),
+                ..Script::over(over, &bytes)
+            };
+            gives(rt, alloc, deep.name, &script, Ok(()), &answers)?;
         }
     }
-    Ok(are_right)
+    Ok(())
 }
 
 #[test]
@@ -172,7 +159,7 @@ fn the_deepest_needs_little_stack(rt: HostRuntime) -> Result<(), Fail> {
         let thread = Builder::new()
             .stack_size(STACK)
             .spawn(&rt, move || all_are_answered(&rt, alloc, over))?;
-        assert!(rt; thread.join(&rt) == Ok(true), "{over:?}");
+        thread.join(&rt)?;
     }
     Ok(())
 }

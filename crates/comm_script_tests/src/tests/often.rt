@@ -1,8 +1,7 @@
 // Readers and writers that are called so often that a count of 16 bits couldn't tell it, and a path of 100,000 steps.
-use super::{BOTH, MOST, ROOM, limits, play_over};
-use comm_fakes::{Pieces, Sink, Then};
+use super::scripts::{BOTH, Script, gives};
+use comm_harness::holds;
 use std::alloc::{AllocError, Global};
-use std::io::ErrorKind;
 use std::test::Fail;
 
 const OFTEN: usize = 70_000;
@@ -46,14 +45,14 @@ fn filled(
 #[test]
 fn a_reader_may_be_called_often(rt: HostRuntime) -> Result<(), Fail> {
     let alloc = rt.alloc();
-    let script = filled(alloc, b"", b"\n", OFTEN, b"{")?;
+    let bytes = filled(alloc, b"", b"\n", OFTEN, b"{")?;
     for over in BOTH {
-        let mut reader = Pieces::new(script.as_slice(), 1, 0, ErrorKind::Other);
-        let mut writer = Sink::new(alloc, 64, 64, 0, Then::TakeNothing)?;
-        let result = play_over(&rt, alloc, over, &mut reader, &mut writer, limits(MOST));
-        assert!(rt; result == Ok(()), "{over:?}");
-        assert!(rt; reader.calls() > OFTEN as u64, "{over:?}");
-        assert!(rt; writer.taken() == NOT_JSON, "{over:?}");
+        let script = Script {
+            read: 1,
+            ..Script::over(over, &bytes)
+        };
+        let came = gives(&rt, alloc, "many reads", &script, Ok(()), NOT_JSON)?;
+        holds(came.reads > OFTEN as u64, "it isn't read often")?;
     }
     Ok(())
 }
@@ -62,16 +61,16 @@ fn a_reader_may_be_called_often(rt: HostRuntime) -> Result<(), Fail> {
 #[test]
 fn a_writer_may_be_called_often(rt: HostRuntime) -> Result<(), Fail> {
     let alloc = rt.alloc();
-    let script = filled(alloc, BEFORE, b"x", OFTEN, BEHIND)?;
+    let bytes = filled(alloc, BEFORE, b"x", OFTEN, BEHIND)?;
     let answers = filled(alloc, ANSWERS_BEFORE, b"x", OFTEN, ANSWERS_BEHIND)?;
     for over in BOTH {
-        let mut reader = Pieces::new(script.as_slice(), 4096, 0, ErrorKind::Other);
-        let mut writer = Sink::new(alloc, answers.len(), 1, 0, Then::TakeNothing)?;
-        let result = play_over(&rt, alloc, over, &mut reader, &mut writer, limits(MOST));
-        assert!(rt; result == Ok(()), "{over:?}");
-        assert!(rt; writer.calls() > OFTEN as u64, "{over:?}");
-        assert!(rt; writer.taken() == answers.as_slice(), "{over:?}");
-        assert!(rt; writer.flushed() == answers.len(), "{over:?}");
+        let script = Script {
+            write: 1,
+            room: answers.len(),
+            ..Script::over(over, &bytes)
+        };
+        let came = gives(&rt, alloc, "many writes", &script, Ok(()), &answers)?;
+        holds(came.writes > OFTEN as u64, "it isn't written often")?;
     }
     Ok(())
 }
@@ -100,13 +99,10 @@ state 3 {"buffer_paths":[],"buffers":[],"state":{"k":1}}
 fn a_long_path_changes_nothing(rt: HostRuntime) -> Result<(), Fail> {
     let alloc = rt.alloc();
     for before in [PATH_BEFORE, ECHOED_PATH_BEFORE] {
-        let script = filled(alloc, before, b",\"d\"", 99_999, PATH_BEHIND)?;
+        let bytes = filled(alloc, before, b",\"d\"", 99_999, PATH_BEHIND)?;
         for over in BOTH {
-            let mut reader = Pieces::new(script.as_slice(), 4096, 0, ErrorKind::Other);
-            let mut writer = Sink::new(alloc, ROOM, ROOM, 0, Then::TakeNothing)?;
-            let result = play_over(&rt, alloc, over, &mut reader, &mut writer, limits(MOST));
-            assert!(rt; result == Ok(()), "{over:?}");
-            assert!(rt; writer.taken() == PATH_ANSWERS, "{over:?}");
+            let script = Script::over(over, &bytes);
+            gives(&rt, alloc, "a long path", &script, Ok(()), PATH_ANSWERS)?;
         }
     }
     Ok(())
