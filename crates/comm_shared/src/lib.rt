@@ -6,8 +6,11 @@
 //! else what `comm_script` writes for the same script; tests compare the two.
 #![tactic(auto)]
 
+mod desk;
 mod player;
 mod running;
 mod words;
 
+pub use desk::from_stock;
 pub use running::{run_shared, run_shared_with};
+pub use words::{Full, full_of, run_fault};

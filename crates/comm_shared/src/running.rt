@@ -4,6 +4,7 @@ ghost use Rattle.comm_core.specs.Limits.{AreAllowed};
 ghost use Rattle.comm_manager.specs.Names.{Named};
 ghost use Rattle.comm_script.specs.Stock.{AreIdle};
 
+use crate::desk::Desk;
 use crate::player::Player;
 use comm_core::{Limits, NewFault};
 use comm_json::LineRoom;
@@ -69,12 +70,15 @@ fn opened<J: Naming, I: Read, O: Write, T: Target, R: Wait>(
 {
     match Manager::<J, T>::open(rt, alloc, opening) {
         Ok((manager, clients, publisher)) => {
-            let mut player = Player {
+            let desk = Desk {
                 alloc,
-                clients,
-                publisher,
                 stock: Stock::new(stock),
                 last: None,
+            };
+            let mut player = Player {
+                clients,
+                publisher,
+                desk,
                 room: LineRoom::new(alloc),
             };
             let played = play(rt, &manager, &mut player, reader, writer);
@@ -152,8 +156,8 @@ fn play<J: Naming, I: Read, O: Write, T: Target, R: Wait>(
 {
     let mut progress = Progress {
         number: 0,
-        pending: Vec::new(player.alloc),
-        text: Vec::new(player.alloc),
+        pending: Vec::new(player.desk.alloc),
+        text: Vec::new(player.desk.alloc),
     };
     let mut piece = [0u8; PIECE];
     for _ in 0..u32::MAX {

@@ -1,10 +1,12 @@
 //! The lines that a manager gives which threads share.
-ghost use Rattle.std.specs.Prelude.{◌≡◌, ◌++◌, OnOk, decimal};
+ghost use Rattle.std.specs.Prelude.{◌≡◌, ◌++◌, OnOk, IfErr, decimal};
+ghost use Rattle.comm_shared.specs.Faults.{IsSaid, full_of, run_fault};
 ghost use Rattle.comm_shared.specs.Words.{full_words, unavailable_line, entry_lines};
 
-use comm_core::Entry;
+use comm_core::{Entry, Unavailable};
+use comm_manager::ReadFault;
 use comm_messages::Parent;
-use comm_script::{append_outs, append_reply};
+use comm_script::{RunFault, append_outs, append_reply};
 use std::alloc::{AllocError, Global};
 
 /// What has no room for a change.
@@ -38,8 +40,29 @@ fn append_full_words(full: Full, out: &mut Vec<u8>) -> Result<(), AllocError>
     }
 }
 
-/// The line of a change that isn't made, by its line's number in the script.
-pub fn append_unavailable(number: u64, full: Full, out: &mut Vec<u8>) -> Result<(), AllocError>
+/// What has no room for a change that isn't made; None for want of memory.
+pub fn full_of<S>(why: &Unavailable<S>) -> Option<Full>
+    ensures { result ≡ full_of why.now }
+{
+    match why {
+        Unavailable::Memory => None,
+        Unavailable::HistoryFull(_) => Some(Full::History),
+        Unavailable::OutboxFull(_) => Some(Full::Outbox),
+    }
+}
+
+/// Why a read that gives nothing ends a script.
+pub fn run_fault(fault: ReadFault) -> RunFault
+    ensures { result ≡ run_fault fault }
+{
+    match fault {
+        ReadFault::Memory => RunFault::Memory,
+        ReadFault::NoVersion => RunFault::NoReader,
+    }
+}
+
+// The line of a change that isn't made, by its line's number in the script.
+fn append_unavailable(number: u64, full: Full, out: &mut Vec<u8>) -> Result<(), AllocError>
     ensures { OnOk result (out.new.items ≡ out.old.items ++ unavailable_line number full) }
 {
     append_counted(b"unavailable ", number, out)?;
@@ -47,6 +70,20 @@ pub fn append_unavailable(number: u64, full: Full, out: &mut Vec<u8>) -> Result<
     append_full_words(full, out)?;
     append(b"\n", out)?;
     Ok(())
+}
+
+/// Says what has no room for a change that isn't made. Where it is memory, nothing can be said.
+pub fn append_full(number: u64, full: Option<Full>, out: &mut Vec<u8>) -> Result<(), RunFault>
+    ensures said { OnOk result (IsSaid number full out.old.items out.new.items) }
+    ensures fault { IfErr result (λ e. e ≡ RunFault.Memory) }
+{
+    match full {
+        Some(full) => {
+            append_unavailable(number, full, out)?;
+            Ok(())
+        }
+        None => Err(RunFault::Memory),
+    }
 }
 
 /// The lines of the entry that stands at this place of the history, from 1: its reply, and what it sends.
