@@ -1,5 +1,6 @@
-# Sourced by ./play and ./check: asks for the Rattle kit that the proofs were made with.
+# Sourced by ./play, ./check and tools: asks for the Rattle kit that the proofs were made with, and whether what was built is of the sources as they are.
 WANTED_KIT="rattle-kit-13f"
+TOP=$(cd "$(dirname "${BASH_SOURCE[0]}")/.." && pwd)
 
 need_kit() {
   if ! command -v rt >/dev/null 2>&1; then
@@ -15,4 +16,26 @@ need_kit() {
       exit 2
       ;;
   esac
+}
+
+sources_of() { # sources_of CRATE: the folders of its sources and of those below it
+  python3 -B - "$TOP" "$1" <<'END'
+import sys
+from pathlib import Path
+
+top, crate = Path(sys.argv[1]), sys.argv[2]
+sys.path.insert(0, str(top / "tools"))
+from wrong_bodies_lib.sums import below, listed
+
+names = [*below(listed((top / "crates.txt").read_text()), crate), crate]
+parts = [top / "crates" / name / part for name in names for part in ("src", "specs", "proofs")]
+print("\n".join(str(it) for it in parts if it.is_dir()))
+END
+}
+
+is_current() { # is_current FILE: whether a crate's file in out/ was built of the sources as they are: none of them is newer
+  local crate=${1##*crates/} folders
+  [ -e "$1" ] || return 1
+  mapfile -t folders < <(sources_of "${crate%%/*}")
+  [ -z "$(find "$TOP/crates.txt" "${folders[@]}" -newer "$1" -type f -print -quit)" ]
 }

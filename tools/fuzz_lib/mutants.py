@@ -1,7 +1,7 @@
-"""Scripts of chance: random ones, the examples, and both with bytes, words and lines changed."""
-import importlib.machinery
-import importlib.util
+"""Scripts to be played: random ones, the examples, and both with bytes, words and lines changed."""
 import random
+
+from .scripts import Scripts
 
 # What is put in the place of something else, or beside it.
 PIECES = [
@@ -14,25 +14,21 @@ PIECES = [
 ]  # fmt: skip
 
 
-def random_scripts(root):
-    """The maker of random scripts that tools/random_scripts has."""
-    loader = importlib.machinery.SourceFileLoader("random_scripts", str(root / "tools" / "random_scripts"))
-    module = importlib.util.module_from_spec(importlib.util.spec_from_loader("random_scripts", loader))
-    loader.exec_module(module)
-    return module.Scripts
-
-
 class Mutants:
-    """The script of each number, by one seed."""
+    """The script of each number, by one seed: random ones of so many lines at most, and examples; or random ones alone, as they were made."""
 
-    def __init__(self, root, seed):
-        self.seed = seed
-        self.make = random_scripts(root)
+    def __init__(self, root, seed, lines, are_unchanged):
+        self.seed, self.lines, self.are_unchanged = seed, lines, are_unchanged
         self.examples = [it.read_bytes() for it in sorted((root / "examples").glob("*.jsonl"))]
 
+    def random_script(self, number):
+        return Scripts(f"{self.seed} {number}").script(self.lines)
+
     def script(self, number):
+        if self.are_unchanged:
+            return self.random_script(number)
         chance = random.Random(f"{self.seed} {number}")
-        script = self.make(f"{self.seed} {number}").script(120) if chance.random() < 0.6 else chance.choice(self.examples)
+        script = self.random_script(number) if chance.random() < 0.6 else chance.choice(self.examples)
         if chance.random() < 0.15:
             script += b"\n" + chance.choice(self.examples)
         for _ in range(chance.choice([0, 1, 1, 2, 4, 16])):

@@ -1,10 +1,11 @@
 """Buffers and their paths: base64 that is none, every byte, very many buffers, and paths that are long or lead nowhere."""
 import base64
 
-from .script import WIDGETS, msg, of_state, update, with_echo, with_widget
+from .script import WIDGETS, msg, of_state, update, widget_open, with_echo, with_widget
 
 MANY = 10_000
 STEPS = 100_000
+FAR = 100_001
 
 # RFC 4648, section 4: with padding, no other letters, no blanks, no bits left over.
 NO_BASE64 = """
@@ -83,5 +84,26 @@ def paths(widgets):
     return script.case("paths")
 
 
+def far(widgets):
+    """The first fault stands behind more than a hundred thousand paths that are right, and is told by its number: an item that is no path, a path
+    that leads into a buffer, and a path without a buffer; of an update, an open, and a push, which isn't read then."""
+    before, one = ['["x"]'] * FAR, '"AQI="'
+    wrong = (
+        (listed([*before, "7"]), listed([one]), "bad_path"),
+        (listed([*before, '["x","y"]']), listed([one] * (FAR + 1)), "bad_path"),
+        (listed([*before, '["x"]']), listed([one] * FAR), "buffer_missing"),
+    )
+    script = with_widget(kind=widgets)
+    for places, given, word in wrong:
+        script.change(update("{}", places, given), f"fault {word} {FAR}")
+        script.change(widget_open(f'{{"state":{{}},"buffer_paths":{places}}}', f',"buffers":{given}', "b"), f"refused {word} {FAR}")
+        script.sends("comm_close", "b")
+        script.bad(f'{{"call":"push","id":"a","buffer_paths":{places},"buffers":{given}}}', f"{word} {FAR}")
+    script.state(of_state('{"k":1}'))
+    script.updates("{}", listed(before), listed([one] * FAR), told=("{}", '[["x"]]', f"[{one}]"))
+    script.state(of_state('{"k":1}', '[["x"]]', f"[{one}]"))
+    return script.case("a far fault")
+
+
 def cases():
-    return [bases()] + [make(widgets) for make in (many, paths) for widgets in WIDGETS]
+    return [bases()] + [make(widgets) for make in (many, paths, far) for widgets in WIDGETS]

@@ -33,8 +33,8 @@ def fault_of(program, way, case, stack, seconds=600):
         return f"status {ran.returncode}, {ran.stderr[-300:]!r}"
     if ran.stderr:
         return f"standard error has {ran.stderr[-300:]!r}"
-    if ran.stdout != case.answers:
-        return difference(ran.stdout, case.answers)
+    if ran.stdout != case.wanted(way):
+        return difference(ran.stdout, case.wanted(way))
     return ""
 
 

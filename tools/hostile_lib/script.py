@@ -11,12 +11,18 @@ WIDGETS = ("widget", "widget_echo")
 
 @dataclass(frozen=True)
 class Case:
-    """A script, and what must be written for it. What nests deep is played with a small stack."""
+    """A script, and what must be written for it, over the shared manager too where that isn't said by itself. What nests deep is played with a
+    small stack."""
 
     name: str
     script: bytes
     answers: bytes
     is_deep: bool = False
+    shared_answers: bytes | None = None
+
+    def wanted(self, way):
+        """What must be written where the program has these arguments."""
+        return self.answers if self.shared_answers is None or not way else self.shared_answers
 
 
 def written(text):
@@ -78,6 +84,9 @@ class Script:
     def bad(self, line, words):
         self.add(line, f"bad {len(self.given) + 1} {words}")
 
+    def unavailable(self, line, words):
+        self.add(line, f"unavailable {len(self.given) + 1} {words}")
+
     def change(self, line, words, client=0):
         self.changes += 1
         self.calls[client] += 1
@@ -91,6 +100,12 @@ class Script:
 
     def state(self, words, comm="a"):
         self.add(f'{{"call":"state","id":"{comm}"}}', f"state {self.changes} {words}")
+
+    def lists(self, comms, target, client=0):
+        """The comms of one target, in the order of their ids' bytes."""
+        listed = ",".join(f'{written(it)}:{{"target_name":{written(target)}}}' for it in comms)
+        head = f'"buffers":[],"client":{client},"content":{{"comms":{{{listed}}},"status":"ok"}},"front":{self.changes}'
+        self.add(f'{{"client":{client},"header":{{"msg_type":"comm_info_request"}}}}', f'out {{{head},"header":{{"msg_type":"comm_info_reply"}},"metadata":{{}}}}')
 
     def registers_widgets(self):
         self.change(f'{{"call":"register","kind":"{self.kind}","name":"jupyter.widget"}}', "registered")
@@ -112,9 +127,13 @@ class Script:
         self.change(msg('{"method":"request_state"}'), "delivered")
         self.sends("comm_msg", "a", of_update(state, paths), buffers)
 
-    def case(self, name, is_deep=False, end=b"\n"):
+    def answers(self):
+        return b"".join(it + b"\n" for it in self.wanted)
+
+    def case(self, name, is_deep=False, end=b"\n", shared=None):
+        """A case of this script; `shared` has the same lines, and what is answered to them over the shared manager, where that differs."""
         name += ", where widgets echo" if self.kind == "widget_echo" else ""
-        return Case(name, b"\n".join(self.given) + end, b"".join(it + b"\n" for it in self.wanted), is_deep)
+        return Case(name, b"\n".join(self.given) + end, self.answers(), is_deep, shared and shared.answers())
 
 
 def with_echo(kind="widget"):

@@ -123,11 +123,7 @@ def names():
     texts = sorted({chr(it) for it in [*range(0x20), *EDGES]} | {"", '"', "\\", "a" * 10_000, "😀" * 1000, "\uffff\U00010000"}, key=lambda it: it.encode())
     for it in reversed(texts):
         script.change(message("comm_open", f'"comm_id":{written(it)},"target_name":"\\u0000"'), "opened")
-    comms = ",".join(written(it) + ':{"target_name":"\\u0000"}' for it in texts)
-    script.add(
-        '{"header":{"msg_type":"comm_info_request"}}',
-        f'out {{"buffers":[],"client":0,"content":{{"comms":{{{comms}}},"status":"ok"}},"front":{script.changes},"header":{{"msg_type":"comm_info_reply"}},"metadata":{{}}}}',
-    )
+    script.lists(texts, "\0")
     script.change('{"call":"unregister","name":"\\u0000"}', f"unregistered [{','.join(written(it) for it in reversed(texts))}]")
     for it in reversed(texts):
         script.sends("comm_close", it)

@@ -1,12 +1,12 @@
 """Random scripts of several clients who have ids and names in common, so that what comes of a line depends on the others."""
 import json
 
-from fuzz_lib.mutants import random_scripts
+from fuzz_lib.scripts import Scripts
 from together_lib.lines import CLIENTS
 
 FIRST = ((("widget", "widget_echo"), "jupyter.widget"), (("echo",), "t"), (("counter",), "u"))
 FEW_IDS = ["a", "b", "é"]
-# How many of these lines stay, of those that tools/random_scripts makes. A target that was unregistered or replaced doesn't come back.
+# How many of these lines stay, of those that tools/fuzz makes. A target that was unregistered or replaced doesn't come back.
 KEPT = {"register": 0.3, "unregister": 0.12, "comm_close": 0.5, "hang_up": 0.5}
 
 
@@ -16,50 +16,45 @@ def kind_of(line):
     return line.get("call") or (header.get("msg_type") if isinstance(header, dict) else None)
 
 
-def maker(root):
-    """The class whose objects make such scripts, over the one of tools/random_scripts."""
+class Shared(Scripts):
+    """Makes the lines of so many clients."""
 
-    class Shared(random_scripts(root)):
-        """Makes the lines of so many clients."""
+    def read(self):
+        """A read of a comm's state, or of the open comms."""
+        while True:
+            line = self.command() if self.random.random() < 0.6 else self.message()
+            if kind_of(line) in ("state", "comm_info_request"):
+                return line
 
-        def read(self):
-            """A read of a comm's state, or of the open comms."""
-            while True:
-                line = self.command() if self.random.random() < 0.6 else self.message()
-                if kind_of(line) in ("state", "comm_info_request"):
-                    return line
+    def asked(self):
+        """What a line asks for, of few comms mostly."""
+        line = None
+        while line is None or self.random.random() >= KEPT.get(kind_of(line), 1):
+            line = self.message() if self.random.random() < 0.65 else self.command()
+        if self.random.random() < 0.2:
+            line = self.read()
+        for place, key in (line, "id"), (line.get("content"), "comm_id"):
+            if place and key in place and self.random.random() < 0.7:
+                place[key] = self.random.choice(FEW_IDS)
+        return line
 
-        def asked(self):
-            """What a line asks for, of few comms mostly."""
-            line = None
-            while line is None or self.random.random() >= KEPT.get(kind_of(line), 1):
-                line = self.message() if self.random.random() < 0.65 else self.command()
-            if self.random.random() < 0.2:
-                line = self.read()
-            for place, key in (line, "id"), (line.get("content"), "comm_id"):
-                if place and key in place and self.random.random() < 0.7:
-                    place[key] = self.random.choice(FEW_IDS)
-            return line
+    def of_client(self, line, client, clients):
+        """The line as this client's, who may hear another first."""
+        if client or self.random.random() < 0.5:
+            line["client"] = client
+        if self.random.random() < 0.15:
+            line["hear"] = self.random.choice([it for it in range(clients) if it != client] + [client, CLIENTS, None] * self.rarely())
+        if self.rarely(40):
+            line[self.random.choice(list(line))] = self.odd()
+        text = json.dumps(line, ensure_ascii=self.random.random() < 0.5)
+        if self.rarely(60):
+            text = self.random.choice(["", " \t\r", text[: self.random.randrange(len(text))]])
+        return text
 
-        def of_client(self, line, client, clients):
-            """The line as this client's, who may hear another first."""
-            if client or self.random.random() < 0.5:
-                line["client"] = client
-            if self.random.random() < 0.15:
-                line["hear"] = self.random.choice([it for it in range(clients) if it != client] + [client, CLIENTS, None] * self.rarely())
-            if self.rarely(40):
-                line[self.random.choice(list(line))] = self.odd()
-            text = json.dumps(line, ensure_ascii=self.random.random() < 0.5)
-            if self.rarely(60):
-                text = self.random.choice(["", " \t\r", text[: self.random.randrange(len(text))]])
-            return text
-
-        def script(self, clients, lines):
-            """So many lines of each client, in an order of chance. The first ones register targets, whoever comes first."""
-            whose = [client for client in range(clients) for _ in range(lines)]
-            self.random.shuffle(whose)
-            first = [{"call": "register", "kind": self.random.choice(kinds), "name": name} for kinds, name in FIRST if self.random.random() < 0.9]
-            texts = [self.of_client(first.pop(0) if first else self.asked(), client, clients) for client in whose]
-            return ("\n".join(texts) + self.random.choice(["", "\n"])).encode("utf-8", "surrogatepass")
-
-    return Shared
+    def script(self, clients, lines):
+        """So many lines of each client, in an order of chance. The first ones register targets, whoever comes first."""
+        whose = [client for client in range(clients) for _ in range(lines)]
+        self.random.shuffle(whose)
+        first = [{"call": "register", "kind": self.random.choice(kinds), "name": name} for kinds, name in FIRST if self.random.random() < 0.9]
+        texts = [self.of_client(first.pop(0) if first else self.asked(), client, clients) for client in whose]
+        return ("\n".join(texts) + self.random.choice(["", "\n"])).encode("utf-8", "surrogatepass")

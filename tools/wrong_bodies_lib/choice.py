@@ -1,28 +1,34 @@
-"""Which wrong bodies a run tries: those whose sum isn't the recorded one, and of the others all, a part, or none."""
+"""Which wrong bodies a run tries: those whose sum isn't the recorded one, and of the others all, a share, or none."""
 import hashlib
 from enum import Enum
 
-PARTS = 4
+SHARE = 24
 
 
 class Mode(Enum):
     ALL = "each"
-    PART = "each that isn't recorded, and a quarter of the others"
+    PART = "each that isn't recorded, and a share of one crate's others"
     CHANGED = "each that isn't recorded"
 
 
-def turn(name, commits):
-    """Whether this commit's part has the wrong body: over any four commits in a row, each has its turn once."""
-    number = int(hashlib.sha256(name.encode()).hexdigest()[:8], 16)
-    return (number + commits) % PARTS == 0
+def shares(edits, most):
+    """The wrong bodies in shares of so many at most, each of one crate, since the check of a crate as it stands is the dear part of a try."""
+    made = []
+    for crate in sorted({it.crate for it in edits}):
+        own = sorted((it for it in edits if it.crate == crate), key=lambda it: hashlib.sha256(str(it).encode()).hexdigest())
+        count = -(-len(own) // most)
+        made += [own[number::count] for number in range(count)]
+    return made
 
 
-def chosen(edits, sums, rows, mode, commits):
-    """Two lists: what must be tried, and what is tried again as far as time allows; the others stand by the record."""
+def chosen(edits, sums, rows, mode, commits, most=SHARE):
+    """Two lists: what must be tried, and what is tried again as far as time allows; the others stand by the record. Each share has its turn once in
+    as many commits in a row as there are shares."""
     is_recorded = {it: rows.get(str(it), ("", ""))[0] == sums[it] for it in edits}
     must = [it for it in edits if mode is Mode.ALL or not is_recorded[it]]
-    again = [it for it in edits if mode is Mode.PART and is_recorded[it] and turn(str(it), commits)]
-    return must, again
+    made = shares(edits, most) if mode is Mode.PART else []
+    in_turn = set(made[commits % len(made)]) if made else ()
+    return must, [it for it in edits if is_recorded[it] and it in in_turn]
 
 
 def crates_in_turn(names, commits):

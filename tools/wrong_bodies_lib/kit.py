@@ -10,7 +10,7 @@ import subprocess
 import sys
 from pathlib import Path
 
-NEEDED = ("must_fail", "read_edit", "unread", "checked", "need", "free", "processors", "REFUSED", "AT_LIMIT", "BAD", "UNSURE", "MISSED")
+NEEDED = ("must_fail", "read_edit", "unread", "checked", "need", "free", "processors", "share_work", "REFUSED", "AT_LIMIT", "BAD", "UNSURE", "MISSED")
 BY_NAME = "only because a proof file names what the edit took away"
 ONE_JOB = ["--jobs", "1"]
 
@@ -98,6 +98,21 @@ class Kit:
         lines = ran.stdout.rstrip("\n").split("\n")
         is_read = not any(self.rt.unread(it, texts) for it in lines) and not self.rt.rtlib.STALE.search(ran.stdout)
         return lines if is_read and ran.returncode == 1 and lines[-1].startswith("logic=not-proved") else []
+
+
+def are_of_the_gate(root, names):
+    """Whether the libraries are those that rt ci has just made: it leaves them with no stamp, all of one run."""
+    outs = [Path(root, "crates", name, "out/rlib") for name in names]
+    return all(it.is_dir() and not (it / "stamp").exists() for it in outs)
+
+
+def build_archive(crate):
+    """Proves a static library over the libraries below it as they stand, and builds its archive, as `rt lib` does over those with a stamp. Returns the
+    status."""
+    rt = loaded()
+    rt.rtlib.guarded()
+    rt.share_work(True)
+    return crate.build_static([])
 
 
 @contextlib.contextmanager

@@ -1,9 +1,12 @@
-"""Looks whether tools/wrong_bodies finds out what it should, on a copy of the cheapest crate with wrong bodies of its own."""
+"""Looks whether tools/wrong_bodies finds out what it should: its parts that need no prover, and all of it on a copy of the cheapest crate with
+wrong bodies of its own."""
 import shutil
 import sys
+import tempfile
 import unittest
 from pathlib import Path
 
+from . import batches, choice, edits, kit, lanes, record, sums
 from .choice import Mode
 from .edits import Edit
 from .record import Record
@@ -14,7 +17,7 @@ CRATE = "comm_fakes"
 PLACE = "file: src/writer.rt\nold:             calls: 0,\nnew: "
 BESIDE = "file: src/reader.rt\nold: self.calls.saturating_add(1)\nnew: "
 APART = "file: src/writer.rt\nold: let count = buf.len().min(self.step.max(1));\nnew: "
-# No commits are counted in the copy: of those that the record has as they are, 'harmless_but_recorded' has its turn, and 'stands' not.
+# No commits are counted in the copy: of those that the record has as they are, the first share has 'harmless_but_recorded', and not 'stands'.
 EDITS = {
     "refused": PLACE + "            calls: 1,\n",
     "stands": PLACE + "            calls: 2,\n",
@@ -41,6 +44,214 @@ WANTED = {
     "refused_beside_others": "proof",
     "changes_nothing_beside_others": "NOT REFUSED",
 }
+
+GB = 1_000_000_000
+
+
+def edit(name, crate="low"):
+    return Edit(crate, "wrong-bodies", name)
+
+
+class Room(unittest.TestCase):
+    """A repository of two crates, the second above the first."""
+
+    def setUp(self):
+        folder = tempfile.TemporaryDirectory()
+        self.addCleanup(folder.cleanup)
+        self.root = Path(folder.name)
+        self.write("crates.txt", "# the crates\nlow: json\nhigh: low\n")
+        for crate in ("low", "high"):
+            self.write(f"crates/{crate}/src/lib.rt", "// why\nfn f() {}\n")
+            self.write(f"crates/{crate}/specs/Lib.antt", "-- what\nf : Nat\n")
+            self.write(f"crates/{crate}/proofs/Lemmas.antt", "lemma : f\n")
+            self.write(f"crates/{crate}/proofs/f/Answers.antt", "answer = f\n")
+            self.write(f"crates/{crate}/wrong-bodies/one.edit", "file: src/lib.rt\nold: {}\nnew: {1}\n")
+
+    def write(self, path, text):
+        path = self.root / path
+        path.parent.mkdir(parents=True, exist_ok=True)
+        path.write_text(text)
+
+    def sum(self, crate, version="kit-1"):
+        return sums.Sums(self.root, version).of(edit("one", crate))
+
+
+class Sums(Room):
+    def changes(self, path, text, crate):
+        before = self.sum(crate)
+        self.write(path, text)
+        return self.sum(crate) != before
+
+    def test_what_changes_the_sum(self):
+        self.assertTrue(self.changes("crates/low/src/lib.rt", "fn g() {}\n", "low"))
+        self.assertTrue(self.changes("crates/low/specs/Lib.antt", "f : Bool\n", "high"))
+        self.assertTrue(self.changes("crates/low/src/lib.rt", "fn h() {}\n", "high"))
+        self.assertTrue(self.changes("crates/low/proofs/Lemmas.antt", "lemma : g\n", "high"))
+        self.assertTrue(self.changes("crates/low/proofs/f/Answers.antt", "answer = g\n", "low"))
+        self.assertTrue(self.changes("crates/low/wrong-bodies/one.edit", "file: src/lib.rt\nold: {}\nnew: {2}\n", "low"))
+        self.assertTrue(self.changes("crates/high/src/more.rt", "fn more() {}\n", "high"))
+        self.assertTrue(self.changes("crates.txt", "low: json serde\nhigh: low\n", "high"))
+        self.assertNotEqual(self.sum("low", "kit-1"), self.sum("low", "kit-2"))
+
+    def test_what_leaves_the_sum(self):
+        self.assertFalse(self.changes("crates/low/src/lib.rt", "// another why\n\nfn f() {}\n", "high"))
+        self.assertFalse(self.changes("crates/low/specs/Lib.antt", "-- other words\nf : Nat\n", "low"))
+        self.assertFalse(self.changes("crates/low/proofs/f/Answers.antt", "answer = h\n", "high"))
+        self.assertFalse(self.changes("crates/high/src/lib.rt", "fn g() {}\n", "low"))
+        self.assertFalse(self.changes("crates/low/wrong-bodies/two.edit", "file: src/lib.rt\n", "low"))
+        self.assertFalse(self.changes("crates.txt", "high: low # above\nlow : json\n", "high"))
+
+    def test_a_comment_at_the_end_of_a_line_counts(self):
+        self.assertEqual(sums.said("a // b\n  // c\n\nd\n", ".rt"), "a // b\nd")
+
+
+class Edits(Room):
+    def test_which_there_are(self):
+        self.write("crates/low/must-fail/two.edit", "file: src/lib.rt\n")
+        self.assertEqual([str(it) for it in edits.edits_below(self.root, ("wrong-bodies",))], ["high/wrong-bodies/one", "low/wrong-bodies/one"])
+        self.assertEqual([it.name for it in edits.edits_below(self.root, edits.FOLDERS, ("low",))], ["two", "one"])
+
+    def test_only_bodies(self):
+        self.assertIsNone(edits.body_fault("file: src/lib.rt\nold: a\nnew: b\n"))
+        self.assertIn("specs/", edits.body_fault("file: src/lib.rt\nold: a\nnew: b\nfile: specs/A.antt\n"))
+        self.assertIn("no file", edits.body_fault("old: a\nnew: b\n"))
+
+
+class Records(Room):
+    def test_written_is_read(self):
+        kept = record.Record(self.root / "refused.txt")
+        self.assertEqual(kept.rows(), {})
+        kept.put(edit("b"), "2" * 16, "by-name")
+        kept.put(edit("a"), "1" * 16, "proof")
+        self.assertTrue(kept.stands(edit("a"), "1" * 16))
+        self.assertFalse(kept.stands(edit("a"), "2" * 16))
+        names = [line.split()[1] for line in kept.path.read_text().splitlines()[1:]]
+        self.assertEqual(names, ["low/wrong-bodies/a", "low/wrong-bodies/b"])
+        kept.drop(edit("a"))
+        self.assertEqual(kept.rows(), {"low/wrong-bodies/b": ("2" * 16, "by-name")})
+
+    def test_what_is_no_row_is_left_out(self):
+        self.assertEqual(record.read("# a b\nhalf a\nsum name proof\n"), {"name": ("sum", "proof")})
+
+
+class Choice(unittest.TestCase):
+    def setUp(self):
+        self.edits = [edit(f"e{n}") for n in range(40)]
+        self.sums = {it: "now" for it in self.edits}
+        self.rows = {str(it): ("now", "proof") for it in self.edits[2:]}
+        self.rows[str(self.edits[0])] = "before", "proof"
+
+    def chosen(self, mode, commits=0):
+        return choice.chosen(self.edits, self.sums, self.rows, mode, commits)
+
+    def test_what_is_not_recorded_is_tried(self):
+        for mode in (choice.Mode.PART, choice.Mode.CHANGED):
+            self.assertEqual(self.chosen(mode)[0], self.edits[:2])
+        self.assertEqual(self.chosen(choice.Mode.CHANGED)[1], [])
+        self.assertEqual(self.chosen(choice.Mode.ALL), (self.edits, []))
+
+    def test_each_has_its_turn_once(self):
+        made = choice.shares(self.edits, choice.SHARE)
+        turns = [self.chosen(choice.Mode.PART, commits)[1] for commits in range(7, 7 + len(made))]
+        self.assertEqual(sorted(it for turn in turns for it in turn), sorted(self.edits[2:]))
+
+    def test_a_share_is_of_one_crate(self):
+        edits = self.edits + [edit(f"e{n}", "high") for n in range(choice.SHARE + 1)] + [edit("e", "top")]
+        made = choice.shares(edits, choice.SHARE)
+        self.assertEqual(sorted(it for share in made for it in share), sorted(edits))
+        self.assertEqual([(share[0].crate, len({it.crate for it in share}), len(share)) for share in made],
+                         [("high", 1, 13), ("high", 1, 12), ("low", 1, 20), ("low", 1, 20), ("top", 1, 1)])
+        self.assertEqual(choice.chosen([], {}, {}, choice.Mode.PART, 3), ([], []))
+
+    def test_crates_begin_elsewhere(self):
+        self.assertEqual(choice.crates_in_turn(["c", "a", "b"], 4), ["b", "c", "a"])
+        self.assertEqual(choice.crates_in_turn([], 4), [])
+
+
+class Batches(unittest.TestCase):
+    FILE = "src/a/b.rt"
+    TEXT = "fn one() {\n    1\n}\n\nimpl A {\n    pub fn two(&self) -> u8\n        ensures { x }\n    {\n        2\n    }\n\n    pub(crate) fn one() {\n        3\n    }\n}\n"
+
+    def function(self, old, new):
+        return batches.function_of({self.FILE: self.TEXT}, {self.FILE: self.TEXT.replace(old, new)})
+
+    def test_where_a_function_stands(self):
+        found = [(it.name, it.first, it.last, it.is_only_one) for it in batches.functions_in(self.FILE, self.TEXT)]
+        self.assertEqual(found, [("one", 1, 3, False), ("two", 6, 10, True), ("one", 12, 14, False)])
+
+    def test_the_function_of_an_edit(self):
+        self.assertEqual(self.function("        2", "        4").name, "two")
+        self.assertEqual(self.function("        3", "        4").first, 12)
+        self.assertIsNone(self.function("impl A", "impl B"))
+        self.assertIsNone(self.function("    1\n", ""))
+        self.assertIsNone(self.function("    1\n}\n\nimpl A {\n    pub fn two(&self)", "    2\n}\n\nimpl A {\n    pub fn two(&mut self)"))
+        self.assertIsNone(batches.function_of({"src/a.rt": "x", "src/b.rt": "x"}, {"src/a.rt": "y", "src/b.rt": "y"}))
+
+    def test_groups(self):
+        one, two, three = self.function("    1", "    4"), self.function("        2", "        4"), self.function("        3", "        4")
+        a, b, c, d, e = (edit(it) for it in "abcde")
+        self.assertEqual(batches.grouped([a, b, c, d, e], {a: one, b: one, c: None, d: two, e: three}), [[a, d, e], [b], [c]])
+        many = [batches.Function(self.FILE, "f", number, number, True) for number in range(batches.SIZE + 1)]
+        self.assertEqual([len(it) for it in batches.grouped(many, {it: it for it in many})], [batches.SIZE, 1])
+
+    def test_one_text_of_several(self):
+        afters = [{self.FILE: self.TEXT.replace("    1\n", "    7\n")}, {self.FILE: self.TEXT.replace("        2", "        8")}]
+        wanted = self.TEXT.replace("    1\n", "    7\n").replace("        2", "        8")
+        self.assertEqual(batches.merged({self.FILE: self.TEXT}, afters), {self.FILE: wanted})
+
+    def test_what_is_told_of_a_function(self):
+        two, one = self.function("        2", "        4"), self.function("        3", "        4")
+        notes = "note: src/a/b.rt:{}:5: it is not proved that what the function ensures holds when it returns (`returns`)"
+        self.assertTrue(batches.is_refused(two, ["logic=not-proved", notes.format(6)]))
+        self.assertTrue(batches.is_refused(two, [notes.format(10)]))
+        self.assertFalse(batches.is_refused(two, [notes.format(11), notes.format(5), "so far: " + notes.format(6)]))
+        self.assertFalse(batches.is_refused(two, [notes.format(6).replace("b.rt", "c.rt"), "note: src/a/b.rt:6:5: large solution"]))
+        proof = "./proofs/a/b/{}/Answers.antt:9:5: error: `returns`: {}"
+        self.assertTrue(batches.is_refused(two, [proof.format("A/two", "the two types differ")]))
+        self.assertFalse(batches.is_refused(two, [proof.format("A/one", "the two types differ"), proof.format("A/two", "it has no field `x`")]))
+        self.assertFalse(batches.is_refused(one, [proof.format("A/one", "the two types differ")]))
+
+
+class Judging(unittest.TestCase):
+    def test_how(self):
+        rt = kit.loaded()
+        self.assertEqual(kit.how_refused(rt.REFUSED, "must-fail a/b.edit: refused, as it must be: src/a.rt:1:1"), "proof")
+        self.assertEqual(kit.how_refused(rt.REFUSED, f"must-fail a/b.edit: refused, as it must be ({kit.BY_NAME}, so ..)"), "by-name")
+        self.assertEqual(kit.how_refused(rt.AT_LIMIT, "must-fail a/b.edit: refused, as it must be (only by a limit of the prover)"), "limit")
+        for outcome in (rt.MISSED, rt.BAD, rt.UNSURE):
+            self.assertIsNone(kit.how_refused(outcome, "must-fail a/b.edit: refused, as it must be"))
+
+
+class Lanes(unittest.TestCase):
+    def test_memory(self):
+        def job(gigabytes):
+            return lanes.Job(list, gigabytes * GB)
+
+        self.assertTrue(lanes.fits(job(50), [], 10 * GB, 1 * GB))
+        self.assertTrue(lanes.fits(job(4), [job(4)], 10 * GB, 5 * GB))
+        self.assertFalse(lanes.fits(job(4), [job(4), job(1)], 10 * GB, 5 * GB))
+        self.assertFalse(lanes.fits(job(4), [job(1)], 10 * GB, 4 * GB))
+
+    def test_what_a_job_gives_is_run(self):
+        done = []
+        later = lanes.Job(lambda: done.append("later") or [], GB)
+        first = lanes.Job(lambda: done.append("first") or [later], GB)
+        self.assertEqual(lanes.in_lanes([first], 2, lambda: 10 * GB), [])
+        self.assertEqual(done, ["first", "later"])
+
+    def test_after_the_deadline_only_what_must(self):
+        done = []
+        must = lanes.Job(lambda: done.append("must") or [], GB)
+        may = lanes.Job(lambda: done.append("may") or [], GB, may_wait=True)
+        self.assertEqual(lanes.in_lanes([may, must], 2, lambda: 10 * GB, deadline=0), [may])
+        self.assertEqual(done, ["must"])
+
+    def test_after_the_last_moment_nothing(self):
+        done = []
+        must = lanes.Job(lambda: done.append("must") or [], GB)
+        may = lanes.Job(lambda: done.append("may") or [], GB, may_wait=True)
+        self.assertEqual(lanes.in_lanes([may, must], 2, lambda: 10 * GB, last=0), [may, must])
+        self.assertEqual(done, [])
 
 
 def edit_of(name):
@@ -75,7 +286,7 @@ def faults(told, record, sums):
 
 
 def run(root, at):
-    tests = unittest.defaultTestLoader.discover(str(root / "tools"), pattern="wrong_bodies_test.py")
+    tests = unittest.defaultTestLoader.loadTestsFromModule(sys.modules[__name__])
     units = unittest.TextTestRunner(stream=sys.stderr).run(tests)
     small = small_copy(root, at)
     plan = Run(Wish(small), at / "plan")
@@ -85,7 +296,7 @@ def run(root, at):
     record.put(edit_of("harmless_but_recorded"), plan.sums[edit_of("harmless_but_recorded")], "proof")
     record.put(edit_of("recorded_wrongly"), "0" * 16, "proof")
     record.put(edit_of("changes_nothing"), "0" * 16, "proof")
-    told = Run(Wish(small, Mode.PART), at / "run").whole()
+    told = Run(Wish(small, Mode.PART, share=4), at / "run").whole()
     found = list(faults(told, record, plan.sums))
     shutil.rmtree(small)
     print("\n".join([*told.lines()][:-1] + [f"tools/wrong_bodies --self-test: {it}" for it in found]))

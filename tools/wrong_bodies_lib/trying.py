@@ -8,7 +8,7 @@ from pathlib import Path
 
 from . import kit as kits
 from .batches import function_of, grouped, is_refused, merged
-from .choice import Mode, chosen, crates_in_turn
+from .choice import SHARE, Mode, chosen, crates_in_turn
 from .edits import FOLDERS, body_fault, edits_below
 from .lanes import Job, in_lanes
 from .record import Record
@@ -28,9 +28,10 @@ class Wish:
     folders: tuple = FOLDERS[:1]
     names: tuple = ()
     lanes: int = 0
-    minutes: float = 15
+    minutes: float = 5
     by: float | None = None
     after_ci: bool = False
+    share: int = SHARE
 
 
 @dataclass
@@ -47,9 +48,13 @@ class Told:
         yield from (f"wrong_bodies: {it}: {why}" for it, why in sorted(self.failed.items(), key=str))
         yield from (f"wrong_bodies: {it}: refused only because a proof file names what it took away" for it in by_name)
         yield from (f"wrong_bodies: {it}: refused only by a limit of the prover, which gave no verdict" for it in by_limit)
-        reached = f", {len(self.not_reached)} that stand weren't reached in the time" if self.not_reached else ""
-        yield f"wrong_bodies: {len(self.refused) + len(self.failed)} tried, {self.stand} stand by the record{reached}"
-        yield f"{len(self.refused)} passed, {len(self.failed)} failed"
+        yield f"wrong_bodies: {len(self.refused) + len(self.failed)} tried, {self.stand} stand by the record"
+        skipped = ""
+        if self.not_reached:
+            crates = ", ".join(sorted({it.crate for it in self.not_reached}))
+            yield f"skipped: {len(self.not_reached)} wrong bodies of {crates} that had their turn again: want of time"
+            skipped = f", {len(self.not_reached)} skipped"
+        yield f"{len(self.refused)} passed, {len(self.failed)} failed{skipped}"
 
 
 def commits_of(root):
@@ -81,7 +86,7 @@ class Run:
             if why:
                 self.told.failed[edit] = why
         sound = [it for it in edits if it not in self.told.failed]
-        must, again = chosen(sound, self.sums, self.record.rows(), wish.mode, commits_of(wish.root))
+        must, again = chosen(sound, self.sums, self.record.rows(), wish.mode, commits_of(wish.root), wish.share)
         self.told.stand = len(sound) - len(must) - len(again)
         return must, again
 
@@ -111,7 +116,7 @@ class Run:
         needed = sorted({low for name in wanted for low in below(rows, name)})
         with kits.locked(self.wish.root) as crates:
             unbuilt = [name for name in needed if not crates[name].is_built()]
-            if self.wish.after_ci and self.are_of_the_gate(needed):
+            if self.wish.after_ci and kits.are_of_the_gate(self.wish.root, needed):
                 unbuilt = []
             self.room.fill(set(wanted) | set(unbuilt), needed)
         self.kit = kits.Kit(self.room.top)
@@ -121,11 +126,6 @@ class Run:
                 self.say(f"{name}: its library is to be proved first")
                 if not self.kit.build(name, self.lanes, self.room.log / f"{name}.library"):
                     self.stop(name, self.room.log / f"{name}.library")
-
-    def are_of_the_gate(self, names):
-        """Whether the libraries are those that rt ci has just made: it leaves them with no stamp, all of one run."""
-        outs = [Path(self.wish.root) / "crates" / name / "out/rlib" for name in names]
-        return all(it.is_dir() and not (it / "stamp").exists() for it in outs)
 
     def stop(self, name, log):
         print(log.read_text()[-2000:], file=sys.stderr)
@@ -149,12 +149,14 @@ class Run:
         """The check of a crate as it stands, over which its wrong bodies are tried."""
         is_warm = self.room.kept(name).is_dir()
         need = int(self.kit.need(name) * (OVER_KEPT if is_warm else 1))
+        is_alone = len({it.crate for it in self.unreached}) == 1 and self.kit.free() > 2 * need
+        jobs = 1 if is_warm else max(2, self.lanes) if is_alone else 2
 
         def run():
             self.room.kept(name).mkdir(parents=True, exist_ok=True)
             self.say(f"{name}: checked as it stands{'' if is_warm else ', from nothing'}, for {len(edits)} wrong bodies")
             log = self.room.log / f"{name}.check"
-            if not self.kit.is_proved(name, 1 if is_warm else 2, self.room.kept(name), log):
+            if not self.kit.is_proved(name, jobs, self.room.kept(name), log):
                 with self.lock:
                     for edit in edits:
                         self.told.failed[edit] = "not tried, since its crate isn't proved as it stands"

@@ -1,19 +1,7 @@
-#!/usr/bin/env python3
-"""Plays random scripts over the manager of one thread and over the one that threads share, and compares what is written.
-
-tools/random_scripts PROGRAM [--scripts 200] [--lines 120] [--seed 1] [--beside OTHER]
-
-The same seed gives the same scripts. With --beside the second is another program, without an argument, in the place of the shared manager. The
-last line is 'N passed, M failed'; the status is 0 only where none failed, and a script that failed is kept and named.
-"""
-
-import argparse
+"""Scripts of chance: lines of each kind, nearly all of which can be read."""
 import base64
 import json
 import random
-import subprocess
-import sys
-import tempfile
 import uuid
 
 IDS = ["a", "b", "c", "d", "é", 'q"\\', ""]
@@ -138,37 +126,3 @@ class Scripts:
         texts += [self.line() for _ in range(self.random.randrange(lines))]
         end = "" if self.random.random() < 0.5 else "\n"
         return ("\n".join(texts) + end).encode("utf-8", "surrogatepass")
-
-
-def played(words, script):
-    ran = subprocess.run(words, input=script, capture_output=True, timeout=60)
-    return ran.returncode, ran.stdout, ran.stderr
-
-
-def main():
-    parser = argparse.ArgumentParser(description=__doc__.split("\n")[0])
-    parser.add_argument("program")
-    parser.add_argument("--scripts", type=int, default=200)
-    parser.add_argument("--lines", type=int, default=120)
-    parser.add_argument("--seed", type=int, default=1)
-    parser.add_argument("--beside", help="another program, in the place of the shared manager")
-    given = parser.parse_args()
-    second = [given.beside] if given.beside else [given.program, "shared"]
-    failed, lines, words = 0, 0, set()
-    for number in range(given.scripts):
-        script = Scripts(f"{given.seed} {number}").script(given.lines)
-        one, other = played([given.program], script), played(second, script)
-        lines += script.count(b"\n")
-        words |= {line.split(b" ")[2] for line in one[1].split(b"\n") if line.startswith((b"reply ", b"bad "))}
-        if one != other or one[0] != 0 or one[2]:
-            failed += 1
-            with tempfile.NamedTemporaryFile("wb", suffix=".jsonl", delete=False) as kept:
-                kept.write(script)
-            print(f"random_scripts: number {number} of seed {given.seed} differs, see {kept.name}")
-    print(f"random_scripts: {lines} lines, answered by {', '.join(sorted(word.decode() for word in words))}")
-    print(f"{given.scripts - failed} passed, {failed} failed")
-    return 1 if failed else 0
-
-
-if __name__ == "__main__":
-    sys.exit(main())
