@@ -1,4 +1,5 @@
-# Sourced by ./play, ./check and tools: asks for the Rattle kit that the proofs were made with, and whether what was built is of the sources as they are.
+# Sourced by ./play, ./check and tools: asks for the Rattle kit that the proofs were made with, and whether what was built
+# is of the sources as they are.
 WANTED_KIT="rattle-kit-13f"
 TOP=$(cd "$(dirname "${BASH_SOURCE[0]}")/.." && pwd)
 
