@@ -90,7 +90,8 @@ impl Desk {
         let change = self.changes + 1;
         let number = self.made[i] + 1;
         if append_ready(alloc, &ready, change, client, number, text).is_err() {
-            let _back = self.core.withdraw(ready);
+            let back = self.core.withdraw(ready);
+            drop(back);
             return Err(AllocError);
         }
         let Finished {
@@ -162,7 +163,10 @@ impl Desk {
                 self.left.take(kind);
                 Ok(Sequel::Change(made))
             }
-            Err((_, _target)) => Err(AllocError),
+            Err((_, target)) => {
+                drop(target);
+                Err(AllocError)
+            }
         }
     }
 }

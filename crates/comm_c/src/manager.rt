@@ -105,7 +105,8 @@ impl Manager {
     {
         self.spare.clear();
         let number = self.number + 1;
-        self.sequel = self.desk.line(alloc, number, line, &mut self.spare)?;
+        let sequel = self.desk.line(alloc, number, line, &mut self.spare)?;
+        drop(mem::replace(&mut self.sequel, sequel));
         self.number = number;
         mem::swap(&mut self.text, &mut self.spare);
         Ok(())
@@ -121,7 +122,8 @@ impl Manager {
         ensures same { OnErr result (self.new ≡ self.old) }
     {
         self.spare.clear();
-        self.sequel = self.desk.register(alloc, 0, kind, name, &mut self.spare)?;
+        let sequel = self.desk.register(alloc, 0, kind, name, &mut self.spare)?;
+        drop(mem::replace(&mut self.sequel, sequel));
         self.number += 1;
         mem::swap(&mut self.text, &mut self.spare);
         Ok(())
@@ -135,8 +137,9 @@ impl Drop for Manager {
             number: _,
             text: _,
             spare: _,
-            sequel: _,
+            sequel,
         } = self;
+        drop(sequel);
         let Desk {
             core,
             left: _,

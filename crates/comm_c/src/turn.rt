@@ -55,7 +55,10 @@ impl Desk {
         let front = self.changes;
         let mut sent = Vec::new(alloc);
         sent.push(Outgoing::InfoReply { comms })?;
-        append_outs(alloc, &sent, &Parent::Read { client, front }, text)?;
+        if append_outs(alloc, &sent, &Parent::Read { client, front }, text).is_err() {
+            drop(sent);
+            return Err(AllocError);
+        }
         Ok(Sequel::Infos {
             client,
             front,
@@ -70,7 +73,10 @@ impl Desk {
         ensures shows { IfOk result (λ s. text.new.items ≡ sequel_text s) }
     {
         let answer = self.core.state(id)?;
-        append_state_line(alloc, self.changes, &answer, text)?;
+        if append_state_line(alloc, self.changes, &answer, text).is_err() {
+            drop(answer);
+            return Err(AllocError);
+        }
         Ok(Sequel::State {
             front: self.changes,
             answer,
@@ -155,7 +161,9 @@ impl Desk {
             return Ok(Sequel::Nothing);
         }
         let mut room = LineRoom::new(alloc);
-        match asked_by_line(alloc, line, CLIENTS, &mut room) {
+        let read = asked_by_line(alloc, line, CLIENTS, &mut room);
+        drop(room);
+        match read {
             Ok((client, asked)) => self.obey(alloc, number, client, asked, text),
             Err(LineFault::Message(MessageFault::Memory)) => Err(AllocError),
             Err(LineFault::Value(ValueFault::Memory)) => Err(AllocError),

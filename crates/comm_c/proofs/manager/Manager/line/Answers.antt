@@ -8,6 +8,6 @@ invariant_of-self-2 c =
     let n = c.self.inside.number in
     record {
       settled = c.line.ensures.settled;
-      within = turn_within n (n + 1) c.self.inside.desk c.line.new.self c.args.line.now c.line.new.text.items c.self.invariant.within c.in_ok-self-inside.ensures.turns;
+      within = turn_within n (n + 1) c.self.inside.desk c.line.new.self c.args.line.now c.line.new.text.items c.self.invariant.within c.in_ok-sequel.ensures.turns;
       room = let e : n ≡ c.args.self.now.number = ap (λ (k : Kept). k.number) c.self.view_is in omega (arith, e, c.requires);
     }
