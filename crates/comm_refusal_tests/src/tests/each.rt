@@ -12,7 +12,7 @@ use std::sync::Wait;
 use std::test::Fail;
 
 /// What is tried.
-#[derive(Clone, Copy, Drop)]
+#[derive(Drop)]
 pub enum What {
     Making(&'static Making),
     Trial(Trial),

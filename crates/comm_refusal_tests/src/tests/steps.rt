@@ -247,7 +247,7 @@ pub fn register<T: Target>(
     Ok((is_refused, back))
 }
 
-/// The same by the parts of a trial.
+/// A target is registered at once, or readied and then made or taken back.
 pub fn registered<T: Target>(
     alloc: Global,
     core: &mut Core<T>,

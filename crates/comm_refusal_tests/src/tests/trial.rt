@@ -41,7 +41,7 @@ pub enum Of {
 }
 
 /// What is tried: the row's line, of this kind of target, with so many comms open beside one.
-#[derive(Clone, Copy, Drop)]
+#[derive(Drop)]
 pub struct Trial {
     pub over: Over,
     pub of: Of,
@@ -135,28 +135,26 @@ fn before_answer(trial: &Trial, is_refused: bool) -> &'static str {
     }
 }
 
-// Whether it is told that a target is ended.
-fn tells_of_an_end(trial: &Trial, is_refused: bool) -> bool {
-    let takes_out = trial.row.words.starts_with("unregistered")
-        || trial.row.words.starts_with("replaced");
-    takes_out && !is_refused && matches!(trial.of, Of::Finish | Of::Entry | Of::Row)
+// What is said of the target that a change takes out, where what stood ready is made.
+fn end_word(trial: &Trial, is_refused: bool) -> &'static str {
+    let words = trial.row.words;
+    let takes_out = words.starts_with("unregistered") || words.starts_with("replaced");
+    if takes_out && !is_refused && matches!(trial.of, Of::Finish | Of::Entry | Of::Row) {
+        ENDED
+    } else {
+        ""
+    }
 }
 
 fn change_wanted(alloc: Global, trial: &Trial, is_refused: bool) -> Result<String, AllocError> {
     let look = look_of(alloc, trial)?;
     let answer = answer_of(alloc, trial)?;
     let before = before_answer(trial, is_refused);
-    let again = if trial.of == Of::Lines || is_made(trial.of, is_refused) {
-        ""
-    } else {
-        look.as_str()
-    };
-    let end = if tells_of_an_end(trial, is_refused) {
-        ENDED
-    } else {
-        ""
-    };
-    format!(in alloc; "{look}{before}{again}{answer}{end}")
+    if trial.of == Of::Lines || is_made(trial.of, is_refused) {
+        let end = end_word(trial, is_refused);
+        return format!(in alloc; "{look}{before}{answer}{end}");
+    }
+    format!(in alloc; "{look}{before}{look}{answer}")
 }
 
 // How a shared manager ends after so many changes.
