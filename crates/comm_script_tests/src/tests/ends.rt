@@ -125,6 +125,15 @@ fn a_target_ends_after_a_read_fault(rt: HostRuntime) -> Result<(), Fail> {
     Ok(each_fault(&rt, rt.alloc(), &faults)?)
 }
 
+/// What must come of a writer that takes nothing, at a write or at a flush, where another that fails took so much.
+fn wanted(is_write: bool, taken: &[u8]) -> (Result<(), RunFault>, &[u8]) {
+    if is_write {
+        (Err(RunFault::Write), taken)
+    } else {
+        (Ok(()), ANSWERS)
+    }
+}
+
 /// A writer fails at this call, and another takes no byte there: that is a fault where it was a write, after which more is taken, and
 /// not a flush. Tells whether it wasn't called so often.
 fn takes_nothing<R: Eprint + Wait>(
@@ -153,12 +162,9 @@ fn takes_nothing<R: Eprint + Wait>(
         then: Then::TakeNothing,
         ..fails
     };
-    let (result, text) = if behind.text.len() > failed.text.len() {
-        (Err(RunFault::Write), failed.text.as_slice())
-    } else {
-        (Ok(()), ANSWERS)
-    };
     let came = run_script(rt, alloc, &nothing)?;
+    let is_write = behind.text.len() > failed.text.len();
+    let (result, text) = wanted(is_write, failed.text.as_slice());
     is_said(rt, alloc, "nothing is taken", &nothing, &came, result, text)?;
     Ok(false)
 }
