@@ -6,7 +6,7 @@ use comm_harness::{Row, Wrong, holds};
 use std::test::Fail;
 
 const CALLED: Scene = Scene {
-    stocks: &["told next"],
+    stocks: &["told"],
     comms: 3,
     row: Row {
         name: "a target is called once for each thing, and only for what is its own",
@@ -105,7 +105,7 @@ log open:b commit open:c commit open:a commit close:b close:c close:a stop
 };
 
 const REPLACED: Scene = Scene {
-    stocks: &["told next"],
+    stocks: &["told"],
     comms: 3,
     row: Row {
         name: "a target that is replaced hears of each close before it stops, and not where that is taken back",
@@ -198,7 +198,7 @@ log
 };
 
 const ECHOED: Scene = Scene {
-    stocks: &["echo echo"],
+    stocks: &["echo"],
     comms: 4096,
     row: Row {
         name: "a message comes back, an id in use is refused without a close, and an unknown target with one",

@@ -4,7 +4,7 @@ use comm_harness::Row;
 use std::test::Fail;
 
 const SILENT: Scene = Scene {
-    stocks: &["widget told next"],
+    stocks: &["widget"],
     comms: 4096,
     row: Row {
         name: "what stands ready gives its entry and its row, with a widget",
@@ -120,7 +120,7 @@ log open:a commit close:a stop next.open:a next.abandon next.open:a next.commit 
 };
 
 const ECHOING: Scene = Scene {
-    stocks: &["widget_echo told next"],
+    stocks: &["widget_echo"],
     comms: 4096,
     row: Row {
         name: "what stands ready gives its entry and its row, with a widget that echoes",

@@ -163,21 +163,31 @@ fn lines_of_json(rt: HostRuntime) -> Result<(), Fail> {
 }
 
 // Keys that fall, more of them than are moved one by one.
-#[test]
-fn orders_many_members(rt: HostRuntime) -> Result<(), Fail> {
-    let alloc = rt.alloc();
+fn falling(alloc: Global) -> Result<String, AllocError> {
     let mut line = String::from_str(alloc, "{")?;
-    let mut want = String::new(alloc);
     for n in (101..300u64).rev() {
         line.push_str(format!(in alloc; "\"k{n}\":{n},")?.as_str())?;
     }
     line.push_str("\"k100\":100}")?;
+    Ok(line)
+}
+
+fn rising(alloc: Global) -> Result<String, AllocError> {
+    let mut text = String::new(alloc);
     for n in 100..300u64 {
-        want.push_str(format!(in alloc; "k{n} {n};")?.as_str())?;
+        text.push_str(format!(in alloc; "k{n} {n};")?.as_str())?;
     }
-    want.push('\n')?;
+    text.push('\n')?;
+    Ok(text)
+}
+
+#[test]
+fn orders_many_members(rt: HostRuntime) -> Result<(), Fail> {
+    let alloc = rt.alloc();
+    let line = falling(alloc)?;
     let mut text = Vec::new(alloc);
     append_line(alloc, line.as_bytes(), "*", &mut text)?;
+    let want = rising(alloc)?;
     Ok(same(
         &rt,
         "keys that fall are told in order",

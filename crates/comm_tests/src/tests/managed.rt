@@ -6,8 +6,8 @@ use std::process::Abort;
 use std::test::Fail;
 use widget_target::WidgetTarget;
 
-/// What is played over a manager of at most so many comms, once with each of these stocks of targets, which are named
-/// by words.
+/// What is played over a manager of at most so many comms, once with each of these stocks: `told`, `echo` and `counter`
+/// are several targets of the kind, `widget` and `widget_echo` a widget and two that are told, behind boxes.
 #[derive(Clone, Copy)]
 pub(super) struct Scene {
     pub stocks: &'static [&'static str],
@@ -15,48 +15,61 @@ pub(super) struct Scene {
     pub row: Row,
 }
 
-// Adds the target of this name.
-fn add(
+fn play_with<T: Target>(
     alloc: Global,
-    name: &str,
-    log: &Log,
-    stock: &mut Vec<Box<dyn Target>>,
-) -> Result<(), Wrong> {
-    if name == "told" || name == "next" {
-        let whose = if name == "next" { "next." } else { "" };
-        let told = ToldTarget::with_log(alloc, whose, log.share()?);
-        let target: Box<dyn Target> = Box::new(alloc, told)?;
-        stock.push(target)?;
-    } else if name == "echo" {
-        let target: Box<dyn Target> = Box::new(alloc, Echo::new(alloc))?;
-        stock.push(target)?;
-    } else if name == "counter" {
-        let target: Box<dyn Target> = Box::new(alloc, Counter::new(alloc))?;
-        stock.push(target)?;
-    } else if name == "widget" {
-        let target: Box<dyn Target> = Box::new(alloc, WidgetTarget::new(alloc))?;
-        stock.push(target)?;
-    } else if name == "widget_echo" {
-        let target: Box<dyn Target> = Box::new(alloc, WidgetTarget::with_echo(alloc))?;
-        stock.push(target)?;
-    } else {
-        return Err(Wrong("no target of this name"));
-    }
-    Ok(())
-}
-
-fn text_of(alloc: Global, scene: &Scene, names: &str) -> Result<Vec<u8>, Wrong> {
-    let log = Log::new(alloc)?;
-    let mut stock: Vec<Box<dyn Target>> = Vec::new(alloc);
-    for name in names.split(' ') {
-        add(alloc, name, &log, &mut stock)?;
-    }
+    scene: &Scene,
+    log: Log,
+    first: T,
+    second: T,
+    third: T,
+) -> Result<Vec<u8>, Wrong> {
+    let mut stock = Vec::new(alloc);
+    stock.push(first)?;
+    stock.push(second)?;
+    stock.push(third)?;
     let play = Play {
         stock,
         log,
         place: 0,
     };
     played(alloc, scene.comms, play, scene.row.lines)
+}
+
+fn told(alloc: Global, whose: &'static str, log: &Log) -> Result<ToldTarget, Wrong> {
+    Ok(ToldTarget::with_log(alloc, whose, log.share()?))
+}
+
+// A widget and two that are told, which stand behind boxes.
+fn play_boxed(
+    alloc: Global,
+    scene: &Scene,
+    log: Log,
+    widget: WidgetTarget,
+) -> Result<Vec<u8>, Wrong> {
+    let widget: Box<dyn Target> = Box::new(alloc, widget)?;
+    let first: Box<dyn Target> = Box::new(alloc, told(alloc, "", &log)?)?;
+    let second: Box<dyn Target> = Box::new(alloc, told(alloc, "next.", &log)?)?;
+    play_with(alloc, scene, log, widget, first, second)
+}
+
+// The scene with the targets of this name.
+fn text_of(alloc: Global, scene: &Scene, name: &str) -> Result<Vec<u8>, Wrong> {
+    let log = Log::new(alloc)?;
+    if name == "echo" {
+        let (first, second) = (Echo::new(alloc), Echo::new(alloc));
+        play_with(alloc, scene, log, first, second, Echo::new(alloc))
+    } else if name == "counter" {
+        let (first, second) = (Counter::new(alloc), Counter::new(alloc));
+        play_with(alloc, scene, log, first, second, Counter::new(alloc))
+    } else if name == "widget" {
+        play_boxed(alloc, scene, log, WidgetTarget::new(alloc))
+    } else if name == "widget_echo" {
+        play_boxed(alloc, scene, log, WidgetTarget::with_echo(alloc))
+    } else {
+        let first = told(alloc, "", &log)?;
+        let second = told(alloc, "next.", &log)?;
+        play_with(alloc, scene, log, first, second, ToldTarget::new(alloc))
+    }
 }
 
 fn is_played(rt: &HostRuntime, scene: &Scene) -> bool {

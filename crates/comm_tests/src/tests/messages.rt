@@ -1,5 +1,5 @@
 use comm_harness::{
-    Reader, Row, Wrong, append_body, append_buffers, append_words, cut, holds, read_rows,
+    Reader, Row, Wrong, append_body, append_buffers, append_words, cut, read_rows, same,
 };
 use comm_json::{JsonRef, LineRoom};
 use comm_messages::{
@@ -296,57 +296,77 @@ fn messages_are_read_or_the_first_test_that_fails_is_named(rt: HostRuntime) -> R
 
 const COMMAND: &[u8] = br#"{"call":"send","client":2,"data":{"x":1},"state":null}"#;
 
-fn are_read(alloc: Global, fields: Fields<'_, '_>) -> Result<(), Wrong> {
-    holds(text(member(fields, "call")) == Some("send"), "another text")?;
-    holds(
-        text(member(fields, "data")).is_none(),
-        "a text of an object",
-    )?;
-    holds(
-        matches!(text_or_none(member(fields, "state")), Some(None)),
-        "a text of null",
-    )?;
-    holds(
-        text_or_none(member(fields, "client")).is_none(),
-        "a text of a number",
-    )?;
-    holds(
-        client_of(member(fields, "client"), 3)? == 2,
-        "another client",
-    )?;
-    let beyond = client_of(member(fields, "client"), 2);
-    holds(
-        beyond == Err(MessageFault::BadClient),
-        "a client beyond their number",
-    )?;
-    let Some(object) = object_or_empty(member(fields, "data")) else {
-        return Err(Wrong("no object"));
-    };
-    holds(whole_dict(alloc, object)?.len() == 1, "another dict")?;
-    holds(
-        matches!(object_or_empty(member(fields, "state")), Some(None)),
-        "an object of null",
-    )?;
-    holds(
-        object_or_empty(member(fields, "client")).is_none(),
-        "an object of a number",
-    )
+// How many members the object at a key has, `-` for one that isn't there or is null, and `?` for another value.
+fn append_object(
+    alloc: Global,
+    fields: Fields<'_, '_>,
+    key: &str,
+    out: &mut Vec<u8>,
+) -> Result<(), Wrong> {
+    match object_or_empty(member(fields, key)) {
+        None => Ok(append_words(&["?"], out)?),
+        Some(None) => Ok(append_words(&["-"], out)?),
+        Some(object) => {
+            let members = whole_dict(alloc, object)?.len();
+            Ok(out.extend_from_slice(format!(in alloc; "{members}")?.as_bytes())?)
+        }
+    }
 }
+
+// What the readers of fields make of the member at a key: as a text, as a text or none, as a client of 3 and of 2,
+// and as an object.
+fn append_field(
+    alloc: Global,
+    fields: Fields<'_, '_>,
+    key: &str,
+    out: &mut Vec<u8>,
+) -> Result<(), Wrong> {
+    let of_three = client_of(member(fields, key), 3);
+    let of_two = client_of(member(fields, key), 2);
+    let as_text = text(member(fields, key)).unwrap_or("?");
+    let as_none = match text_or_none(member(fields, key)) {
+        None => "?",
+        Some(None) => "-",
+        Some(Some(text)) => text,
+    };
+    let line = format!(in alloc; "{key} {as_text} {as_none} {of_three:?} {of_two:?} ")?;
+    out.extend_from_slice(line.as_bytes())?;
+    append_object(alloc, fields, key, out)?;
+    Ok(append_words(&["\n"], out)?)
+}
+
+fn append_fields(alloc: Global, out: &mut Vec<u8>) -> Result<(), Wrong> {
+    let mut room = LineRoom::new(alloc);
+    let object = object_in(COMMAND, &mut room)?;
+    for key in ["call", "client", "data", "state", "none"] {
+        append_field(alloc, fields_of(&object), key, out)?;
+    }
+    Ok(())
+}
+
+// What becomes of a line that is read as a value.
+fn append_value(alloc: Global, line: &[u8], out: &mut Vec<u8>) -> Result<(), Wrong> {
+    let Ok(value) = Value::from_slice(alloc, line) else {
+        return Err(Wrong("no JSON"));
+    };
+    let message = message_of(alloc, &value, 4);
+    drop(value);
+    append_read(alloc, message, out)
+}
+
+const OFFERED: &[u8] = b"call send send Err(BadClient) Err(BadClient) ?
+client ? ? Ok(2) Err(BadClient) ?
+data ? ? Err(BadClient) Err(BadClient) 1
+state ? - Ok(0) Ok(0) -
+none ? - Ok(0) Ok(0) -
+`header` has no text `msg_type`
+";
 
 #[test]
 fn the_readers_are_offered(rt: HostRuntime) -> Result<(), Fail> {
     let alloc = rt.alloc();
-    let mut room = LineRoom::new(alloc);
-    let object = object_in(COMMAND, &mut room)?;
-    are_read(alloc, fields_of(&object))?;
-    let value = Value::from_slice(alloc, COMMAND)?;
-    let message = message_of(alloc, &value, 4);
-    drop(value);
-    let mut words = Vec::new(alloc);
-    append_read(alloc, message, &mut words)?;
-    holds(
-        words.as_slice() == b"`header` has no text `msg_type`\n".as_slice(),
-        "a message",
-    )?;
-    Ok(())
+    let mut text = Vec::new(alloc);
+    append_fields(alloc, &mut text)?;
+    append_value(alloc, COMMAND, &mut text)?;
+    Ok(same(&rt, "the readers of fields and of values", &text, OFFERED)?)
 }

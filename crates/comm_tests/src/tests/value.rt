@@ -122,14 +122,13 @@ fn append_merged(alloc: Global, words: &str, text: &mut Vec<u8>) -> Result<(), W
 fn append_inserted(alloc: Global, words: &str, text: &mut Vec<u8>) -> Result<(), Wrong> {
     let (json, words) = cut(words);
     let (key, bytes) = cut(words);
-    let key = Text::new(alloc, String::from_str(alloc, key)?)?;
-    let bytes = match buffers_of(alloc, bytes)?.as_slice() {
-        [bytes] => bytes.copy()?,
-        _ => return Err(Wrong("no bytes")),
+    let Ok(bytes) = hex::decode(alloc, bytes) else {
+        return Err(Wrong("no hexadecimal digits"));
     };
-    let dict = dict_of(alloc, json)?;
-    let kept = dict.copy()?;
-    let dict = dict.insert(alloc, key, Val::Bytes(bytes))?;
+    let bytes = Bytes::new(alloc, bytes)?;
+    let key = Text::new(alloc, String::from_str(alloc, key)?)?;
+    let kept = dict_of(alloc, json)?;
+    let dict = kept.copy()?.insert(alloc, key, Val::Bytes(bytes))?;
     append_dict(alloc, &dict, text)?;
     append_dict(alloc, &kept, text)
 }
@@ -158,20 +157,23 @@ fn append_whole(alloc: Global, digits: &str, text: &mut Vec<u8>) -> Result<(), W
     }
 }
 
-// A copy of buffers, which are let go first, and a copy of the last of them.
+// A copy of the last buffer.
+fn append_last(alloc: Global, buffers: &Buffers, text: &mut Vec<u8>) -> Result<(), AllocError> {
+    let Some(last) = buffers.as_slice().last() else {
+        return append_words(&[" none"], text);
+    };
+    let digits = hex::encode(alloc, last.copy()?.as_slice())?;
+    append_words(&[" last", digits.as_str()], text)
+}
+
+// A copy of buffers, which are let go first.
 fn append_buffers_copy(alloc: Global, words: &str, text: &mut Vec<u8>) -> Result<(), Wrong> {
     let all = buffers_of(alloc, words)?;
     let copy = all.copy(alloc);
     drop(all);
     let copy = copy?;
     append_buffers(alloc, &copy, text)?;
-    if let Some(last) = copy.as_slice().last() {
-        let mut one = Vec::new(alloc);
-        one.push(last.copy()?)?;
-        append_words(&[" last"], text)?;
-        append_buffers(alloc, &Buffers::new(one), text)?;
-    }
-    Ok(())
+    Ok(append_last(alloc, &copy, text)?)
 }
 
 // The JSON text of the text of these bytes.
@@ -192,25 +194,26 @@ struct Values;
 impl Reader for Values {
     fn answer(&self, alloc: Global, line: &str, text: &mut Vec<u8>) -> Result<(), Wrong> {
         let (kind, words) = cut(line);
-        if kind == "value" {
-            append_copy(alloc, value_of(alloc, words), text)?;
+        let done = if kind == "value" {
+            append_copy(alloc, value_of(alloc, words), text)
         } else if kind == "paths" {
-            append_paths(alloc, words, text)?;
+            append_paths(alloc, words, text)
         } else if kind == "placed" {
-            append_placed(alloc, words, text)?;
+            append_placed(alloc, words, text)
         } else if kind == "merged" {
-            append_merged(alloc, words, text)?;
+            append_merged(alloc, words, text)
         } else if kind == "inserted" {
-            append_inserted(alloc, words, text)?;
+            append_inserted(alloc, words, text)
         } else if kind == "is" {
-            append_is(alloc, words, text)?;
+            append_is(alloc, words, text)
         } else if kind == "whole" {
-            append_whole(alloc, words, text)?;
+            append_whole(alloc, words, text)
         } else if kind == "buffers" {
-            append_buffers_copy(alloc, words, text)?;
+            append_buffers_copy(alloc, words, text)
         } else {
-            append_quoted(alloc, words, text)?;
-        }
+            append_quoted(alloc, words, text)
+        };
+        done?;
         Ok(append_words(&["\n"], text)?)
     }
 }
@@ -301,7 +304,7 @@ is more_than_four_and_twenty_bytes more_than
 is more_than_the_forty_bytes_of_a_short_text more_than
 buffers 0102 ff
 buffers",
-        want: "true false\ntrue false\ntrue false\n 0102 ff last ff\n\n",
+        want: "true false\ntrue false\ntrue false\n 0102 ff last ff\n none\n",
     },
     Row {
         name: "JSON texts are written",

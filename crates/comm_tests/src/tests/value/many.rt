@@ -34,48 +34,58 @@ fn append_all(alloc: Global, of: &Dict, text: &mut Vec<u8>) -> Result<(), Wrong>
 }
 
 // The numbers 0 to 199, a line each, but for what stands for 100.
-fn numbers(alloc: Global, hundred: &str) -> Result<Vec<u8>, Wrong> {
-    let mut text = Vec::new(alloc);
+fn append_numbers(alloc: Global, hundred: &str, text: &mut Vec<u8>) -> Result<(), Wrong> {
     for n in 0..200u32 {
         let line = format!(in alloc; "{n}\n")?;
         text.extend_from_slice(if n == 100 { hundred } else { line.as_str() }.as_bytes())?;
     }
-    Ok(text)
+    Ok(())
 }
 
-// The text of the whole state, in parts that are told.
-fn has_text(alloc: Global, of: Dict) -> Result<bool, Wrong> {
+// The states before and after an update, key by key; whether the one after is as wanted elsewhere.
+fn append_states(
+    alloc: Global,
+    before: &Dict,
+    after: &Dict,
+    text: &mut Vec<u8>,
+) -> Result<bool, Wrong> {
+    append_all(alloc, before, text)?;
+    append_all(alloc, after, text)?;
     let mut json = Vec::new(alloc);
-    let value = Val::Dict(of);
-    let done = append_value(alloc, &value, &mut json);
-    drop(value);
-    done?;
-    let text = String::from_utf8(json).map_err(|_| Wrong("no text"))?;
+    after.write_json(&mut json)?;
+    let text = String::from_utf8_lossy(alloc, &json)?;
     Ok(
-        text.starts_with("{\"a\":1,\"k000\":0,\"k001\":1,")
+        before.len() == 200
+            && before.get("k1005").is_none()
+            && after.len() == 203
+            && text.starts_with("{\"a\":1,\"k000\":0,\"k001\":1,")
             && text.contains("\"k099\":99,\"k100\":[2],\"k1005\":3,\"k101\":101,")
             && text.ends_with(",\"k199\":199,\"z\":4}"),
     )
 }
 
+fn append_updated(alloc: Global, text: &mut Vec<u8>) -> Result<bool, Wrong> {
+    let update = dict_of(alloc, "{\"a\":1,\"k100\":[2],\"k1005\":3,\"z\":4}")?;
+    let before = many(alloc)?;
+    let after = merge(alloc, before.copy()?, update)?;
+    let is = append_states(alloc, &before, &after, text);
+    drop(before);
+    drop(after);
+    is
+}
+
+fn append_wanted(alloc: Global, text: &mut Vec<u8>) -> Result<(), Wrong> {
+    append_numbers(alloc, "100\n", text)?;
+    append_numbers(alloc, "[2]\n", text)
+}
+
 #[test]
 fn states_of_many_keys_share_what_an_update_leaves(rt: HostRuntime) -> Result<(), Fail> {
     let alloc = rt.alloc();
-    let before = many(alloc)?;
-    let update = dict_of(alloc, "{\"a\":1,\"k100\":[2],\"k1005\":3,\"z\":4}")?;
-    let after = merge(alloc, before.copy()?, update)?;
-    holds(
-        before.len() == 200 && after.len() == 203,
-        "another number of keys",
-    )?;
     let mut text = Vec::new(alloc);
-    append_all(alloc, &after, &mut text)?;
-    same(&rt, "the state after", &text, &numbers(alloc, "[2]\n")?)?;
-    text.clear();
-    append_all(alloc, &before, &mut text)?;
-    same(&rt, "the state before", &text, &numbers(alloc, "100\n")?)?;
-    holds(before.get("k1005").is_none(), "a key in the state before")?;
-    let is = has_text(alloc, after)?;
-    holds(is, "another text of the state after")?;
-    Ok(())
+    let mut want = Vec::new(alloc);
+    let is = append_updated(alloc, &mut text)?;
+    append_wanted(alloc, &mut want)?;
+    same(&rt, "the states before and after an update", &text, &want)?;
+    Ok(holds(is, "another number of keys, or another text")?)
 }
