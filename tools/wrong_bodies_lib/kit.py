@@ -102,8 +102,8 @@ class Kit:
 
 def are_of_the_gate(root, names):
     """Whether the libraries are those that rt ci has just made: it leaves them with no stamp, all of one run."""
-    outs = [Path(root, "crates", name, "out/rlib") for name in names]
-    return all(it.is_dir() and not (it / "stamp").exists() for it in outs)
+    outs = [(Path(root, "crates", name, "out/rlib"), name) for name in names]
+    return all((it / f"{name}.rlib/format").exists() and not (it / "stamp").exists() for it, name in outs)
 
 
 def build_archive(crate):
