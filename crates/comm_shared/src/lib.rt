@@ -13,4 +13,4 @@ mod words;
 
 pub use desk::from_stock;
 pub use running::{run_shared, run_shared_with};
-pub use words::{Full, full_of, run_fault};
+pub use words::{Full, append_full, full_of, run_fault};

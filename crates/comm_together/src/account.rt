@@ -1,5 +1,7 @@
 //! What is told of a client's lines.
-use std::alloc::Global;
+use crate::words::append_seen;
+use comm_script::RunFault;
+use std::alloc::{AllocError, Global};
 
 #[derive(Drop)]
 pub struct Account {
@@ -7,6 +9,8 @@ pub struct Account {
     pub text: Vec<u8>,
     /// The line of each of its changes that was answered, in their order.
     pub changes: Vec<u64>,
+    /// Whether all its lines were played.
+    pub played: Result<(), RunFault>,
 }
 
 impl Account {
@@ -14,7 +18,21 @@ impl Account {
         Account {
             text: Vec::new(alloc),
             changes: Vec::new(alloc),
+            played: Ok(()),
         }
+    }
+
+    /// Notes what was said to a line, and how many entries its client had seen before it asked, and then.
+    pub(crate) fn note(
+        &mut self,
+        alloc: Global,
+        line: u64,
+        client: u8,
+        seen: (u64, u64),
+        said: &[u8],
+    ) -> Result<(), AllocError> {
+        append_seen(alloc, line, client, seen.0, seen.1, &mut self.text)?;
+        self.text.extend_from_slice(said)
     }
 
     /// The line of the change of this number, from 1. None can be missing; 0, which is no line, would tell of one.

@@ -6,7 +6,7 @@ use comm_manager::{Client, Naming, Stamp};
 use comm_script::Stock;
 use comm_targets::Target;
 use std::alloc::{AllocError, Global};
-use std::sync::atomic::{AtomicBool, AtomicU64, Ordering};
+use std::sync::atomic::{AtomicU64, Ordering};
 use std::sync::{Mutex, Wait};
 use std::thread::yield_now;
 
@@ -22,17 +22,11 @@ pub struct Desk<J: Naming, T: Target> {
     // each client's last
     stamps: Vec<Mutex<Option<Stamp<J>>>>,
     missing: AtomicU64,
-    is_over: AtomicBool,
 }
 
 impl<J: Naming, T: Target> Desk<J, T> {
-    /// For so many clients, and for so many threads that begin at once.
-    pub(crate) fn new(
-        alloc: Global,
-        stock: Vec<T>,
-        clients: u8,
-        threads: u64,
-    ) -> Result<Desk<J, T>, AllocError>
+    /// For so many clients, whose threads begin at once.
+    pub(crate) fn new(alloc: Global, stock: Vec<T>, clients: u8) -> Result<Desk<J, T>, AllocError>
         requires { AreIdle (map T.means stock.items) }
     {
         let mut stamps = Vec::new(alloc);
@@ -43,8 +37,7 @@ impl<J: Naming, T: Target> Desk<J, T> {
             alloc,
             stock: Mutex::new(Stock::new(stock)),
             stamps,
-            missing: AtomicU64::new(threads),
-            is_over: AtomicBool::new(false),
+            missing: AtomicU64::new(u64::from(clients)),
         })
     }
 
@@ -55,8 +48,11 @@ impl<J: Naming, T: Target> Desk<J, T> {
         }
     }
 
-    /// The client hears the last stamp that another one has got, if it has one.
-    pub(crate) fn hear<R: Wait>(&self, rt: &R, client: &mut Client<J>, other: u8) {
+    /// The client hears the last stamp that the other one has got, if there is another and it has one.
+    pub(crate) fn hear<R: Wait>(&self, rt: &R, client: &mut Client<J>, other: Option<u8>) {
+        let Some(other) = other else {
+            return;
+        };
         if let Some(last) = self.stamps.get(usize::from(other)) {
             if let Some(stamp) = &*last.lock(rt) {
                 client.hear(stamp);
@@ -73,14 +69,5 @@ impl<J: Naming, T: Target> Desk<J, T> {
             }
             yield_now();
         }
-    }
-
-    /// All clients are done.
-    pub(crate) fn end(&self) {
-        self.is_over.store(true, Ordering::Release);
-    }
-
-    pub(crate) fn is_over(&self) -> bool {
-        self.is_over.load(Ordering::Acquire)
     }
 }

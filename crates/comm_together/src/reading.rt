@@ -1,28 +1,16 @@
 //! What a line says.
-ghost use Rattle.std.specs.Prelude.{◌<◌, IfOk};
-ghost use Rattle.comm_script.specs.Command.{HandsNothing};
-
 use crate::limits::CLIENTS;
 use comm_json::{LineRoom, Shape};
 use comm_messages::{MessageFault, client_of, fields_of, member, object_in};
-use comm_script::{Asked, LineFault, RunFault, asked_by_line};
+use comm_script::{LineFault, RunFault};
 use comm_value::ValueFault;
-use std::alloc::Global;
 
-/// The client, and what it asks for by a line; or why the line can't be read.
-pub(crate) fn asked_of(
-    alloc: Global,
-    text: &[u8],
-    room: &mut LineRoom,
-) -> Result<Result<(u8, Asked), LineFault>, RunFault>
-    ensures below { IfOk result (λ read. IfOk read (λ r. r.0 < 4)) }
-    ensures handless { IfOk result (λ read. IfOk read (λ r. HandsNothing r.1)) }
-{
-    match asked_by_line(alloc, text, CLIENTS, room) {
-        Ok(read) => Ok(Ok(read)),
-        Err(LineFault::Message(MessageFault::Memory)) => Err(RunFault::Memory),
-        Err(LineFault::Value(ValueFault::Memory)) => Err(RunFault::Memory),
-        Err(fault) => Ok(Err(fault)),
+/// What is said of a line that can't be read. Want of memory ends the script.
+pub(crate) fn said_of(fault: LineFault) -> Result<LineFault, RunFault> {
+    match fault {
+        LineFault::Message(MessageFault::Memory) => Err(RunFault::Memory),
+        LineFault::Value(ValueFault::Memory) => Err(RunFault::Memory),
+        fault => Ok(fault),
     }
 }
 

@@ -6,75 +6,29 @@ ghost use Rattle.comm_script.specs.Stock.{AreIdle};
 use crate::account::Account;
 use crate::desk::Desk;
 use crate::limits::{CLIENTS, LIMITS};
-use crate::player::Back;
-use crate::script::{Line, Script, script_of};
-use crate::threads::{Backs, Part, Parts, THREADS, at_work};
+use crate::script::{Part, Script, script_of};
+use crate::threads::play_at_once;
 use crate::words::{append_history, append_taken};
 use comm_core::NewFault;
-use comm_manager::{
-    Cause, Client, Farewell, Manager, Naming, Opening, OpeningFault, Publisher, ShutdownRefused,
-};
+use comm_manager::{Cause, Client, Manager, Naming, Opening, OpeningFault, Publisher};
 use comm_script::{RunFault, send};
 use comm_targets::Target;
+use comm_threads::{Ended, shut_down};
 use std::alloc::Global;
 use std::io::{Read, Write};
 use std::marker::Brand;
 use std::sync::Wait;
 use std::thread::Threads;
 
-// The last client with its lines, of those that are left.
-fn last_of<J: Naming>(
-    clients: &mut Vec<Client<J>>,
-    lines: &mut Vec<Vec<Line>>,
-) -> Result<Part<J>, RunFault> {
-    let client = clients.pop().ok_or(RunFault::NoReader)?;
-    let lines = lines.pop().ok_or(RunFault::NoReader)?;
-    Ok(Part { client, lines })
-}
-
-// The clients with their lines. A manager opens with as many as its limits say.
-fn parts_of<J: Naming>(clients: Vec<Client<J>>, script: Script) -> Result<Parts<J>, RunFault> {
-    let mut clients = clients;
-    let mut lines = script.into_lines();
-    let fourth = last_of(&mut clients, &mut lines)?;
-    let third = last_of(&mut clients, &mut lines)?;
-    let second = last_of(&mut clients, &mut lines)?;
-    let first = last_of(&mut clients, &mut lines)?;
-    Ok(Parts {
-        first,
-        second,
-        third,
-        fourth,
-    })
-}
-
-/// The clients that are back, and what is told of their lines, in the order of their numbers.
-#[derive(Drop)]
-struct Gathered<J: Naming> {
-    clients: Vec<Client<J>>,
-    accounts: Vec<Account>,
-}
-
-impl<J: Naming> Gathered<J> {
-    fn add(&mut self, back: Back<J>) -> Result<(), RunFault> {
-        let (client, account) = back;
-        self.clients.push(client)?;
-        self.accounts.push(account?)?;
-        Ok(())
+// What is told of all clients' lines, where all were played.
+fn accounts_of(alloc: Global, parts: Vec<Part>) -> Result<Vec<Account>, RunFault> {
+    let mut accounts = Vec::new(alloc);
+    for part in parts {
+        let account = part.account.into_inner();
+        account.played?;
+        accounts.push(account)?;
     }
-}
-
-fn all_of<J: Naming>(alloc: Global, backs: Backs<J>) -> Result<Gathered<J>, RunFault> {
-    let ((first, second), (third, fourth)) = backs;
-    let mut all = Gathered {
-        clients: Vec::new(alloc),
-        accounts: Vec::new(alloc),
-    };
-    all.add(first)?;
-    all.add(second)?;
-    all.add(third)?;
-    all.add(fourth)?;
-    Ok(all)
+    Ok(accounts)
 }
 
 // Lets all threads play.
@@ -82,60 +36,39 @@ fn played<J: Naming + Send + Sync, T: Target, R: Threads + Wait + Sync>(
     rt: &R,
     alloc: Global,
     manager: &Manager<J, T>,
-    clients: Vec<Client<J>>,
-    publisher: Publisher<J>,
+    clients: &mut [Client<J>],
+    publisher: &mut Publisher<J>,
     script: Script,
     stock: Vec<T>,
-) -> Result<(Publisher<J>, Gathered<J>), RunFault>
+) -> Result<Vec<Account>, RunFault>
     requires idle { AreIdle (map T.means stock.items) }
 {
-    let parts = parts_of(clients, script)?;
-    let desk = Desk::new(alloc, stock, CLIENTS, THREADS)?;
-    let (publisher, backs) = at_work(rt, manager, &desk, parts, publisher);
-    Ok((publisher, all_of(alloc, backs)?))
+    let parts = script.into_parts();
+    let desk = Desk::new(alloc, stock, CLIENTS)?;
+    play_at_once(rt, manager, &desk, &parts, publisher, clients);
+    drop(desk);
+    accounts_of(alloc, parts)
 }
 
 // All that anybody saw.
 fn told(
     alloc: Global,
-    accounts: &[Account],
-    farewell: &Farewell,
-    taken: u64,
+    accounts: Result<Vec<Account>, RunFault>,
+    ended: Result<Ended, Cause>,
 ) -> Result<Vec<u8>, RunFault> {
+    let accounts = accounts?;
+    let Ended { farewell, taken } = match ended {
+        Ok(ended) => ended,
+        Err(Cause::Memory) => return Err(RunFault::Memory),
+        Err(Cause::MissingClients) => return Err(RunFault::NoReader),
+    };
     let mut text = Vec::new(alloc);
-    for account in accounts {
+    for account in &accounts {
         text.extend_from_slice(&account.text)?;
     }
-    append_history(alloc, &farewell.history, accounts, &mut text)?;
+    append_history(alloc, &farewell.history, &accounts, &mut text)?;
     append_taken(alloc, taken, farewell.untaken.len(), &mut text)?;
     Ok(text)
-}
-
-fn ended<J: Naming, T: Target, R: Wait>(
-    rt: &R,
-    alloc: Global,
-    manager: Manager<J, T>,
-    publisher: Publisher<J>,
-    gathered: Gathered<J>,
-) -> Result<Vec<u8>, RunFault> {
-    let Gathered { clients, accounts } = gathered;
-    let taken = publisher.taken();
-    match manager.shutdown(rt, clients, publisher) {
-        Ok(farewell) => told(alloc, &accounts, &farewell, taken),
-        Err(refused) => {
-            let ShutdownRefused {
-                cause,
-                manager,
-                clients: _clients,
-                publisher: _publisher,
-            } = refused;
-            manager.discard(rt);
-            match cause {
-                Cause::Memory => Err(RunFault::Memory),
-                Cause::MissingClients => Err(RunFault::NoReader),
-            }
-        }
-    }
 }
 
 fn opened<J: Naming + Send + Sync, T: Target, R: Threads + Wait + Sync>(
@@ -150,13 +83,10 @@ fn opened<J: Naming + Send + Sync, T: Target, R: Threads + Wait + Sync>(
 {
     match Manager::<J, T>::open(rt, alloc, opening) {
         Ok((manager, clients, publisher)) => {
-            match played(rt, alloc, &manager, clients, publisher, script, stock) {
-                Ok((publisher, gathered)) => ended(rt, alloc, manager, publisher, gathered),
-                Err(fault) => {
-                    manager.discard(rt);
-                    Err(fault)
-                }
-            }
+            let (mut clients, mut publisher) = (clients, publisher);
+            let seats = clients.as_mut_slice();
+            let accounts = played(rt, alloc, &manager, seats, &mut publisher, script, stock);
+            told(alloc, accounts, shut_down(rt, manager, clients, publisher))
         }
         Err(OpeningFault::Memory) => Err(RunFault::Memory),
         Err(OpeningFault::NoReader) => Err(RunFault::NoReader),

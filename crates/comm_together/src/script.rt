@@ -1,10 +1,12 @@
 //! A script, taken apart by clients.
+use crate::account::Account;
 use crate::limits::CLIENTS;
-use crate::reading::asked_of;
+use crate::reading::said_of;
 use comm_json::LineRoom;
-use comm_script::{RunFault, is_blank, split_line};
+use comm_script::{RunFault, asked_by_line, is_blank, split_line};
 use std::alloc::{AllocError, Global};
 use std::io::{ErrorKind, Read};
+use std::sync::Mutex;
 
 /// A line that isn't blank, by its number in the script, from 1.
 #[derive(Drop)]
@@ -13,34 +15,47 @@ pub struct Line {
     pub text: Vec<u8>,
 }
 
+/// A client's lines, and what is told of them by the thread that plays them.
+#[derive(Drop)]
+pub struct Part {
+    pub lines: Vec<Line>,
+    pub account: Mutex<Account>,
+}
+
 /// Each client's lines, in their order.
 #[derive(Drop)]
 pub struct Script {
     alloc: Global,
     room: LineRoom,
     count: u64,
-    lines: Vec<Vec<Line>>,
+    parts: Vec<Part>,
 }
 
 impl Script {
     fn new(alloc: Global) -> Result<Script, AllocError> {
-        let mut lines = Vec::new(alloc);
+        let mut parts = Vec::new(alloc);
         for _ in 0..CLIENTS {
-            lines.push(Vec::new(alloc))?;
+            parts.push(Part {
+                lines: Vec::new(alloc),
+                account: Mutex::new(Account::new(alloc)),
+            })?;
         }
         Ok(Script {
             alloc,
             room: LineRoom::new(alloc),
             count: 0,
-            lines,
+            parts,
         })
     }
 
     // Whose a line is. One that can't be read is client 0's.
     fn whose(&mut self, text: &[u8]) -> Result<u8, RunFault> {
-        match asked_of(self.alloc, text, &mut self.room)? {
+        match asked_by_line(self.alloc, text, CLIENTS, &mut self.room) {
             Ok((client, _asked)) => Ok(client),
-            Err(_) => Ok(0),
+            Err(fault) => {
+                said_of(fault)?;
+                Ok(0)
+            }
         }
     }
 
@@ -53,18 +68,32 @@ impl Script {
         let client = self.whose(text)?;
         let mut copy = Vec::new(self.alloc);
         copy.extend_from_slice(text)?;
-        let Some(lines) = self.lines.get_mut(usize::from(client)) else {
+        let Some(part) = self.parts.get_mut(usize::from(client)) else {
             return Err(RunFault::NoReader);
         };
-        lines.push(Line {
+        part.lines.push(Line {
             number: self.count,
             text: copy,
         })?;
         Ok(())
     }
 
-    pub(crate) fn into_lines(self) -> Vec<Vec<Line>> {
-        self.lines
+    // The lines of a text.
+    fn add_all(&mut self, text: &[u8]) -> Result<(), RunFault> {
+        let mut rest = text;
+        while let Some((line, more)) = split_line(rest) {
+            self.add(line)?;
+            rest = more;
+        }
+        if !rest.is_empty() {
+            self.add(rest)?;
+        }
+        Ok(())
+    }
+
+    /// The clients' parts, in the order of their numbers.
+    pub(crate) fn into_parts(self) -> Vec<Part> {
+        self.parts
     }
 }
 
@@ -84,13 +113,6 @@ fn whole<I: Read>(alloc: Global, reader: &mut I) -> Result<Vec<u8>, RunFault> {
 pub(crate) fn script_of<I: Read>(alloc: Global, reader: &mut I) -> Result<Script, RunFault> {
     let text = whole(alloc, reader)?;
     let mut script = Script::new(alloc)?;
-    let mut rest = text.as_slice();
-    while let Some((line, more)) = split_line(rest) {
-        script.add(line)?;
-        rest = more;
-    }
-    if !rest.is_empty() {
-        script.add(rest)?;
-    }
+    script.add_all(&text)?;
     Ok(script)
 }

@@ -22,16 +22,6 @@ pub(crate) fn append_seen(
     out.extend_from_slice(words.as_bytes())
 }
 
-/// The answer to a change that isn't made, since the history is full.
-pub(crate) fn append_history_full(
-    alloc: Global,
-    line: u64,
-    out: &mut Vec<u8>,
-) -> Result<(), AllocError> {
-    let words = format!(in alloc; "unavailable {line} history_full\n")?;
-    out.extend_from_slice(words.as_bytes())
-}
-
 // A reply's words, and the line's end. They are those of a numbered reply without what stands before them.
 fn append_words(alloc: Global, reply: &Reply, out: &mut Vec<u8>) -> Result<(), AllocError> {
     let mut numbered = Vec::new(alloc);
