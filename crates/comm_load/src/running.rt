@@ -5,101 +5,48 @@ ghost use Rattle.comm_targets.specs.Meaning.{IsIdle};
 use crate::fault::Fault;
 use crate::load::Load;
 use crate::opening::begin;
-use crate::threads::{Back, Done, Signals, Workers, at_work};
+use crate::threads::work_at_once;
 use crate::told::Told;
-use crate::working::{Count, Role, Worker};
+use crate::working::{Count, Job, Role, Signals};
 use comm_core::Limits;
-use comm_manager::{Client, Manager, Naming, Opening, Publisher, ShutdownRefused};
+use comm_manager::{Cause, Client, Manager, Naming, Opening, Publisher};
 use comm_targets::Target;
-use std::alloc::Global;
+use comm_threads::{Ended, shut_down};
+use std::alloc::{AllocError, Global};
 use std::marker::Brand;
 use std::rt::Clock;
 use std::sync::Wait;
-use std::sync::atomic::{AtomicBool, AtomicU64};
+use std::sync::atomic::AtomicU64;
 use std::thread::Threads;
 use std::time::Instant;
 
-// The next client's work, if there is one: the first are the writers', the next the readers'.
-fn worker<J: Naming>(
-    alloc: Global,
-    client: Option<Client<J>>,
-    load: &Load,
-) -> Result<Option<Worker<J>>, Fault> {
-    let Some(client) = client else {
-        return Ok(None);
-    };
-    let place = client.id();
-    let (role, place, of) = match load.read {
-        Some(read) if place >= load.writers => {
-            (Role::Reads(read), place - load.writers, load.readers)
-        }
-        _ => (Role::Writes, place, load.writers),
-    };
-    let worker = Worker::new(
-        alloc,
-        client,
-        role,
-        load,
-        usize::from(place),
-        usize::from(of),
-    )?;
-    Ok(Some(worker))
-}
-
-fn workers<J: Naming>(
-    alloc: Global,
-    clients: Vec<Client<J>>,
-    load: &Load,
-) -> Result<Workers<J>, Fault> {
-    let mut clients = clients;
-    Ok(Workers {
-        first: worker(alloc, clients.pop(), load)?,
-        second: worker(alloc, clients.pop(), load)?,
-        third: worker(alloc, clients.pop(), load)?,
-        fourth: worker(alloc, clients.pop(), load)?,
-    })
-}
-
-/// The counts of all workers together, and their clients.
-#[derive(Drop)]
-struct Gathered<J: Naming> {
-    clients: Vec<Client<J>>,
-    count: Count,
-}
-
-impl<J: Naming> Gathered<J> {
-    fn add(&mut self, back: Option<Back<J>>) -> Result<(), Fault> {
-        let Some((client, told)) = back else {
-            return Ok(());
-        };
-        self.clients.push(client)?;
-        let told = told?;
-        self.count = Count {
-            changes: self.count.changes.saturating_add(told.changes),
-            reads: self.count.reads.saturating_add(told.reads),
-            sum: self.count.sum.wrapping_add(told.sum),
-            nanos: if told.nanos > self.count.nanos {
-                told.nanos
-            } else {
-                self.count.nanos
-            },
-        };
-        Ok(())
+// The clients' jobs: the first are the writers', the next the readers'.
+fn jobs_of(alloc: Global, load: &Load) -> Result<Vec<Job>, AllocError> {
+    let mut jobs = Vec::new(alloc);
+    for place in 0..load.writers {
+        jobs.push(Job::new(alloc, Role::Writes, load, place, load.writers)?)?;
     }
+    if let Some(read) = load.read {
+        for place in 0..load.readers {
+            jobs.push(Job::new(alloc, Role::Reads(read), load, place, load.readers)?)?;
+        }
+    }
+    Ok(jobs)
 }
 
-// The clients of all threads, and what they counted.
-fn all_of<J: Naming>(alloc: Global, done: Done<J>) -> Result<(Publisher<J>, Gathered<J>), Fault> {
-    let (publisher, ((first, second), (third, fourth))) = done;
-    let mut all = Gathered {
-        clients: Vec::new(alloc),
-        count: Count::NONE,
-    };
-    all.add(first)?;
-    all.add(second)?;
-    all.add(third)?;
-    all.add(fourth)?;
-    Ok((publisher, all))
+// What all counted together; the time is the longest.
+fn count_of(jobs: Vec<Job>) -> Result<Count, Fault> {
+    let mut all = Count::NONE;
+    for job in jobs {
+        let told = job.told.into_inner()?;
+        all = Count {
+            changes: all.changes.saturating_add(told.changes),
+            reads: all.reads.saturating_add(told.reads),
+            sum: all.sum.wrapping_add(told.sum),
+            nanos: all.nanos.max(told.nanos),
+        };
+    }
+    Ok(all)
 }
 
 // Opens the comms, and lets all threads work.
@@ -107,57 +54,39 @@ fn worked<J: Naming + Send + Sync, T: Target, R: Threads + Wait + Clock + Sync>(
     rt: &R,
     alloc: Global,
     manager: &Manager<J, T>,
-    clients: Vec<Client<J>>,
-    publisher: Publisher<J>,
+    clients: &mut [Client<J>],
+    publisher: &mut Publisher<J>,
     load: &Load,
     target: T,
-) -> Result<(Publisher<J>, Gathered<J>), Fault>
+) -> Result<Count, Fault>
     requires { IsIdle (T.means target) }
 {
-    let mut clients = clients;
     let first = clients.first_mut().ok_or(Fault::Surprising)?;
     begin(rt, alloc, manager, first, load, target)?;
-    let workers = workers(alloc, clients, load)?;
+    let jobs = jobs_of(alloc, load)?;
     let signals = Signals {
         writing: AtomicU64::new(u64::from(load.writers)),
-        is_over: AtomicBool::new(false),
+        begun: Instant::now(rt)?,
     };
-    let begun = Instant::now(rt)?;
-    all_of(
-        alloc,
-        at_work(rt, alloc, manager, workers, publisher, &signals, begun),
-    )
+    work_at_once(rt, alloc, manager, &jobs, &signals, publisher, clients);
+    count_of(jobs)
 }
 
-fn ended<J: Naming, T: Target, R: Wait>(
-    rt: &R,
-    manager: Manager<J, T>,
-    publisher: Publisher<J>,
-    gathered: Gathered<J>,
-) -> Result<Told, Fault> {
-    let Gathered { clients, count } = gathered;
-    let taken = publisher.taken();
-    match manager.shutdown(rt, clients, publisher) {
-        Ok(farewell) => Ok(Told {
-            changes: count.changes,
-            reads: count.reads,
-            history: farewell.history.len(),
-            taken,
-            untaken: farewell.untaken.len(),
-            sum: count.sum,
-            nanos: count.nanos,
-        }),
-        Err(refused) => {
-            let ShutdownRefused {
-                cause: _cause,
-                manager,
-                clients: _clients,
-                publisher: _publisher,
-            } = refused;
-            manager.discard(rt);
-            Err(Fault::Surprising)
-        }
-    }
+// What a load came to whose manager has ended.
+fn told(counted: Result<Count, Fault>, ended: Result<Ended, Cause>) -> Result<Told, Fault> {
+    let count = counted?;
+    let Ok(Ended { farewell, taken }) = ended else {
+        return Err(Fault::Surprising);
+    };
+    Ok(Told {
+        changes: count.changes,
+        reads: count.reads,
+        history: farewell.history.len(),
+        taken,
+        untaken: farewell.untaken.len(),
+        sum: count.sum,
+        nanos: count.nanos,
+    })
 }
 
 fn opened<J: Naming + Send + Sync, T: Target, R: Threads + Wait + Clock + Sync>(
@@ -170,13 +99,14 @@ fn opened<J: Naming + Send + Sync, T: Target, R: Threads + Wait + Clock + Sync>(
     requires named { Named opening J.book J.ledgers J.queue J.limits }
     requires target { IsIdle (T.means target) }
 {
-    let (manager, clients, publisher) = Manager::<J, T>::open(rt, alloc, opening)?;
-    match worked(rt, alloc, &manager, clients, publisher, load, target) {
-        Ok((publisher, all)) => ended(rt, manager, publisher, all),
-        Err(fault) => {
-            manager.discard(rt);
-            Err(fault)
+    match Manager::<J, T>::open(rt, alloc, opening) {
+        Ok((manager, clients, publisher)) => {
+            let (mut clients, mut publisher) = (clients, publisher);
+            let all = clients.as_mut_slice();
+            let counted = worked(rt, alloc, &manager, all, &mut publisher, load, target);
+            told(counted, shut_down(rt, manager, clients, publisher))
         }
+        Err(fault) => Err(Fault::from(fault)),
     }
 }
 

@@ -6,12 +6,21 @@ use comm_core::{Reply, StateAnswer, Unavailable};
 use comm_manager::{Client, Manager, Naming};
 use comm_targets::Target;
 use comm_value::{Dict, Text, Val};
-use std::alloc::Global;
+use std::alloc::{AllocError, Global};
 use std::rt::Clock;
-use std::sync::Wait;
 use std::sync::atomic::{AtomicU64, Ordering};
+use std::sync::{Mutex, Wait};
 use std::thread::yield_now;
 use std::time::Instant;
+
+/// What the threads tell one another.
+#[derive(Drop)]
+pub struct Signals {
+    /// How many writers are at work.
+    pub writing: AtomicU64,
+    /// When the load began.
+    pub begun: Instant,
+}
 
 /// What a client's thread does.
 #[derive(Clone, Copy)]
@@ -20,18 +29,18 @@ pub enum Role {
     Reads(Read),
 }
 
-/// A client at work, with texts of its own.
+/// What a client does, with texts of its own, and what it counted.
 #[derive(Drop)]
-pub struct Worker<J: Naming> {
-    pub client: Client<J>,
+pub struct Job {
     pub role: Role,
     pub first: usize,
     pub each: u64,
     pub ids: Vec<Text>,
     pub keys: Vec<Text>,
+    pub told: Mutex<Result<Count, Fault>>,
 }
 
-/// What came of a worker.
+/// What came of a job.
 #[derive(Clone, Copy, Debug)]
 pub struct Count {
     pub changes: u64,
@@ -50,24 +59,36 @@ impl Count {
     };
 }
 
-impl<J: Naming> Worker<J> {
-    /// The client's work, where it is this one of so many of its role.
+impl Job {
+    /// The job of one who is this one of so many of a role.
     pub(crate) fn new(
         alloc: Global,
-        client: Client<J>,
         role: Role,
         load: &Load,
-        place: usize,
-        of: usize,
-    ) -> Result<Worker<J>, Fault> {
-        Ok(Worker {
-            client,
+        place: u8,
+        of: u8,
+    ) -> Result<Job, AllocError> {
+        Ok(Job {
             role,
-            first: place.saturating_mul(load.comms) / of.max(1),
+            first: usize::from(place).saturating_mul(load.comms) / usize::from(of).max(1),
             each: load.each,
             ids: ids(alloc, load.comms)?,
             keys: keys(alloc, load.keys)?,
+            told: Mutex::new(Ok(Count::NONE)),
         })
+    }
+
+    // The comm and the key of a round.
+    fn at(&self, round: usize) -> Result<(&Text, &Text), Fault> {
+        let id = self.ids.get(round).ok_or(Fault::Surprising)?;
+        let key = self.keys.get(round % self.keys.len().max(1));
+        Ok((id, key.ok_or(Fault::Surprising)?))
+    }
+
+    // The round after this one.
+    fn after(&self, round: usize) -> usize {
+        let next = round.saturating_add(1);
+        if next >= self.ids.len() { 0 } else { next }
     }
 }
 
@@ -102,115 +123,100 @@ fn write<J: Naming, T: Target, R: Wait>(
     rt: &R,
     alloc: Global,
     manager: &Manager<J, T>,
-    worker: &mut Worker<J>,
+    client: &mut Client<J>,
+    job: &Job,
 ) -> Result<u64, Fault> {
-    let mut i = worker.first;
-    for n in 0..worker.each {
-        let id = worker.ids.get(i).ok_or(Fault::Surprising)?;
-        let key = worker
-            .keys
-            .get(i % worker.keys.len().max(1))
-            .ok_or(Fault::Surprising)?;
-        push(
-            rt,
-            alloc,
-            manager,
-            &mut worker.client,
-            id,
-            key,
-            n.saturating_add(1_000),
-        )?;
-        i = i.saturating_add(1);
-        if i >= worker.ids.len() {
-            i = 0;
-        }
+    let mut round = job.first;
+    for n in 0..job.each {
+        let (id, key) = job.at(round)?;
+        push(rt, alloc, manager, client, id, key, n.saturating_add(1_000))?;
+        round = job.after(round);
     }
-    Ok(worker.each)
+    Ok(job.each)
 }
 
-// What one read adds to the sum.
-fn read_once<J: Naming>(
-    alloc: Global,
-    client: &mut Client<J>,
-    read: Read,
-    id: &Text,
-    key: &Text,
-) -> Result<u64, Fault> {
-    match read {
-        Read::State => match client.state(id)?.answer {
-            StateAnswer::State(state) => match state.get(key.as_str()) {
-                Some(Val::Whole(number)) => match u64::try_from(number.get()) {
-                    Ok(number) => Ok(number),
-                    Err(_) => Err(Fault::Surprising),
-                },
-                _ => Err(Fault::Surprising),
+// The number that a comm's state has at a key.
+fn read_state<J: Naming>(client: &mut Client<J>, id: &Text, key: &Text) -> Result<u64, Fault> {
+    match client.state(id)?.answer {
+        StateAnswer::State(state) => match state.get(key.as_str()) {
+            Some(Val::Whole(number)) => match u64::try_from(number.get()) {
+                Ok(number) => Ok(number),
+                Err(_) => Err(Fault::Surprising),
             },
-            StateAnswer::NoComm | StateAnswer::NoState => Err(Fault::Surprising),
+            _ => Err(Fault::Surprising),
         },
-        Read::Info => {
-            let mut sum = 0u64;
-            for info in client.comm_info(alloc, None)?.comms.as_slice() {
-                sum = sum.wrapping_add(info.id.as_str().len() as u64);
-            }
-            Ok(sum)
-        }
+        StateAnswer::NoComm | StateAnswer::NoState => Err(Fault::Surprising),
     }
+}
+
+// The length of all ids.
+fn read_infos<J: Naming>(alloc: Global, client: &mut Client<J>) -> Result<u64, Fault> {
+    let read = client.comm_info(alloc, None)?;
+    let mut sum = 0u64;
+    for info in read.comms.as_slice() {
+        sum = sum.wrapping_add(info.id.as_str().len() as u64);
+    }
+    Ok(sum)
 }
 
 // Reads until the writers are done.
-fn reading<J: Naming>(
+fn read<J: Naming>(
     alloc: Global,
-    worker: &mut Worker<J>,
+    client: &mut Client<J>,
+    job: &Job,
     read: Read,
     writing: &AtomicU64,
 ) -> Result<Count, Fault> {
     let mut count = Count::NONE;
-    let mut i = worker.first;
+    let mut round = job.first;
     for _ in 0..u64::MAX {
         if writing.load(Ordering::Acquire) == 0 {
             break;
         }
-        let id = worker.ids.get(i).ok_or(Fault::Surprising)?;
-        let key = worker
-            .keys
-            .get(i % worker.keys.len().max(1))
-            .ok_or(Fault::Surprising)?;
-        let sum = read_once(alloc, &mut worker.client, read, id, key)?;
+        let (id, key) = job.at(round)?;
+        let sum = match read {
+            Read::State => read_state(client, id, key)?,
+            Read::Info => read_infos(alloc, client)?,
+        };
         count.reads = count.reads.saturating_add(1);
         count.sum = count.sum.wrapping_add(sum);
-        i = i.saturating_add(1);
-        if i >= worker.ids.len() {
-            i = 0;
-        }
+        round = job.after(round);
     }
     Ok(count)
 }
 
-/// What a worker's thread does: its client comes back, with what it counted.
-pub(crate) fn worked<J: Naming, T: Target, R: Wait + Clock>(
+// Makes a writer's pushes, and tells how long they took since the load began.
+fn write_timed<J: Naming, T: Target, R: Wait + Clock>(
     rt: &R,
     alloc: Global,
     manager: &Manager<J, T>,
-    mut worker: Worker<J>,
-    writing: &AtomicU64,
-    begun: Instant,
-) -> (Client<J>, Result<Count, Fault>) {
-    let told = match worker.role {
-        Role::Writes => {
-            let done = write(rt, alloc, manager, &mut worker);
-            let nanos = begun.elapsed(rt);
-            let _left = writing.fetch_sub(1, Ordering::AcqRel);
-            match (done, nanos) {
-                (Ok(changes), Ok(duration)) => Ok(Count {
-                    changes,
-                    nanos: duration.as_nanos(),
-                    ..Count::NONE
-                }),
-                (Err(fault), _) => Err(fault),
-                (_, Err(_)) => Err(Fault::System),
-            }
-        }
-        Role::Reads(read) => reading(alloc, &mut worker, read, writing),
+    client: &mut Client<J>,
+    job: &Job,
+    signals: &Signals,
+) -> Result<Count, Fault> {
+    let done = write(rt, alloc, manager, client, job);
+    let spent = signals.begun.elapsed(rt);
+    let _left = signals.writing.fetch_sub(1, Ordering::AcqRel);
+    let changes = done?;
+    Ok(Count {
+        changes,
+        nanos: spent?.as_nanos(),
+        ..Count::NONE
+    })
+}
+
+/// What a client's thread does.
+pub(crate) fn work<J: Naming, T: Target, R: Wait + Clock>(
+    rt: &R,
+    alloc: Global,
+    manager: &Manager<J, T>,
+    client: &mut Client<J>,
+    job: &Job,
+    signals: &Signals,
+) {
+    let told = match job.role {
+        Role::Writes => write_timed(rt, alloc, manager, client, job, signals),
+        Role::Reads(what) => read(alloc, client, job, what, &signals.writing),
     };
-    (worker.client, told)
+    *job.told.lock(rt) = told;
 }
