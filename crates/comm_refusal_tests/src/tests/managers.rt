@@ -128,7 +128,7 @@ fn taken<J: Naming, T: Target, R: Wait>(
     let mut unheard = Vec::new(alloc);
     for _ in 0..OFTEN {
         play(rt, alloc, manager, client, "close q", &mut unheard)?;
-        while publisher.taken() < client.seen() {
+        for _ in publisher.taken()..client.seen() {
             let _entry = publisher.take(rt);
         }
     }
