@@ -34,6 +34,22 @@ fn a_full_history_is_said(rt: HostRuntime) -> Result<(), Fail> {
     Ok(())
 }
 
+#[test]
+fn a_full_history_is_said_before_a_full_queue(rt: HostRuntime) -> Result<(), Fail> {
+    let alloc = rt.alloc();
+    let two = Limits {
+        history: 2,
+        outbox: 2,
+        ..limits(MOST)
+    };
+    let mut reader = Pieces::new(FULL, 4096, 0, ErrorKind::Other);
+    let mut writer = Sink::new(alloc, ROOM, ROOM, 0, Then::TakeNothing)?;
+    let result = play_over(&rt, alloc, Over::Shared, &mut reader, &mut writer, two);
+    assert!(rt; result == Ok(()));
+    assert!(rt; writer.taken() == FULL_ANSWERS);
+    Ok(())
+}
+
 /// Two counters are in stock, and one takes the echo's name. The other comes back where it isn't registered, since the history is full: else
 /// the second of the lines that then ask for one would find none.
 const RETURNED: &[u8] = br#"{"call":"register","kind":"echo","name":"t"}
