@@ -1,1 +1,1 @@
-pub mod Closes
+pub mod Days

@@ -1,11 +1,10 @@
-//! Rows of the shared manager: threads, limits, ends, and each call once.
+//! What threads and single callers see of one manager.
 mod calls;
-mod desk;
 mod ends;
 mod fronts;
 mod limits;
-mod named;
+mod most;
+mod played;
 mod queue;
-mod threads;
-mod turns;
-mod words;
+mod schedules;
+mod versions;

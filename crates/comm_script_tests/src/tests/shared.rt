@@ -93,6 +93,16 @@ fn a_full_history_is_said(rt: HostRuntime) -> Result<(), Fail> {
 }
 
 #[test]
+fn a_full_history_is_said_before_a_full_queue(rt: HostRuntime) -> Result<(), Fail> {
+    let two = Limits {
+        history: 2,
+        outbox: 2,
+        ..limits(MOST)
+    };
+    Ok(all_give(&rt, rt.alloc(), &FULL, two)?)
+}
+
+#[test]
 fn one_place_to_wait_is_enough(rt: HostRuntime) -> Result<(), Fail> {
     let one = Limits {
         outbox: 1,

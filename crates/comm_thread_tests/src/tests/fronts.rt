@@ -1,313 +1,174 @@
 //! What clients have seen: by their own calls, by stamps, and by reads that no lock holds up.
-ghost use Rattle.std.specs.Prelude.{◌≡◌, [], None};
-ghost use Rattle.comm_targets.specs.Meaning.{IsIdle};
-
-use crate::tests::named::{Play, named};
-use crate::tests::turns::{lists, opens_widget, pushes, reads, registers, says};
-use crate::tests::words::{Told, Wrong, body, holds, limits, stated, valued};
-use comm_manager::{Client, Manager, Naming, Stamp};
-use comm_messages::Body;
-use comm_targets::{Answer, Event, Kind, Latest, Target, TargetFault};
-use comm_value::Dict;
-use std::alloc::Global;
-use std::sync::atomic::{AtomicBool, Ordering};
-use std::sync::{Arc, Wait};
+use crate::tests::played::{plays_all, plays_of};
+use comm_targets::{Echo, Latest};
+use comm_thread_harness::{End, Gates, Row};
 use std::test::*;
-use std::thread::{Threads, join, yield_now};
 use widget_target::WidgetTarget;
 
-// A target is registered as "w", and "a" is opened towards it with this data. The stamp of that is the second.
-fn begun<J: Naming, T: Target, R: Wait>(
-    rt: &R,
-    alloc: Global,
-    manager: &Manager<J, T>,
-    client: &mut Client<J>,
-    target: T,
-    data: Body,
-) -> Result<Stamp<J>, Wrong>
-    requires { IsIdle (T.means target) }
-{
-    let registered = registers(rt, alloc, manager, client, "w", target);
-    let (opened, stamp) = opens_widget(rt, alloc, manager, client, "a", "w", data)?;
-    holds(registered? == Told::Registered(1) && opened == Told::Opened(2) && stamp.number() == 2)?;
-    Ok(stamp)
-}
-
-// A widget is opened with the value 1, and 7 is pushed. The stamp of that is the third.
-fn pushed<J: Naming, T: Target, R: Wait>(
-    rt: &R,
-    alloc: Global,
-    manager: &Manager<J, T>,
-    client: &mut Client<J>,
-    target: T,
-) -> Result<Stamp<J>, Wrong>
-    requires { IsIdle (T.means target) }
-{
-    let _stamp = begun(rt, alloc, manager, client, target, stated(alloc, 1)?)?;
-    let (pushed, stamp) = pushes(rt, alloc, manager, client, "a", valued(alloc, 7)?)?;
-    holds(pushed == Told::Delivered(3))?;
-    Ok(stamp)
-}
-
-// One hears of the change, and reads it; the other heard nothing, and reads no less in the same thread.
-fn read_by<J: Naming>(
-    alloc: Global,
-    one: &mut Client<J>,
-    two: &mut Client<J>,
-    stamp: &Stamp<J>,
-) -> Result<(), Wrong> {
-    holds(one.seen() == 0 && two.seen() == 0)?;
-    one.hear(stamp);
-    holds(one.seen() == 3)?;
-    holds(reads(alloc, one, "a")? == (3, Some(7)) && one.seen() == 3)?;
-    holds(lists(alloc, one)? == (3, 1))?;
-    holds(lists(alloc, two)? == (3, 1) && two.seen() == 3)
-}
-
-fn heard_by<J: Naming, T: Target, R: Wait>(
-    rt: &R,
-    alloc: Global,
-    manager: &Manager<J, T>,
-    zero: &mut Client<J>,
-    one: &mut Client<J>,
-    two: &mut Client<J>,
-    target: T,
-) -> Result<(), Wrong>
-    requires { IsIdle (T.means target) }
-{
-    let stamp = pushed(rt, alloc, manager, zero, target)?;
-    read_by(alloc, one, two, &stamp)
-}
-
-/// Three clients: what one changes, the second hears of and the third reads.
-pub fn heard<J: Naming, T: Target, R: Wait>(
-    rt: &R,
-    alloc: Global,
-    manager: Manager<J, T>,
-    clients: Vec<Client<J>>,
-    target: T,
-) -> Result<(), Wrong>
-    requires { IsIdle (T.means target) }
-{
-    let mut clients = clients;
-    let done = match clients.as_mut_slice() {
-        [zero, one, two] => heard_by(rt, alloc, &manager, zero, one, two, target),
-        _ => Err(Wrong),
-    };
-    manager.discard(rt);
-    done
-}
+const HEARD: Row = Row {
+    name: "what one changes the second hears of, and the third reads",
+    limits: (3, 4_096, 100, 64),
+    targets: 1,
+    before: r#"0 register w => registered
+0 open a w 2.0.0 {"state":{"value":1}} => opened
+0 push a {"value":7} => delivered
+1 seen => seen 0
+2 seen => seen 0
+1 hear => heard 3
+1 seen => seen 3
+1 state a => state 3 {"buffer_paths":[],"buffers":[],"state":{"value":7}}
+1 seen => seen 3
+1 infos => infos 3 a w
+2 infos => infos 3 a w
+2 seen => seen 3"#,
+    ..Row::NOTHING
+};
 
 #[test]
 fn what_is_heard_is_read(rt: HostRuntime) -> Result<(), Fail> {
-    let alloc = rt.alloc();
-    let target = WidgetTarget::new(alloc);
-    let other = WidgetTarget::new(alloc);
-    named(&rt, alloc, limits(3, 100, 64), Play::Hearing, target, other).map_err(|_| Fail::new(
-        "what is heard is read",
-    ))?;
-    let target = WidgetTarget::with_echo(alloc);
-    let other = WidgetTarget::with_echo(alloc);
-    named(&rt, alloc, limits(3, 100, 64), Play::Hearing, target, other).map_err(|_| Fail::new(
-        "what is heard of a widget that echoes is read",
-    ))
-}
-
-/// When a target was asked, and when a read was answered.
-#[derive(Drop)]
-pub struct Moments {
-    is_asked: AtomicBool,
-    is_read: AtomicBool,
-}
-
-// Waits until it is set, at most so many turns.
-fn awaited(flag: &AtomicBool) {
-    for _ in 0..1_000_000_000u64 {
-        if flag.load(Ordering::SeqCst) {
-            return;
-        }
-        yield_now();
-    }
-}
-
-/// A free target whose answer to a message waits until a read was answered.
-#[derive(Drop)]
-struct Patient {
-    latest: Latest,
-    moments: Arc<Moments>,
-}
-
-impl Patient {
-    fn new(alloc: Global, moments: Arc<Moments>) -> Patient
-        ensures { ⟦<Patient as Target>⟧.means result ≡ record { kind = Kind.Free; notes = 0; ids = []; staged = None } }
-    {
-        Patient {
-            latest: Latest::new(alloc),
-            moments,
-        }
-    }
-}
-
-impl Target for Patient {
-    ghost means = { λ p. ⟦<Latest as Target>⟧.means p.latest };
-
-    fn kind(&self) -> Kind {
-        self.latest.kind()
-    }
-
-    fn notes(&self) -> u64 {
-        self.latest.notes()
-    }
-
-    fn idle(&self) -> bool {
-        self.latest.idle()
-    }
-
-    fn prepare(&mut self, event: &Event, now: Option<&Dict>) -> Result<Answer, TargetFault> {
-        if let Event::Msg { .. } = event {
-            self.moments.is_asked.store(true, Ordering::SeqCst);
-            awaited(&self.moments.is_read);
-        }
-        self.latest.prepare(event, now)
-    }
-
-    fn commit(&mut self) {
-        self.latest.commit();
-    }
-
-    fn abandon(&mut self) {
-        self.latest.abandon();
-    }
-
-    fn close(&mut self, id: &str) {
-        self.latest.close(id);
-    }
-
-    fn stop(&mut self) {}
-}
-
-// A message is with its target until the other client's read was answered.
-fn spoken<J: Naming, T: Target, R: Wait>(
-    rt: &R,
-    alloc: Global,
-    manager: &Manager<J, T>,
-    client: &mut Client<J>,
-) -> Result<(), Wrong> {
-    let said = says(
-        rt,
-        alloc,
-        manager,
-        client,
-        "a",
-        body(alloc, valued(alloc, 2)?)?,
-    )?;
-    holds(said == Told::Delivered(3))
-}
-
-// The state before the message.
-fn read_meanwhile<J: Naming>(
-    alloc: Global,
-    client: &mut Client<J>,
-    moments: &Moments,
-) -> Result<(), Wrong> {
-    awaited(&moments.is_asked);
-    let read = reads(alloc, client, "a");
-    moments.is_read.store(true, Ordering::SeqCst);
-    holds(read? == (2, Some(1)))
-}
-
-// One client speaks, and the other reads meanwhile. Tells whether both went well.
-fn at_once<J: Naming + Send + Sync, T: Target, R: Threads + Wait + Sync>(
-    rt: &R,
-    alloc: Global,
-    manager: &Manager<J, T>,
-    zero: &mut Client<J>,
-    one: &mut Client<J>,
-    moments: &Moments,
-) -> bool {
-    let (is_said, is_read) = join(
-        rt,
-        move || spoken(rt, alloc, manager, zero).is_ok(),
-        move || read_meanwhile(alloc, one, moments).is_ok(),
-    );
-    is_said && is_read
-}
-
-// A comm is open with the value 1, which both clients have seen.
-fn shown<J: Naming, T: Target, R: Wait>(
-    rt: &R,
-    alloc: Global,
-    manager: &Manager<J, T>,
-    zero: &mut Client<J>,
-    one: &mut Client<J>,
-    target: T,
-) -> Result<(), Wrong>
-    requires { IsIdle (T.means target) }
-{
-    let data = body(alloc, valued(alloc, 1)?)?;
-    let stamp = begun(rt, alloc, manager, zero, target, data)?;
-    one.hear(&stamp);
+    let rows = [
+        HEARD,
+        Row {
+            name: "the same, of a widget that echoes",
+            echoes: true,
+            ..HEARD
+        },
+    ];
+    plays_all::<WidgetTarget, HostRuntime>(&rt, rt.alloc(), &rows)?;
     Ok(())
 }
 
-fn held_by<J: Naming + Send + Sync, T: Target, R: Threads + Wait + Sync>(
-    rt: &R,
-    alloc: Global,
-    manager: &Manager<J, T>,
-    zero: &mut Client<J>,
-    one: &mut Client<J>,
-    target: T,
-    moments: &Moments,
-) -> Result<(), Wrong>
-    requires { IsIdle (T.means target) }
-{
-    shown(rt, alloc, manager, zero, one, target)?;
-    holds(at_once(rt, alloc, manager, zero, one, moments) && zero.seen() == 3)?;
-    holds(reads(alloc, one, "a")? == (3, Some(2)))?;
-    holds(reads(alloc, zero, "a")? == (3, Some(2)))
-}
+// A message stays with its target until flag 1 is set.
+const PATIENT: Gates = Gates {
+    message: Some(0),
+    ..Gates::NONE
+};
 
-/// A read is answered while a change is with its target.
-pub fn held_open<J: Naming + Send + Sync, T: Target, R: Threads + Wait + Sync>(
-    rt: &R,
-    alloc: Global,
-    manager: Manager<J, T>,
-    clients: Vec<Client<J>>,
-    target: T,
-    moments: Arc<Moments>,
-) -> Result<(), Wrong>
-    requires { IsIdle (T.means target) }
-{
-    let mut clients = clients;
-    let done = match clients.as_mut_slice() {
-        [zero, one] => held_by(rt, alloc, &manager, zero, one, target, &moments),
-        _ => Err(Wrong),
-    };
-    manager.discard(rt);
-    done
-}
+// So does a target's first close, and then its end until flag 3 is.
+const SLOW: Gates = Gates {
+    close: Some(0),
+    stop: Some(2),
+    ..Gates::NONE
+};
 
-fn held<R: Threads + Wait + Sync>(rt: &R, alloc: Global) -> Result<(), Wrong> {
-    let moments = Arc::new(
-        alloc,
-        Moments {
-            is_asked: AtomicBool::new(false),
-            is_read: AtomicBool::new(false),
-        },
-    )?;
-    let target = Patient::new(alloc, Arc::try_clone(&moments)?);
-    let other = Patient::new(alloc, Arc::try_clone(&moments)?);
-    named(
-        rt,
-        alloc,
-        limits(2, 100, 64),
-        Play::HeldOpen(moments),
-        target,
-        other,
-    )
-}
+const HELD: [Row; 3] = [
+    Row {
+        name: "a read is answered while a change is with its target",
+        limits: (2, 4_096, 100, 64),
+        targets: 1,
+        gates: PATIENT,
+        before: r#"0 register w => registered
+0 open a w 2.0.0 {"value":1} => opened
+1 hear => heard 2"#,
+        threads: [
+            r#"0 msg a {"value":2} => delivered
+0 seen => seen 3"#,
+            "",
+            r#"wait 0 => set
+1 state a => state 2 {"buffer_paths":[],"buffers":[],"state":{"value":1}}
+set 1"#,
+            "",
+        ],
+        after: r#"1 state a => state 3 {"buffer_paths":[],"buffers":[],"state":{"value":2}}
+0 state a => state 3 {"buffer_paths":[],"buffers":[],"state":{"value":2}}"#,
+        ..Row::NOTHING
+    },
+    Row {
+        name: "a target that takes its time keeps neither the publisher nor a reader waiting",
+        limits: (2, 16, 100, 65_536),
+        targets: 1,
+        gates: PATIENT,
+        before: r#"0 register t => registered
+0 open a t - {"v":1} => opened
+0 seen => seen 2
+1 hear => heard 2
+1 seen => seen 2"#,
+        threads: [
+            r#"0 msg a {"v":2} => delivered
+0 seen => seen 3"#,
+            "",
+            "wait 0 => set
+1 infos => infos 2 a t
+1 seen => seen 2
+wait 2 => set
+set 1",
+            "wait 0 => set
+take => took 0 1
+set 2",
+        ],
+        sums: "history 4\nuntaken 3\nmost 1",
+        ..Row::NOTHING
+    },
+    Row {
+        name: "who reads while a target is replaced sees all of its comms, or none",
+        limits: (2, 16, 100, 65_536),
+        targets: 2,
+        gates: SLOW,
+        before: "0 register t => registered
+0 open b t - => opened
+0 open c t - => opened
+0 open a t - => opened",
+        threads: [
+            r#"0 register t => replaced ["b","c","a"]
+0 seen => seen 5"#,
+            "",
+            "wait 0 => set
+1 infos => infos 4 a t b t c t
+is_set 2 => unset
+set 1
+wait 2 => set
+1 infos => infos 5
+set 3",
+            "",
+        ],
+        sums: "history 6\nuntaken 6\nmost 3\nends 2",
+        ..Row::NOTHING
+    },
+];
 
 #[test]
-fn a_read_waits_for_no_change(rt: HostRuntime) -> Result<(), Fail> {
-    held(&rt, rt.alloc()).map_err(|_| Fail::new("a read waits for no change"))
+fn nothing_waits_for_a_target(rt: HostRuntime) -> Result<(), Fail> {
+    plays_all::<Latest, HostRuntime>(&rt, rt.alloc(), &HELD)?;
+    Ok(())
+}
+
+const READ: [Row; 2] = [
+    Row {
+        name: "an entry that was taken can be read by who heard of nothing",
+        limits: (4, 4_096, 10_000, 65_536),
+        threads: [
+            "times 3000
+0 close q => no_comm",
+            "",
+            "",
+            "times 3000
+take => took 0 # ~ none
+3 keeps_up => keeps_up",
+        ],
+        after: "3 seen => seen 3000",
+        ..Row::NOTHING
+    },
+    Row {
+        name: "a read after a discard gives no version, and what was seen stays",
+        targets: 1,
+        before: r#"0 register t => registered
+0 open a t - => opened
+1 hear => heard 2
+1 infos => infos 2 a t"#,
+        end: End::Discard,
+        last: "1 infos => no_version
+1 infos t => no_version
+1 state a => no_version
+1 seen => seen 2
+0 state a => no_version
+0 seen => seen 2",
+        sums: "ends 1",
+        ..Row::NOTHING
+    },
+];
+
+#[test]
+fn what_can_be_read_after_what(rt: HostRuntime) -> Result<(), Fail> {
+    plays_all::<Echo, HostRuntime>(&rt, rt.alloc(), &READ)?;
+    Ok(())
 }
