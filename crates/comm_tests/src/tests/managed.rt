@@ -7,7 +7,7 @@ use std::test::Fail;
 use widget_target::WidgetTarget;
 
 /// What is played over a manager of at most so many comms, once with each of these stocks: `told`, `echo` and `counter`
-/// are several targets of the kind, `widget` and `widget_echo` a widget and two that are told, behind boxes.
+/// are two targets of the kind, `widget` and `widget_echo` two boxes, with a widget that is silent or echoes first.
 #[derive(Clone, Copy)]
 pub(super) struct Scene {
     pub stocks: &'static [&'static str],
@@ -21,12 +21,10 @@ fn play_with<T: Target>(
     log: Log,
     first: T,
     second: T,
-    third: T,
 ) -> Result<Vec<u8>, Wrong> {
     let mut stock = Vec::new(alloc);
     stock.push(first)?;
     stock.push(second)?;
-    stock.push(third)?;
     let play = Play {
         stock,
         log,
@@ -35,40 +33,30 @@ fn play_with<T: Target>(
     played(alloc, scene.comms, play, scene.row.lines)
 }
 
-fn told(alloc: Global, whose: &'static str, log: &Log) -> Result<ToldTarget, Wrong> {
-    Ok(ToldTarget::with_log(alloc, whose, log.share()?))
-}
-
-// A widget and two that are told, which stand behind boxes.
-fn play_boxed(
-    alloc: Global,
-    scene: &Scene,
-    log: Log,
-    widget: WidgetTarget,
-) -> Result<Vec<u8>, Wrong> {
-    let widget: Box<dyn Target> = Box::new(alloc, widget)?;
-    let first: Box<dyn Target> = Box::new(alloc, told(alloc, "", &log)?)?;
-    let second: Box<dyn Target> = Box::new(alloc, told(alloc, "next.", &log)?)?;
-    play_with(alloc, scene, log, widget, first, second)
+// Two widgets behind boxes, of which the one that echoes comes first or last.
+fn play_widgets(alloc: Global, scene: &Scene, log: Log, echoes: bool) -> Result<Vec<u8>, Wrong> {
+    let silent: Box<dyn Target> = Box::new(alloc, WidgetTarget::new(alloc))?;
+    let echoing: Box<dyn Target> = Box::new(alloc, WidgetTarget::with_echo(alloc))?;
+    if echoes {
+        play_with(alloc, scene, log, echoing, silent)
+    } else {
+        play_with(alloc, scene, log, silent, echoing)
+    }
 }
 
 // The scene with the targets of this name.
 fn text_of(alloc: Global, scene: &Scene, name: &str) -> Result<Vec<u8>, Wrong> {
     let log = Log::new(alloc)?;
     if name == "echo" {
-        let (first, second) = (Echo::new(alloc), Echo::new(alloc));
-        play_with(alloc, scene, log, first, second, Echo::new(alloc))
+        play_with(alloc, scene, log, Echo::new(alloc), Echo::new(alloc))
     } else if name == "counter" {
-        let (first, second) = (Counter::new(alloc), Counter::new(alloc));
-        play_with(alloc, scene, log, first, second, Counter::new(alloc))
-    } else if name == "widget" {
-        play_boxed(alloc, scene, log, WidgetTarget::new(alloc))
-    } else if name == "widget_echo" {
-        play_boxed(alloc, scene, log, WidgetTarget::with_echo(alloc))
+        play_with(alloc, scene, log, Counter::new(alloc), Counter::new(alloc))
+    } else if name == "told" {
+        let first = ToldTarget::with_log(alloc, "", log.share()?);
+        let second = ToldTarget::with_log(alloc, "next.", log.share()?);
+        play_with(alloc, scene, log, first, second)
     } else {
-        let first = told(alloc, "", &log)?;
-        let second = told(alloc, "next.", &log)?;
-        play_with(alloc, scene, log, first, second, ToldTarget::new(alloc))
+        play_widgets(alloc, scene, log, name == "widget_echo")
     }
 }
 

@@ -2,11 +2,7 @@ use denote.Exit
 use denote.Param.Send.{arg_send}
 use denote.Param.Sent.{Sends}
 use Rattle.widget_target.proofs.Sends.{widget_sends}
-use Rattle.comm_harness.proofs.Sends.{told_sends}
-use Rattle.comm_tests.proofs.tests.managed.play_boxed.OwnLists as own
+use Rattle.comm_tests.proofs.tests.managed.play_widgets.OwnLists as own
 
 pub sends-part-1-1 : Sends own.part-1-1
 sends-part-1-1 i = arg_send _ Exit.no _ widget_sends
-
-pub sends-part-1-2 : Sends own.part-1-2
-sends-part-1-2 i = arg_send _ Exit.no _ told_sends
