@@ -1,6 +1,6 @@
 /* A heap that refuses an allocation where a test asks for it. tools/refuse/run puts it before the C library's.
 
-   A request of one of five sizes, which no heap can grant, is a word of the test (crates/comm_fakes/src/heap.rt):
+   A request of one of five sizes, which no heap can grant, is a word of the test (crates/test_support/src/heap.rt):
      MARK         from here on blocks are counted; granted
      REFUSE + n   from here on requests are counted, and the one of number n (malloc, calloc or realloc) is refused, once; granted
      ABOVE + n    from here on each request of more than n bytes is refused; granted

@@ -13,7 +13,7 @@ from .record import Record
 from .room import copied
 from .trying import Run, Wish
 
-CRATE = "comm_fakes"
+CRATE = "test_support"
 PLACE = "file: src/writer.rt\nold:             calls: 0,\nnew: "
 BESIDE = "file: src/reader.rt\nold: self.calls.saturating_add(1)\nnew: "
 APART = "file: src/writer.rt\nold: let count = buf.len().min(self.step.max(1));\nnew: "

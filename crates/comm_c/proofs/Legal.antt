@@ -12,8 +12,8 @@ use Rattle.comm_core.specs.declared.entry.Entry.TheVariants.{Change, End}
 use Rattle.comm_script.specs.Command.{asked}
 use Rattle.comm_script.specs.Line.{Reading}
 use Rattle.comm_script.specs.Lines.{is_blank}
-use Rattle.comm_script.specs.declared.asked.Asked.{Asked}
-use Rattle.comm_script.specs.declared.asked.Asked.TheVariants as asks_for
+use Rattle.comm_script.specs.declared.asked.Request.{Request}
+use Rattle.comm_script.specs.declared.asked.Request.TheVariants as asks_for
 use Rattle.comm_targets.specs.declared.kind.Kind.{Kind}
 use Rattle.comm_c.specs.Desk.{Changes}
 use Rattle.comm_c.specs.Left.{kind_of, left_of}
@@ -70,13 +70,13 @@ register_one : GrowsLegal → Grows → (h : List Entry) (d : Desk) (number clie
 register_one legal grows h d number client kind name after said has true s = says_none h d after _ said has s
 register_one legal grows h d number client kind name after said has false ch = change_one legal grows h d client _ after said has ch
 
-obey_one : GrowsLegal → Grows → (h : List Entry) (d : Desk) (number client : ℕ) (a : Asked) (after : Desk) (said : List ℕ) → HasMade h d → Obeys d number client a after said → MakesOne h after
+obey_one : GrowsLegal → Grows → (h : List Entry) (d : Desk) (number client : ℕ) (a : Request) (after : Desk) (said : List ℕ) → HasMade h d → Obeys d number client a after said → MakesOne h after
 obey_one legal grows h d number client (asks_for.Change c) after said has o = change_one legal grows h d client c after said has o.1
 obey_one legal grows h d number client (asks_for.Register kind name) after said has o = register_one legal grows h d number client (kind_of kind) name after said has (left_of (kind_of kind) d.left == 0) o
 obey_one legal grows h d number client (asks_for.Infos target) after said has o = says_none h d after _ said has o
 obey_one legal grows h d number client (asks_for.State id) after said has o = says_none h d after _ said has o
 
-answer_one : GrowsLegal → Grows → (h : List Entry) (d : Desk) (number : ℕ) (r : Reading (ℕ × Asked)) (after : Desk) (said : List ℕ) → HasMade h d → Answers d number r after said → MakesOne h after
+answer_one : GrowsLegal → Grows → (h : List Entry) (d : Desk) (number : ℕ) (r : Reading (ℕ × Request)) (after : Desk) (said : List ℕ) → HasMade h d → Answers d number r after said → MakesOne h after
 answer_one legal grows h d number (Ok m) after said has a = obey_one legal grows h d number m.0 m.1 after said has a
 answer_one legal grows h d number (Err fault) after said has a = says_none h d after _ said has a
 

@@ -20,8 +20,8 @@ use Rattle.comm_script.specs.Lines.{lines_of, is_blank}
 use Rattle.comm_script.specs.Played.{Standing, Turn, says, called, changed, registered, obeyed, answered, turn, played_from, played}
 use Rattle.comm_script.specs.Stock.{first_of, rest_of}
 use Rattle.comm_script.specs.Words.{reply_line, out_line, out_lines, state_line}
-use Rattle.comm_script.specs.declared.asked.Asked.{Asked}
-use Rattle.comm_script.specs.declared.asked.Asked.TheVariants as asks_for
+use Rattle.comm_script.specs.declared.asked.Request.{Request}
+use Rattle.comm_script.specs.declared.asked.Request.TheVariants as asks_for
 use Rattle.comm_script.specs.declared.stock.StockKind.{StockKind}
 use Rattle.comm_script.specs.declared.stock.StockKind.TheVariants as stock_kind
 use Rattle.comm_c.specs.Desk.{Changes, fresh_desk}
@@ -144,7 +144,7 @@ register_turn law keeps grows comms now d number client w name after said stands
     rw (some_first w now.stock stands.shelf.fresh (subst (λ (n : ℕ). 0 < n) (sym (stands.shelf.counts w)) some))
     (change_turn law keeps grows comms now d client (Register name (kind_of w) 0) after said (rest_of w now.stock) stands (kind_exact w) ch (taken w d.left now.stock some stands.shelf))
 
-obey_turn : NoChoice → KeepsExact → Grows → (comms : ℕ) (now : Standing) (d : Desk) (number client : ℕ) (a : Asked) (after : Desk) (said : List ℕ) → StandsAt comms now d
+obey_turn : NoChoice → KeepsExact → Grows → (comms : ℕ) (now : Standing) (d : Desk) (number client : ℕ) (a : Request) (after : Desk) (said : List ℕ) → StandsAt comms now d
     → Obeys d number client a after said → Turned comms (obeyed (limits_of comms) now number client a) after said
 obey_turn law keeps grows comms now d number client (asks_for.Change c) after said stands o =
     change_turn law keeps grows comms now d client c after said now.stock stands (handless_free c o.0) o.1 (subst (λ (l : Left). HasLeft l now.stock) (sym (handless_left c d.left o.0)) stands.shelf)
@@ -160,7 +160,7 @@ obey_turn law keeps grows comms now d number client (asks_for.State id) after sa
 
 -- ---- a line
 
-answer_turn : NoChoice → KeepsExact → Grows → (comms : ℕ) (now : Standing) (d : Desk) (number : ℕ) (r : Reading (ℕ × Asked)) (after : Desk) (said : List ℕ) → StandsAt comms now d
+answer_turn : NoChoice → KeepsExact → Grows → (comms : ℕ) (now : Standing) (d : Desk) (number : ℕ) (r : Reading (ℕ × Request)) (after : Desk) (said : List ℕ) → StandsAt comms now d
     → Answers d number r after said → Turned comms (answered (limits_of comms) now number r) after said
 answer_turn law keeps grows comms now d number (Ok m) after said stands a = obey_turn law keeps grows comms now d number m.0 m.1 after said stands a
 answer_turn law keeps grows comms now d number (Err fault) after said stands a = says_turn comms now d after _ _ said stands refl a

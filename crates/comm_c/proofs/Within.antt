@@ -7,8 +7,8 @@ use Rattle.comm_targets.specs.declared.kind.Kind.{Kind}
 use Rattle.comm_script.specs.Command.{asked}
 use Rattle.comm_script.specs.Line.{Reading}
 use Rattle.comm_script.specs.Lines.{is_blank}
-use Rattle.comm_script.specs.declared.asked.Asked.{Asked}
-use Rattle.comm_script.specs.declared.asked.Asked.TheVariants as asks_for
+use Rattle.comm_script.specs.declared.asked.Request.{Request}
+use Rattle.comm_script.specs.declared.asked.Request.TheVariants as asks_for
 use Rattle.comm_c.specs.Desk.{Changes, IsWithin}
 use Rattle.comm_c.specs.Left.{kind_of, left_of}
 use Rattle.comm_c.specs.Turns.{Says, RegistersFrom, Obeys, Answers, TurnsIf, Turns}
@@ -39,14 +39,14 @@ register_within : (n number client : ℕ) (d after : Desk) (kind : Kind) (name :
 register_within n number client d after kind name said few true s = says_within n d after _ said few s
 register_within n number client d after kind name said few false ch = change_within n client d after _ said few ch
 
-obey_within : (n number client : ℕ) (d after : Desk) (a : Asked) (said : List ℕ) → IsWithin n d → Obeys d number client a after said → IsWithin (n + 1) after
+obey_within : (n number client : ℕ) (d after : Desk) (a : Request) (said : List ℕ) → IsWithin n d → Obeys d number client a after said → IsWithin (n + 1) after
 obey_within n number client d after (asks_for.Change c) said few o = change_within n client d after c said few o.1
 obey_within n number client d after (asks_for.Register kind name) said few o =
     register_within n number client d after (kind_of kind) name said few (left_of (kind_of kind) d.left == 0) o
 obey_within n number client d after (asks_for.Infos target) said few o = says_within n d after _ said few o
 obey_within n number client d after (asks_for.State id) said few o = says_within n d after _ said few o
 
-answer_within : (n number : ℕ) (d after : Desk) (r : Reading (ℕ × Asked)) (said : List ℕ) → IsWithin n d → Answers d number r after said → IsWithin (n + 1) after
+answer_within : (n number : ℕ) (d after : Desk) (r : Reading (ℕ × Request)) (said : List ℕ) → IsWithin n d → Answers d number r after said → IsWithin (n + 1) after
 answer_within n number d after (Ok m) said few a = obey_within n number m.0 d after m.1 said few a
 answer_within n number d after (Err fault) said few a = says_within n d after _ said few a
 

@@ -11,8 +11,8 @@ use Rattle.comm_script.specs.Command.{asked}
 use Rattle.comm_script.specs.Line.{Reading}
 use Rattle.comm_script.specs.Lines.{is_blank}
 use Rattle.comm_script.specs.Words.{bad_line, out_line, state_line}
-use Rattle.comm_script.specs.declared.asked.Asked.{Asked}
-use Rattle.comm_script.specs.declared.asked.Asked.TheVariants.{Change, Register, Infos, State}
+use Rattle.comm_script.specs.declared.asked.Request.{Request}
+use Rattle.comm_script.specs.declared.asked.Request.TheVariants.{Change, Register, Infos, State}
 use Rattle.comm_script.specs.declared.asked.LineFault.TheVariants.{NoStock}
 use Rattle.comm_c.specs.Left.{kind_of, left_of}
 use Rattle.comm_c.specs.Desk.{Changes}
@@ -32,7 +32,7 @@ RegistersFrom true d number client kind name after said = Says d (bad_line numbe
 RegistersFrom false d number client kind name after said = Registers d client kind name after said
 
 -- what a line asks for hands no target in
-abbrev pub Obeys : Desk → ℕ → ℕ → Asked → Desk → List ℕ → Type 0
+abbrev pub Obeys : Desk → ℕ → ℕ → Request → Desk → List ℕ → Type 0
 Obeys d number client (Change asked) after said = HandsNothingIn asked × Changes d client asked after said
 Obeys d number client (Register kind name) after said =
     RegistersFrom (left_of (kind_of kind) d.left == 0) d number client (kind_of kind) name after said
@@ -40,7 +40,7 @@ Obeys d number client (Infos target) after said =
     Says d (out_line (out.InfoReply (infos (machine d.core) target)) (parent.Read client d.changes)) after said
 Obeys d number client (State id) after said = Says d (state_line d.changes (state_of (machine d.core) id)) after said
 
-abbrev pub Answers : Desk → ℕ → Reading (ℕ × Asked) → Desk → List ℕ → Type 0
+abbrev pub Answers : Desk → ℕ → Reading (ℕ × Request) → Desk → List ℕ → Type 0
 Answers d number (Ok m) after said = Obeys d number m.0 m.1 after said
 Answers d number (Err fault) after said = Says d (bad_line number fault) after said
 

@@ -18,8 +18,7 @@ use comm_core::Outgoings;
 use comm_json::LineRoom;
 use comm_messages::{MessageFault, Outgoing, Parent};
 use comm_script::{
-    Asked, LineFault, StockKind, append_bad, append_outs, append_state_line, asked_by_line,
-    is_blank,
+    LineFault, Request, StockKind, append_bad, append_outs, append_state_line, is_blank, parse_line,
 };
 use comm_value::{Text, ValueFault};
 use std::alloc::{AllocError, Global};
@@ -115,7 +114,7 @@ impl Desk {
         alloc: Global,
         number: u64,
         client: u8,
-        asked: Asked,
+        asked: Request,
         text: &mut Vec<u8>,
     ) -> Result<Sequel, AllocError>
         requires client { client < 4 }
@@ -129,12 +128,12 @@ impl Desk {
         ensures same { OnErr result (self.new ≡ self.old) }
     {
         match asked {
-            Asked::Change(call) => self.change(alloc, client, call, text),
-            Asked::Register { kind, name } => self.register_left(
+            Request::Change(call) => self.change(alloc, client, call, text),
+            Request::Register { kind, name } => self.register_left(
                 alloc, number, client, kind, name, text,
             ),
-            Asked::Infos { target } => self.infos(alloc, client, target.as_ref(), text),
-            Asked::State { id } => self.state(alloc, &id, text),
+            Request::Infos { target } => self.infos(alloc, client, target.as_ref(), text),
+            Request::State { id } => self.state(alloc, &id, text),
         }
     }
 
@@ -161,7 +160,7 @@ impl Desk {
             return Ok(Sequel::Nothing);
         }
         let mut room = LineRoom::new(alloc);
-        let read = asked_by_line(alloc, line, CLIENTS, &mut room);
+        let read = parse_line(alloc, line, CLIENTS, &mut room);
         drop(room);
         match read {
             Ok((client, asked)) => self.obey(alloc, number, client, asked, text),

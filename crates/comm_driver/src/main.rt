@@ -9,8 +9,8 @@ ghost use Rattle.comm_driver.specs.Program.{over_of, program_limits, program_sto
 
 use comm_core::Limits;
 use comm_script::{RunFault, add, run_with};
-use comm_shared::run_shared_with;
 use comm_targets::{Counter, Echo, Target};
+use shared_script::run_shared_with;
 use std::alloc::Global;
 use std::env::Args;
 use std::io::{Read, Write};

@@ -13,7 +13,7 @@ use Rattle.comm_value.proofs.text.Text.TheSendSync as Text
 use Rattle.comm_versions.specs.declared.history.History as history
 use Rattle.comm_manager.proofs.ledger.Books.TheSendSync as Books
 use Rattle.comm_manager.proofs.ledger.Ticket.TheSendSync as Ticket
-use Rattle.comm_manager.specs.declared.naming.Naming as naming
+use Rattle.comm_manager.specs.declared.manager_id.ManagerId as manager_id
 use Rattle.comm_manager.specs.contracts.client.Client as client
 use Rattle.comm_manager.specs.contracts.inner.Inner as inner
 use Rattle.comm_manager.specs.contracts.publisher.Publisher as publisher
@@ -31,17 +31,17 @@ comms_send = search (sendable, crosses, comm_send, Text.the_send, Table.the_send
 pub core_send : (T : RattleType) (t : target.Ghosts T.Denot) → IsSend T → IsSend (core.the_row T t)
 core_send T t s = search (sendable, crosses, comms_send, Boxes.the_send) depth 40
 
-module _ (J : RattleType) (n : naming.Ghosts J.Denot) (h : history.Ghosts J.Denot) (sj : IsSend J) (yj : IsSync J) where
-  pub client_send : IsSend (client.the_row J n h)
-  client_send = let r = reader_send J h sj yj in search (sendable, crosses, Ticket.the_send) depth 40
+module _ (M : RattleType) (n : manager_id.Ghosts M.Denot) (h : history.Ghosts M.Denot) (sj : IsSend M) (yj : IsSync M) where
+  pub client_send : IsSend (client.the_row M n h)
+  client_send = let r = reader_send M h sj yj in search (sendable, crosses, Ticket.the_send) depth 40
 
-  pub publisher_send : IsSend (publisher.the_row J n h)
+  pub publisher_send : IsSend (publisher.the_row M n h)
   publisher_send = search (sendable, crosses, side_send) depth 40
 
-  pub inner_send : (T : RattleType) (t : target.Ghosts T.Denot) → IsSend T → IsSend (inner.the_row J T n h t)
-  inner_send T t st = let w = writer_send J h sj yj in search (sendable, crosses, entry_send, entry_sync, core_send, outbox_send, Books.the_send) depth 40
+  pub inner_send : (T : RattleType) (t : target.Ghosts T.Denot) → IsSend T → IsSend (inner.the_row M T n h t)
+  inner_send T t st = let w = writer_send M h sj yj in search (sendable, crosses, entry_send, entry_sync, core_send, outbox_send, Books.the_send) depth 40
 
-  pub manager_sync : (T : RattleType) (t : target.Ghosts T.Denot) → IsSend T → IsSync (manager.the_row J T n h t)
+  pub manager_sync : (T : RattleType) (t : target.Ghosts T.Denot) → IsSend T → IsSync (manager.the_row M T n h t)
   manager_sync T t st = let i = inner_send T t st in search (sendable, crosses) depth 40
 
 -- what a thread that is started with a manager, a client or the publisher asks for

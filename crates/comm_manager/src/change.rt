@@ -15,7 +15,7 @@ ghost use Rattle.comm_manager.specs.Why.{Because, IsHistoryFirst};
 use crate::answered::Answered;
 use crate::journal::Journal;
 use crate::ledger::{Books, Ticket};
-use crate::naming::Naming;
+use crate::manager_id::ManagerId;
 use comm_core::{
     Begun, Call, Core, Entry, Finished, Limits, Unavailable, legal_histories_grow, replays_grow,
     rows_are_what_entries_change,
@@ -28,23 +28,23 @@ use std::alloc::{AllocError, Global};
 use std::sync::{Arc, Wait};
 
 /// A change that was made: what it came to, and a target that has to be ended.
-pub struct Made<J: Naming, T: Target> {
-    pub answered: Answered<J>,
+pub struct Made<M: ManagerId, T: Target> {
+    pub answered: Answered<M>,
     pub ended: Option<Held<T>>,
 }
 
 // The entry of what stands ready, by the client's next number, twice; and once more, with its row, among what is to be published.
-fn grow<J: Naming, T: Target>(
+fn grow<M: ManagerId, T: Target>(
     alloc: Global,
     call: Call,
     begun: &Begun<T>,
-    writer: &mut VersionWriter<J>,
-    ticket: &Ticket<J>,
+    writer: &mut VersionWriter<M>,
+    ticket: &Ticket<M>,
 ) -> Result<(Arc<Entry, Global>, Arc<Entry, Global>), AllocError>
     requires call { call ≡ begun.now.call }
     requires number { ticket.now.number < 2 ^ 62 }
-    requires legal { IsLegal J.limits.clients J.limits.comms ((writer.old.front ++ writer.old.pending) ++ entry_of ticket.now.client (ticket.now.number + 1) begun.now ∷ []) }
-    requires ready { (core : CoreValue) × IsReady core begun.now × (machine core ≡ replay J.limits.comms (writer.old.front ++ writer.old.pending)) }
+    requires legal { IsLegal M.limits.clients M.limits.comms ((writer.old.front ++ writer.old.pending) ++ entry_of ticket.now.client (ticket.now.number + 1) begun.now ∷ []) }
+    requires ready { (core : CoreValue) × IsReady core begun.now × (machine core ≡ replay M.limits.comms (writer.old.front ++ writer.old.pending)) }
     ensures kept { IfOk result (λ r. arc_value r.0 ≡ entry_of ticket.now.client (ticket.now.number + 1) begun.now) }
     ensures sent { IfOk result (λ r. arc_value r.1 ≡ arc_value r.0) }
     ensures front { writer.new.front ≡ writer.old.front }
@@ -62,11 +62,11 @@ fn grow<J: Naming, T: Target>(
 }
 
 // Publishes what is pending, and lets the reader hear of it.
-fn tell<J: Naming, R: Wait>(
+fn tell<M: ManagerId, R: Wait>(
     rt: &R,
-    writer: &mut VersionWriter<J>,
-    reader: &mut VersionReader<J>,
-) -> Stamp<J>
+    writer: &mut VersionWriter<M>,
+    reader: &mut VersionReader<M>,
+) -> Stamp<M>
     requires room { length writer.old.front + length writer.old.pending ≤ 4294967296 }
     ensures stamp { result ≡ writer.old.front ++ writer.old.pending }
     ensures front { writer.new.front ≡ writer.old.front ++ writer.old.pending }
@@ -82,20 +82,20 @@ fn tell<J: Naming, R: Wait>(
 }
 
 // Why no change can be made now, if so. Else a place of the queue was found free, and one more.
-fn refusal<J: Naming, R: Wait>(
+fn refusal<M: ManagerId, R: Wait>(
     rt: &R,
     limits: &Limits,
     made: usize,
-    writer: &VersionWriter<J>,
+    writer: &VersionWriter<M>,
     outbox: &mut Outbox,
-) -> Option<Unavailable<Stamp<J>>>
-    requires limits { limits.now ≡ J.limits }
+) -> Option<Unavailable<Stamp<M>>>
+    requires limits { limits.now ≡ M.limits }
     requires made { made ≡ length writer.now.front }
-    requires few { made ≤ J.limits.history }
-    requires puts { Puts J.queue J.limits writer.now.front outbox.old }
-    ensures why { MatchOption result ((length writer.now.front < J.limits.history) × (2 ≤ outbox.new.room)) (λ e. Because J.limits e) }
-    ensures first { IfSome result (λ e. IsHistoryFirst J.limits writer.now.front e) }
-    ensures puts { Puts J.queue J.limits writer.now.front outbox.new }
+    requires few { made ≤ M.limits.history }
+    requires puts { Puts M.queue M.limits writer.now.front outbox.old }
+    ensures why { MatchOption result ((length writer.now.front < M.limits.history) × (2 ≤ outbox.new.room)) (λ e. Because M.limits e) }
+    ensures first { IfSome result (λ e. IsHistoryFirst M.limits writer.now.front e) }
+    ensures puts { Puts M.queue M.limits writer.now.front outbox.new }
 {
     if made as u64 >= limits.history {
         return Some(Unavailable::HistoryFull(writer.stamp()));
@@ -109,7 +109,7 @@ fn refusal<J: Naming, R: Wait>(
 
 // Goes on where the reader has seen no more than so many entries, as each has. It doesn't return otherwise: by no contract of the versions
 // could a reader have seen more than is published, but none says so before the history has ended.
-fn compare<J: Naming, R: Wait>(rt: &R, reader: &VersionReader<J>, made: usize)
+fn compare<M: ManagerId, R: Wait>(rt: &R, reader: &VersionReader<M>, made: usize)
     ensures { length reader.now ≤ made }
 {
     if reader.seen() <= made as u64 {
@@ -121,28 +121,28 @@ fn compare<J: Naming, R: Wait>(rt: &R, reader: &VersionReader<J>, made: usize)
 
 // Whether a change may be made: there is room for it in the history and in the queue, and in the latter for an end besides. The client made as many as
 // the books say, and has seen no more than there is.
-fn admit<J: Naming, R: Wait>(
+fn admit<M: ManagerId, R: Wait>(
     rt: &R,
     limits: &Limits,
     journal: &mut Journal,
-    writer: &VersionWriter<J>,
+    writer: &VersionWriter<M>,
     outbox: &mut Outbox,
-    books: &mut Books<J>,
-    reader: &VersionReader<J>,
-    ticket: &mut Ticket<J>,
-) -> Result<(), Unavailable<Stamp<J>>>
-    requires limits { limits.now ≡ J.limits }
+    books: &mut Books<M>,
+    reader: &VersionReader<M>,
+    ticket: &mut Ticket<M>,
+) -> Result<(), Unavailable<Stamp<M>>>
+    requires limits { limits.now ≡ M.limits }
     requires front { writer.now.front ≡ journal.old.all }
-    requires few { length journal.old.all ≤ J.limits.history }
-    requires puts { Puts J.queue J.limits journal.old.all outbox.old }
+    requires few { length journal.old.all ≤ M.limits.history }
+    requires puts { Puts M.queue M.limits journal.old.all outbox.old }
     ensures history { journal.new.all ≡ journal.old.all }
-    ensures puts { Puts J.queue J.limits journal.old.all outbox.new }
+    ensures puts { Puts M.queue M.limits journal.old.all outbox.new }
     ensures same { (books.new ≡ books.old) × (ticket.new ≡ ticket.old) }
-    ensures room { OnOk result ((journal.new.room ≡ true) × (2 ≤ outbox.new.room) × (length journal.old.all < J.limits.history)) }
+    ensures room { OnOk result ((journal.new.room ≡ true) × (2 ≤ outbox.new.room) × (length journal.old.all < M.limits.history)) }
     ensures known { OnOk result ((ticket.old.client < 4) × (slice_index books.old ticket.old.client ≡ ticket.old.number)) }
     ensures seen { OnOk result (length reader.now ≤ length journal.old.all) }
-    ensures why { IfErr result (λ e. Because J.limits e) }
-    ensures first { IfErr result (λ e. IsHistoryFirst J.limits journal.old.all e) }
+    ensures why { IfErr result (λ e. Because M.limits e) }
+    ensures first { IfErr result (λ e. IsHistoryFirst M.limits journal.old.all e) }
 {
     let made = journal.len();
     if let Some(why) = refusal(rt, limits, made, writer, outbox) {
@@ -158,19 +158,19 @@ fn admit<J: Naming, R: Wait>(
 
 // The entry of a change that was made, which is to be published: it is added to the history, it is published, its client hears of it, and it goes
 // out. It says which place the entry has, from 1. Nothing here takes memory or can fail.
-fn announce<J: Naming, R: Wait>(
+fn announce<M: ManagerId, R: Wait>(
     rt: &R,
     journal: &mut Journal,
-    writer: &mut VersionWriter<J>,
+    writer: &mut VersionWriter<M>,
     outbox: &mut Outbox,
-    books: &mut Books<J>,
-    reader: &mut VersionReader<J>,
-    ticket: &mut Ticket<J>,
+    books: &mut Books<M>,
+    reader: &mut VersionReader<M>,
+    ticket: &mut Ticket<M>,
     kept: Arc<Entry, Global>,
     sent: Arc<Entry, Global>,
-) -> (u64, Stamp<J>)
+) -> (u64, Stamp<M>)
     requires room { (journal.old.room ≡ true) × (2 ≤ outbox.old.room) }
-    requires puts { Puts J.queue J.limits journal.old.all outbox.old }
+    requires puts { Puts M.queue M.limits journal.old.all outbox.old }
     requires one { arc_value sent ≡ arc_value kept }
     requires pending { (writer.old.front ≡ journal.old.all) × (writer.old.pending ≡ arc_value kept ∷ []) }
     requires few { length journal.old.all < 4294967296 }
@@ -180,7 +180,7 @@ fn announce<J: Naming, R: Wait>(
     ensures front { (writer.new.front ≡ journal.new.all) × (writer.new.pending ≡ []) }
     ensures stamp { (result.0 ≡ length journal.new.all) × (result.1 ≡ journal.new.all) }
     ensures seen { (reader.new ≡ journal.new.all) × IsPrefix reader.old journal.old.all }
-    ensures puts { Puts J.queue J.limits journal.new.all outbox.new }
+    ensures puts { Puts M.queue M.limits journal.new.all outbox.new }
     ensures books { books.new ≡ slice_set books.old ticket.old.client (ticket.old.number + 1) }
     ensures ticket { ticket.new ≡ tally ticket.old.client (ticket.old.number + 1) }
 {
@@ -194,34 +194,34 @@ fn announce<J: Naming, R: Wait>(
 /// One change of a client that hands no target in, in its order: room in the history and in the queue; what is asked is readied; the entry is made, and
 /// is to be published; the change is made, and its entry added; it is published, its client hears of it, and it goes out. A refusal comes before
 /// the change is made, and takes everything back.
-pub fn ask<J: Naming, T: Target, R: Wait>(
+pub fn ask<M: ManagerId, T: Target, R: Wait>(
     rt: &R,
     alloc: Global,
     limits: &Limits,
     core: &mut Core<T>,
     journal: &mut Journal,
-    writer: &mut VersionWriter<J>,
+    writer: &mut VersionWriter<M>,
     outbox: &mut Outbox,
-    books: &mut Books<J>,
-    reader: &mut VersionReader<J>,
-    ticket: &mut Ticket<J>,
+    books: &mut Books<M>,
+    reader: &mut VersionReader<M>,
+    ticket: &mut Ticket<M>,
     call: Call,
-) -> Result<Made<J, T>, Unavailable<Stamp<J>>>
-    requires limits { limits.now ≡ J.limits }
-    requires kept { IsKept J.limits journal.old.all core.old writer.old books.old }
-    requires puts { Puts J.queue J.limits journal.old.all outbox.old }
-    requires below { ticket.old.client < J.limits.clients }
+) -> Result<Made<M, T>, Unavailable<Stamp<M>>>
+    requires limits { limits.now ≡ M.limits }
+    requires kept { IsKept M.limits journal.old.all core.old writer.old books.old }
+    requires puts { Puts M.queue M.limits journal.old.all outbox.old }
+    requires below { ticket.old.client < M.limits.clients }
     requires call { HandsNothingIn call }
-    ensures kept { IsKept J.limits journal.new.all core.new writer.new books.new }
-    ensures puts { Puts J.queue J.limits journal.new.all outbox.new }
+    ensures kept { IsKept M.limits journal.new.all core.new writer.new books.new }
+    ensures puts { Puts M.queue M.limits journal.new.all outbox.new }
     ensures next { IfOk result (λ m. IsNext journal.old.all journal.new.all ticket.old.client (ticket.old.number + 1) call m.answered.reply) }
     ensures stamp { IfOk result (λ m. (m.answered.stamp ≡ journal.new.all) × (m.answered.number ≡ length journal.new.all)) }
     ensures seen { IfOk result (λ m. (reader.new ≡ journal.new.all) × IsPrefix reader.old journal.old.all) }
     ensures ticket { OnOk result ((ticket.new ≡ tally ticket.old.client (ticket.old.number + 1)) × (length (mine journal.old.all ticket.old.client) ≡ ticket.old.number)) }
     ensures idle { IfOk result (λ m. IdleWhere m.ended) }
     ensures err { OnErr result ((ticket.new ≡ ticket.old) × (reader.new ≡ reader.old) × (journal.new.all ≡ journal.old.all)) }
-    ensures why { IfErr result (λ e. Because J.limits e) }
-    ensures first { IfErr result (λ e. IsHistoryFirst J.limits journal.old.all e) }
+    ensures why { IfErr result (λ e. Because M.limits e) }
+    ensures first { IfErr result (λ e. IsHistoryFirst M.limits journal.old.all e) }
 {
     replays_grow();
     legal_histories_grow();
@@ -264,35 +264,35 @@ pub fn ask<J: Naming, T: Target, R: Wait>(
 }
 
 /// The same of a change that hands a target in, which takes a name. A refusal hands it back.
-pub fn register<J: Naming, T: Target, R: Wait>(
+pub fn register<M: ManagerId, T: Target, R: Wait>(
     rt: &R,
     alloc: Global,
     limits: &Limits,
     core: &mut Core<T>,
     journal: &mut Journal,
-    writer: &mut VersionWriter<J>,
+    writer: &mut VersionWriter<M>,
     outbox: &mut Outbox,
-    books: &mut Books<J>,
-    reader: &mut VersionReader<J>,
-    ticket: &mut Ticket<J>,
+    books: &mut Books<M>,
+    reader: &mut VersionReader<M>,
+    ticket: &mut Ticket<M>,
     name: Text,
     boxed: T,
-) -> Result<Made<J, T>, (Unavailable<Stamp<J>>, T)>
-    requires limits { limits.now ≡ J.limits }
-    requires kept { IsKept J.limits journal.old.all core.old writer.old books.old }
-    requires puts { Puts J.queue J.limits journal.old.all outbox.old }
-    requires below { ticket.old.client < J.limits.clients }
+) -> Result<Made<M, T>, (Unavailable<Stamp<M>>, T)>
+    requires limits { limits.now ≡ M.limits }
+    requires kept { IsKept M.limits journal.old.all core.old writer.old books.old }
+    requires puts { Puts M.queue M.limits journal.old.all outbox.old }
+    requires below { ticket.old.client < M.limits.clients }
     requires idle { IsIdle (T.means boxed) }
-    ensures kept { IsKept J.limits journal.new.all core.new writer.new books.new }
-    ensures puts { Puts J.queue J.limits journal.new.all outbox.new }
+    ensures kept { IsKept M.limits journal.new.all core.new writer.new books.new }
+    ensures puts { Puts M.queue M.limits journal.new.all outbox.new }
     ensures next { IfOk result (λ m. IsNext journal.old.all journal.new.all ticket.old.client (ticket.old.number + 1) (call.Register name (T.means boxed).kind (T.means boxed).notes) m.answered.reply) }
     ensures stamp { IfOk result (λ m. (m.answered.stamp ≡ journal.new.all) × (m.answered.number ≡ length journal.new.all)) }
     ensures seen { IfOk result (λ m. (reader.new ≡ journal.new.all) × IsPrefix reader.old journal.old.all) }
     ensures ticket { OnOk result ((ticket.new ≡ tally ticket.old.client (ticket.old.number + 1)) × (length (mine journal.old.all ticket.old.client) ≡ ticket.old.number)) }
     ensures idle { IfOk result (λ m. IdleWhere m.ended) }
     ensures err { OnErr result ((ticket.new ≡ ticket.old) × (reader.new ≡ reader.old) × (journal.new.all ≡ journal.old.all)) }
-    ensures why { IfErr result (λ e. Because J.limits e.0) }
-    ensures first { IfErr result (λ e. IsHistoryFirst J.limits journal.old.all e.0) }
+    ensures why { IfErr result (λ e. Because M.limits e.0) }
+    ensures first { IfErr result (λ e. IsHistoryFirst M.limits journal.old.all e.0) }
     ensures boxed { IfErr result (λ e. T.means e.1 ≡ T.means boxed) }
 {
     replays_grow();

@@ -16,7 +16,7 @@ ghost use Rattle.comm_versions.specs.declared.reads.ReadFault.TheVariants as fau
 use crate::answered::Answered;
 use crate::change::Made;
 use crate::ledger::{Books, Ticket};
-use crate::naming::Naming;
+use crate::manager_id::ManagerId;
 use crate::shared::Manager;
 use comm_core::{Call, Unavailable};
 use comm_messages::Body;
@@ -30,12 +30,12 @@ use uuid::Uuid;
 
 /// A client of a manager. Contracts see its number, from 0, how many of its changes were answered, and what it has seen.
 #[derive(Drop)]
-pub struct Client<J: Naming> {
-    pub(crate) reader: VersionReader<J>,
-    pub(crate) ticket: Ticket<J>,
+pub struct Client<M: ManagerId> {
+    pub(crate) reader: VersionReader<M>,
+    pub(crate) ticket: Ticket<M>,
 }
 
-impl<J: Naming> Model for Client<J> {
+impl<M: ManagerId> Model for Client<M> {
     ghost use Rattle.std.specs.Prelude.{◌<◌, ◌≤◌, length};
     ghost use Rattle.comm_core.specs.History.{mine};
     ghost use Rattle.comm_manager.specs.Code.{who_code};
@@ -47,7 +47,7 @@ impl<J: Naming> Model for Client<J> {
 
     ghost view = { λ c. who c.ticket.client c.ticket.number c.reader };
 
-    ghost invariant = { λ c. (c.ticket.client < J.limits.clients) × (c.ticket.number ≤ length (mine c.reader c.ticket.client)) };
+    ghost invariant = { λ c. (c.ticket.client < M.limits.clients) × (c.ticket.number ≤ length (mine c.reader c.ticket.client)) };
 }
 
 // Ends a target that a change took out, if it did.
@@ -59,9 +59,9 @@ fn end<T: Target>(ended: Option<Held<T>>)
     }
 }
 
-impl<J: Naming> Client<J> {
-    pub(crate) fn new(reader: VersionReader<J>, ticket: Ticket<J>) -> Client<J>
-        requires below { ticket.client < J.limits.clients }
+impl<M: ManagerId> Client<M> {
+    pub(crate) fn new(reader: VersionReader<M>, ticket: Ticket<M>) -> Client<M>
+        requires below { ticket.client < M.limits.clients }
         requires none { ticket.number ≡ 0 }
         ensures { result ≡ who ticket.client 0 reader }
     {
@@ -78,13 +78,13 @@ impl<J: Naming> Client<J> {
     /// How many entries it has seen.
     pub fn seen(&self) -> u64
         ensures length { result ≡ length self.now.seen }
-        ensures legal { IsLegal J.limits.clients J.limits.comms self.now.seen }
+        ensures legal { IsLegal M.limits.clients M.limits.comms self.now.seen }
     {
         self.reader.seen()
     }
 
     /// From now on it has seen no less than the stamp's front.
-    pub fn hear(&mut self, stamp: &Stamp<J>)
+    pub fn hear(&mut self, stamp: &Stamp<M>)
         ensures one { (self.new.seen ≡ self.old.seen) ⊎ (self.new.seen ≡ stamp.now) }
         ensures own { IsPrefix self.old.seen self.new.seen }
         ensures stamp { IsPrefix stamp.now self.new.seen }
@@ -94,7 +94,7 @@ impl<J: Naming> Client<J> {
     }
 
     // What it has seen begins the history that ended, which has of it just what it made.
-    pub(crate) fn settle(&mut self, books: &mut Books<J>, last: &Stamp<J>)
+    pub(crate) fn settle(&mut self, books: &mut Books<M>, last: &Stamp<M>)
         requires ended { has_end last.now ≡ true }
         requires books { books.old ≡ counts last.now }
         ensures same { (self.new ≡ self.old) × (books.new ≡ books.old) }
@@ -108,13 +108,13 @@ impl<J: Naming> Client<J> {
     pub fn ask<T: Target, R: Wait>(
         &mut self,
         rt: &R,
-        manager: &Manager<J, T>,
+        manager: &Manager<M, T>,
         call: Call,
-    ) -> Result<Answered<J>, Unavailable<Stamp<J>>>
+    ) -> Result<Answered<M>, Unavailable<Stamp<M>>>
         requires { HandsNothingIn call }
-        ensures answered { IfOk result (λ a. IsAnswered J.limits self.old self.new call a.number a.reply a.stamp) }
+        ensures answered { IfOk result (λ a. IsAnswered M.limits self.old self.new call a.number a.reply a.stamp) }
         ensures err { OnErr result (self.new ≡ self.old) }
-        ensures why { IfErr result (λ e. Because J.limits e) }
+        ensures why { IfErr result (λ e. Because M.limits e) }
     {
         let made = manager.inner.lock(rt).ask(rt, manager.alloc, self, call);
         // Here the lock is let go: a target may take its time to end.
@@ -132,14 +132,14 @@ impl<J: Naming> Client<J> {
     pub fn register<T: Target, R: Wait>(
         &mut self,
         rt: &R,
-        manager: &Manager<J, T>,
+        manager: &Manager<M, T>,
         name: Text,
         target: T,
-    ) -> Result<Answered<J>, (Unavailable<Stamp<J>>, T)>
+    ) -> Result<Answered<M>, (Unavailable<Stamp<M>>, T)>
         requires { IsIdle (T.means target) }
-        ensures answered { IfOk result (λ a. IsAnswered J.limits self.old self.new (call.Register name (T.means target).kind (T.means target).notes) a.number a.reply a.stamp) }
+        ensures answered { IfOk result (λ a. IsAnswered M.limits self.old self.new (call.Register name (T.means target).kind (T.means target).notes) a.number a.reply a.stamp) }
         ensures err { OnErr result (self.new ≡ self.old) }
-        ensures why { IfErr result (λ e. Because J.limits e.0) }
+        ensures why { IfErr result (λ e. Because M.limits e.0) }
         ensures boxed { IfErr result (λ e. T.means e.1 ≡ T.means target) }
     {
         let made = manager
@@ -159,15 +159,15 @@ impl<J: Naming> Client<J> {
     pub fn open_comm<T: Target, R: Wait>(
         &mut self,
         rt: &R,
-        manager: &Manager<J, T>,
+        manager: &Manager<M, T>,
         id: Text,
         target: Text,
         version: Option<Text>,
         body: Body,
-    ) -> Result<Answered<J>, Unavailable<Stamp<J>>>
-        ensures answered { IfOk result (λ a. IsAnswered J.limits self.old self.new (call.Open id target version body) a.number a.reply a.stamp) }
+    ) -> Result<Answered<M>, Unavailable<Stamp<M>>>
+        ensures answered { IfOk result (λ a. IsAnswered M.limits self.old self.new (call.Open id target version body) a.number a.reply a.stamp) }
         ensures err { OnErr result (self.new ≡ self.old) }
-        ensures why { IfErr result (λ e. Because J.limits e) }
+        ensures why { IfErr result (λ e. Because M.limits e) }
     {
         self.ask(
             rt,
@@ -185,13 +185,13 @@ impl<J: Naming> Client<J> {
     pub fn message<T: Target, R: Wait>(
         &mut self,
         rt: &R,
-        manager: &Manager<J, T>,
+        manager: &Manager<M, T>,
         id: Text,
         body: Body,
-    ) -> Result<Answered<J>, Unavailable<Stamp<J>>>
-        ensures answered { IfOk result (λ a. IsAnswered J.limits self.old self.new (call.Msg id body) a.number a.reply a.stamp) }
+    ) -> Result<Answered<M>, Unavailable<Stamp<M>>>
+        ensures answered { IfOk result (λ a. IsAnswered M.limits self.old self.new (call.Msg id body) a.number a.reply a.stamp) }
         ensures err { OnErr result (self.new ≡ self.old) }
-        ensures why { IfErr result (λ e. Because J.limits e) }
+        ensures why { IfErr result (λ e. Because M.limits e) }
     {
         self.ask(rt, manager, Call::Msg { id, body })
     }
@@ -200,12 +200,12 @@ impl<J: Naming> Client<J> {
     pub fn close_comm<T: Target, R: Wait>(
         &mut self,
         rt: &R,
-        manager: &Manager<J, T>,
+        manager: &Manager<M, T>,
         id: Text,
-    ) -> Result<Answered<J>, Unavailable<Stamp<J>>>
-        ensures answered { IfOk result (λ a. IsAnswered J.limits self.old self.new (call.Close id) a.number a.reply a.stamp) }
+    ) -> Result<Answered<M>, Unavailable<Stamp<M>>>
+        ensures answered { IfOk result (λ a. IsAnswered M.limits self.old self.new (call.Close id) a.number a.reply a.stamp) }
         ensures err { OnErr result (self.new ≡ self.old) }
-        ensures why { IfErr result (λ e. Because J.limits e) }
+        ensures why { IfErr result (λ e. Because M.limits e) }
     {
         self.ask(rt, manager, Call::Close { id })
     }
@@ -214,12 +214,12 @@ impl<J: Naming> Client<J> {
     pub fn unregister<T: Target, R: Wait>(
         &mut self,
         rt: &R,
-        manager: &Manager<J, T>,
+        manager: &Manager<M, T>,
         name: Text,
-    ) -> Result<Answered<J>, Unavailable<Stamp<J>>>
-        ensures answered { IfOk result (λ a. IsAnswered J.limits self.old self.new (call.Unregister name) a.number a.reply a.stamp) }
+    ) -> Result<Answered<M>, Unavailable<Stamp<M>>>
+        ensures answered { IfOk result (λ a. IsAnswered M.limits self.old self.new (call.Unregister name) a.number a.reply a.stamp) }
         ensures err { OnErr result (self.new ≡ self.old) }
-        ensures why { IfErr result (λ e. Because J.limits e) }
+        ensures why { IfErr result (λ e. Because M.limits e) }
     {
         self.ask(rt, manager, Call::Unregister { name })
     }
@@ -228,14 +228,14 @@ impl<J: Naming> Client<J> {
     pub fn launch<T: Target, R: Wait>(
         &mut self,
         rt: &R,
-        manager: &Manager<J, T>,
+        manager: &Manager<M, T>,
         id: Uuid,
         target: Text,
         state: Dict,
-    ) -> Result<Answered<J>, Unavailable<Stamp<J>>>
-        ensures answered { IfOk result (λ a. IsAnswered J.limits self.old self.new (call.Launch id target state) a.number a.reply a.stamp) }
+    ) -> Result<Answered<M>, Unavailable<Stamp<M>>>
+        ensures answered { IfOk result (λ a. IsAnswered M.limits self.old self.new (call.Launch id target state) a.number a.reply a.stamp) }
         ensures err { OnErr result (self.new ≡ self.old) }
-        ensures why { IfErr result (λ e. Because J.limits e) }
+        ensures why { IfErr result (λ e. Because M.limits e) }
     {
         self.ask(rt, manager, Call::Launch { id, target, state })
     }
@@ -244,13 +244,13 @@ impl<J: Naming> Client<J> {
     pub fn push<T: Target, R: Wait>(
         &mut self,
         rt: &R,
-        manager: &Manager<J, T>,
+        manager: &Manager<M, T>,
         id: Text,
         state: Dict,
-    ) -> Result<Answered<J>, Unavailable<Stamp<J>>>
-        ensures answered { IfOk result (λ a. IsAnswered J.limits self.old self.new (call.Push id state) a.number a.reply a.stamp) }
+    ) -> Result<Answered<M>, Unavailable<Stamp<M>>>
+        ensures answered { IfOk result (λ a. IsAnswered M.limits self.old self.new (call.Push id state) a.number a.reply a.stamp) }
         ensures err { OnErr result (self.new ≡ self.old) }
-        ensures why { IfErr result (λ e. Because J.limits e) }
+        ensures why { IfErr result (λ e. Because M.limits e) }
     {
         self.ask(rt, manager, Call::Push { id, state })
     }
@@ -259,13 +259,13 @@ impl<J: Naming> Client<J> {
     pub fn send<T: Target, R: Wait>(
         &mut self,
         rt: &R,
-        manager: &Manager<J, T>,
+        manager: &Manager<M, T>,
         id: Text,
         body: Body,
-    ) -> Result<Answered<J>, Unavailable<Stamp<J>>>
-        ensures answered { IfOk result (λ a. IsAnswered J.limits self.old self.new (call.Send id body) a.number a.reply a.stamp) }
+    ) -> Result<Answered<M>, Unavailable<Stamp<M>>>
+        ensures answered { IfOk result (λ a. IsAnswered M.limits self.old self.new (call.Send id body) a.number a.reply a.stamp) }
         ensures err { OnErr result (self.new ≡ self.old) }
-        ensures why { IfErr result (λ e. Because J.limits e) }
+        ensures why { IfErr result (λ e. Because M.limits e) }
     {
         self.ask(rt, manager, Call::Send { id, body })
     }
@@ -274,12 +274,12 @@ impl<J: Naming> Client<J> {
     pub fn hang_up<T: Target, R: Wait>(
         &mut self,
         rt: &R,
-        manager: &Manager<J, T>,
+        manager: &Manager<M, T>,
         id: Text,
-    ) -> Result<Answered<J>, Unavailable<Stamp<J>>>
-        ensures answered { IfOk result (λ a. IsAnswered J.limits self.old self.new (call.HangUp id) a.number a.reply a.stamp) }
+    ) -> Result<Answered<M>, Unavailable<Stamp<M>>>
+        ensures answered { IfOk result (λ a. IsAnswered M.limits self.old self.new (call.HangUp id) a.number a.reply a.stamp) }
         ensures err { OnErr result (self.new ≡ self.old) }
-        ensures why { IfErr result (λ e. Because J.limits e) }
+        ensures why { IfErr result (λ e. Because M.limits e) }
     {
         self.ask(rt, manager, Call::HangUp { id })
     }
@@ -289,9 +289,9 @@ impl<J: Naming> Client<J> {
     pub fn comm_info(&mut self, alloc: Global, target: Option<&Text>) -> Result<InfoRead, ReadFault>
         ensures later { IsPrefix self.old.seen self.new.seen }
         ensures made { (self.new.client ≡ self.old.client) × (self.new.number ≡ self.old.number) × (made self.new ≡ made self.old) }
-        ensures legal { OnOk result (IsLegal J.limits.clients J.limits.comms self.new.seen) }
+        ensures legal { OnOk result (IsLegal M.limits.clients M.limits.comms self.new.seen) }
         ensures front { IfOk result (λ r. r.front ≡ length self.new.seen) }
-        ensures answer { IfOk result (λ r. r.comms ≡ infos (replay J.limits.comms self.new.seen) (option_map (λ t. t.now) target.entry)) }
+        ensures answer { IfOk result (λ r. r.comms ≡ infos (replay M.limits.comms self.new.seen) (option_map (λ t. t.now) target.entry)) }
         ensures none { IsErrOf result fault.NoVersion → self.new ≡ self.old }
     {
         self.reader.read_infos(alloc, target)
@@ -302,9 +302,9 @@ impl<J: Naming> Client<J> {
     pub fn state(&mut self, id: &Text) -> Result<StateRead, ReadFault>
         ensures later { IsPrefix self.old.seen self.new.seen }
         ensures made { (self.new.client ≡ self.old.client) × (self.new.number ≡ self.old.number) × (made self.new ≡ made self.old) }
-        ensures legal { OnOk result (IsLegal J.limits.clients J.limits.comms self.new.seen) }
+        ensures legal { OnOk result (IsLegal M.limits.clients M.limits.comms self.new.seen) }
         ensures front { IfOk result (λ r. r.front ≡ length self.new.seen) }
-        ensures answer { IfOk result (λ r. r.answer ≡ state_of (replay J.limits.comms self.new.seen) id.now) }
+        ensures answer { IfOk result (λ r. r.answer ≡ state_of (replay M.limits.comms self.new.seen) id.now) }
         ensures none { IsErrOf result fault.NoVersion → self.new ≡ self.old }
     {
         self.reader.read_state(id)

@@ -20,7 +20,7 @@ use crate::change::{self, Made};
 use crate::client::Client;
 use crate::journal::Journal;
 use crate::ledger::Books;
-use crate::naming::Naming;
+use crate::manager_id::ManagerId;
 use crate::publisher::Publisher;
 use comm_core::{
     Call, Core, Entry, Limits, Row, Unavailable, legal_histories_grow, rows_are_what_entries_change,
@@ -38,17 +38,17 @@ use std::sync::{Arc, Wait};
 ///
 /// The history is legal, is what is published and what was put into the queue, its replay is the machine of the tables and the targets, and nothing
 /// is staged: that is true whenever the lock is got, and is proved again of each call that is made under it.
-pub struct Inner<J: Naming, T: Target> {
+pub struct Inner<M: ManagerId, T: Target> {
     limits: Limits,
     core: Core<T>,
     journal: Journal,
     // the kit can't prove how a writer would be dropped; it never is: `end` alone ends it
-    writer: ManuallyDrop<VersionWriter<J>>,
+    writer: ManuallyDrop<VersionWriter<M>>,
     outbox: Outbox,
-    books: Books<J>,
+    books: Books<M>,
 }
 
-impl<J: Naming, T: Target> Model for Inner<J, T> {
+impl<M: ManagerId, T: Target> Model for Inner<M, T> {
     ghost use Rattle.std.specs.Prelude.{◌≡◌, List};
     ghost use Rattle.comm_core.specs.declared.entry.Entry.{Entry};
     ghost use Rattle.comm_versions.specs.Code.{entries_code};
@@ -61,23 +61,23 @@ impl<J: Naming, T: Target> Model for Inner<J, T> {
 
     ghost view = { λ s. s.journal.all };
 
-    ghost invariant = { λ s. IsKept J.limits s.journal.all s.core (manually_drop_value s.writer) s.books × Puts J.queue J.limits s.journal.all s.outbox × (s.limits ≡ J.limits) };
+    ghost invariant = { λ s. IsKept M.limits s.journal.all s.core (manually_drop_value s.writer) s.books × Puts M.queue M.limits s.journal.all s.outbox × (s.limits ≡ M.limits) };
 }
 
-impl<J: Naming, T: Target> Inner<J, T> {
+impl<M: ManagerId, T: Target> Inner<M, T> {
     /// A manager that has made no change.
     pub fn new(
         alloc: Global,
         limits: Limits,
         core: Core<T>,
-        writer: VersionWriter<J>,
+        writer: VersionWriter<M>,
         outbox: Outbox,
-        books: Books<J>,
-    ) -> Inner<J, T>
-        requires limits { (limits ≡ J.limits) × AreAllowed limits }
+        books: Books<M>,
+    ) -> Inner<M, T>
+        requires limits { (limits ≡ M.limits) × AreAllowed limits }
         requires core { core ≡ record { limit = limits.comms; boxes = []; comms = []; settled = true } }
         requires writer { (writer.front ≡ []) × (writer.pending ≡ []) }
-        requires outbox { outbox ≡ unfilled J.queue limits.clients limits.comms (limits.outbox + 1) }
+        requires outbox { outbox ≡ unfilled M.queue limits.clients limits.comms (limits.outbox + 1) }
         requires books { books ≡ 0 ∷ 0 ∷ 0 ∷ 0 ∷ [] }
         ensures { result ≡ [] }
     {
@@ -93,7 +93,7 @@ impl<J: Naming, T: Target> Inner<J, T> {
 
     /// How many clients there are.
     pub fn clients(&self) -> u8
-        ensures { result ≡ J.limits.clients }
+        ensures { result ≡ M.limits.clients }
     {
         self.limits.clients
     }
@@ -104,17 +104,17 @@ impl<J: Naming, T: Target> Inner<J, T> {
         &mut self,
         rt: &R,
         alloc: Global,
-        client: &mut Client<J>,
+        client: &mut Client<M>,
         call: Call,
-    ) -> Result<Made<J, T>, Unavailable<Stamp<J>>>
+    ) -> Result<Made<M, T>, Unavailable<Stamp<M>>>
         requires { HandsNothingIn call }
-        ensures answered { IfOk result (λ m. IsAnswered J.limits client.old client.new call m.answered.number m.answered.reply m.answered.stamp) }
+        ensures answered { IfOk result (λ m. IsAnswered M.limits client.old client.new call m.answered.number m.answered.reply m.answered.stamp) }
         ensures next { IfOk result (λ m. IsNext self.old self.new client.old.client (client.old.number + 1) call m.answered.reply) }
         ensures history { IfOk result (λ m. self.new ≡ m.answered.stamp) }
         ensures idle { IfOk result (λ m. IdleWhere m.ended) }
         ensures err { OnErr result ((client.new ≡ client.old) × (self.new ≡ self.old)) }
-        ensures why { IfErr result (λ e. Because J.limits e) }
-        ensures first { IfErr result (λ e. IsHistoryFirst J.limits self.old e) }
+        ensures why { IfErr result (λ e. Because M.limits e) }
+        ensures first { IfErr result (λ e. IsHistoryFirst M.limits self.old e) }
     {
         change::ask(
             rt,
@@ -136,18 +136,18 @@ impl<J: Naming, T: Target> Inner<J, T> {
         &mut self,
         rt: &R,
         alloc: Global,
-        client: &mut Client<J>,
+        client: &mut Client<M>,
         name: Text,
         boxed: T,
-    ) -> Result<Made<J, T>, (Unavailable<Stamp<J>>, T)>
+    ) -> Result<Made<M, T>, (Unavailable<Stamp<M>>, T)>
         requires { IsIdle (T.means boxed) }
-        ensures answered { IfOk result (λ m. IsAnswered J.limits client.old client.new (call.Register name (T.means boxed).kind (T.means boxed).notes) m.answered.number m.answered.reply m.answered.stamp) }
+        ensures answered { IfOk result (λ m. IsAnswered M.limits client.old client.new (call.Register name (T.means boxed).kind (T.means boxed).notes) m.answered.number m.answered.reply m.answered.stamp) }
         ensures next { IfOk result (λ m. IsNext self.old self.new client.old.client (client.old.number + 1) (call.Register name (T.means boxed).kind (T.means boxed).notes) m.answered.reply) }
         ensures history { IfOk result (λ m. self.new ≡ m.answered.stamp) }
         ensures idle { IfOk result (λ m. IdleWhere m.ended) }
         ensures err { OnErr result ((client.new ≡ client.old) × (self.new ≡ self.old)) }
-        ensures why { IfErr result (λ e. Because J.limits e.0) }
-        ensures first { IfErr result (λ e. IsHistoryFirst J.limits self.old e.0) }
+        ensures why { IfErr result (λ e. Because M.limits e.0) }
+        ensures first { IfErr result (λ e. IsHistoryFirst M.limits self.old e.0) }
         ensures boxed { IfErr result (λ e. T.means e.1 ≡ T.means boxed) }
     {
         change::register(
@@ -172,12 +172,12 @@ impl<J: Naming, T: Target> Inner<J, T> {
         self,
         rt: &R,
         alloc: Global,
-        clients: Vec<Client<J>>,
-        publisher: Publisher<J>,
-    ) -> Result<Farewell, (Inner<J, T>, Vec<Client<J>>, Publisher<J>)>
+        clients: Vec<Client<M>>,
+        publisher: Publisher<M>,
+    ) -> Result<Farewell, (Inner<M, T>, Vec<Client<M>>, Publisher<M>)>
         ensures history { IfOk result (λ f. entries_of f.history.items ≡ self ++ End ∷ []) }
-        ensures legal { IfOk result (λ f. IsLegal J.limits.clients J.limits.comms (entries_of f.history.items)) }
-        ensures few { length self ≤ J.limits.history }
+        ensures legal { IfOk result (λ f. IsLegal M.limits.clients M.limits.comms (entries_of f.history.items)) }
+        ensures few { length self ≤ M.limits.history }
         ensures settled { IfOk result (λ f. All (λ w. IsSettled (entries_of f.history.items) w) clients.items) }
         ensures untaken { IfOk result (λ f. publisher ++ entries_of f.untaken.items ≡ entries_of f.history.items) }
         ensures err { IfErr result (λ e. (e.0 ≡ self) × (e.1 ≡ clients) × (e.2 ≡ publisher)) }
@@ -239,7 +239,7 @@ impl<J: Naming, T: Target> Inner<J, T> {
 }
 
 // It isn't dropped from now on.
-fn kept<J: Naming>(writer: VersionWriter<J>) -> ManuallyDrop<VersionWriter<J>>
+fn kept<M: ManagerId>(writer: VersionWriter<M>) -> ManuallyDrop<VersionWriter<M>>
     ensures { manually_drop_value result ≡ writer }
 {
     unsafe { ManuallyDrop::new_unchecked(writer) }
@@ -278,21 +278,21 @@ fn grown(
 }
 
 // Ends the history, publishes that, and lets it go out. There is room for all that the publisher hasn't taken.
-fn close<J: Naming, R: Wait>(
+fn close<M: ManagerId, R: Wait>(
     rt: &R,
     alloc: Global,
     journal: &mut Journal,
-    writer: &mut VersionWriter<J>,
+    writer: &mut VersionWriter<M>,
     outbox: &mut Outbox,
-    publisher: &Publisher<J>,
-) -> Result<(Stamp<J>, Vec<Arc<Entry, Global>>), AllocError>
+    publisher: &Publisher<M>,
+) -> Result<(Stamp<M>, Vec<Arc<Entry, Global>>), AllocError>
     requires front { (writer.old.front ≡ journal.old.all) × (writer.old.pending ≡ []) }
-    requires puts { Puts J.queue J.limits journal.old.all outbox.old }
-    requires legal { IsLegal J.limits.clients J.limits.comms journal.old.all × (has_end journal.old.all ≡ false) }
+    requires puts { Puts M.queue M.limits journal.old.all outbox.old }
+    requires legal { IsLegal M.limits.clients M.limits.comms journal.old.all × (has_end journal.old.all ≡ false) }
     requires few { length journal.old.all ≤ 4294967295 }
-    ensures stamp { IfOk result (λ r. (r.0 ≡ journal.old.all ++ End ∷ []) × IsLegal J.limits.clients J.limits.comms r.0) }
+    ensures stamp { IfOk result (λ r. (r.0 ≡ journal.old.all ++ End ∷ []) × IsLegal M.limits.clients M.limits.comms r.0) }
     ensures history { IfOk result (λ r. journal.new.all ≡ r.0) }
-    ensures puts { IfOk result (λ r. (outbox.new.line ≡ J.queue) × (outbox.new.puts ≡ r.0)) }
+    ensures puts { IfOk result (λ r. (outbox.new.line ≡ M.queue) × (outbox.new.puts ≡ r.0)) }
     ensures room { IfOk result (λ r. (r.1.items ≡ []) × (length journal.new.all ≤ length publisher.now + vec_capacity r.1)) }
     ensures err { OnErr result ((journal.new.all ≡ journal.old.all) × (writer.new ≡ writer.old) × (outbox.new ≡ outbox.old)) }
 {
@@ -312,7 +312,7 @@ fn close<J: Naming, R: Wait>(
 }
 
 // What each client has seen begins the history that ended, and it made as many changes as the books say.
-fn gather<J: Naming>(books: &mut Books<J>, clients: Vec<Client<J>>, last: &Stamp<J>)
+fn gather<M: ManagerId>(books: &mut Books<M>, clients: Vec<Client<M>>, last: &Stamp<M>)
     requires ended { has_end last.now ≡ true }
     requires books { books.old ≡ counts last.now }
     ensures { All (λ w. IsSettled last.now w) clients.items }

@@ -29,7 +29,7 @@
 //! | What is taken is the history from its beginning, each entry once and in its order: it grows by the very entry, and is legal; and with what was left it is the whole history | `next`, `legal` of [`Publisher::take`], `untaken` of [`Manager::shutdown`] |
 //! | A shutdown is refused for MissingClients just where a client is missing, and else for want of memory alone; the manager, the clients and the publisher come back as they were | `missing`, `err` of [`Manager::shutdown`] |
 //! | The clients of a new manager are those of its limits, in the order of their numbers, and have made no change and seen nothing; its publisher has taken nothing | `clients`, `publisher` of [`Manager::open`] |
-//! | There is no manager just where a limit is out of its bounds; or memory ran out, or the versions had no place for a reader | [`Opening::new`], [`Manager::open`] |
+//! | There is no manager just where a limit is out of its bounds; or memory ran out, or the versions had no place for a reader | [`ManagerBuilder::new`], [`Manager::open`] |
 //!
 //! The history lies under one lock, with the tables and the targets, and all of this is the type of what lies there, so it is true whenever the
 //! lock is got (`specs/Kept`): the history is legal, within the limits, and is what is published to the readers and was put into the queue; the tables and the targets are
@@ -49,16 +49,16 @@
 //! A kernel opens a manager under a name, in two functions. The first is generic in the name, and has all that is done while the manager lives:
 //!
 //! ```text
-//! fn serve<J: Naming + Send + Sync, T: Target, R: Threads + Wait + Sync>(
+//! fn serve<M: ManagerId + Send + Sync, T: Target, R: Threads + Wait + Sync>(
 //!     rt: &R,
 //!     alloc: Global,
-//!     opening: Opening,
+//!     builder: ManagerBuilder,
 //!     widgets: T,
 //! ) -> Result<(), Fault>
-//!     requires named { Named opening J.book J.ledgers J.queue J.limits }
+//!     requires named { Named builder M.book M.ledgers M.queue M.limits }
 //!     requires idle { IsIdle (T.means widgets) }
 //! {
-//!     let (manager, clients, publisher) = Manager::<J, T>::open(rt, alloc, opening)?;
+//!     let (manager, clients, publisher) = Manager::<M, T>::open(rt, alloc, builder)?;
 //!     let (clients, publisher) = both(rt, &manager, clients, publisher, widgets);  // a shell thread and a publishing thread
 //!     match manager.shutdown(rt, clients, publisher) {
 //!         Ok(farewell) => ..                                // the whole history, and what wasn't sent
@@ -73,8 +73,8 @@
 //! fn named<T: Target, R: Threads + Wait + Sync>(rt: &R, alloc: Global, widgets: T) -> Result<(), Fault>
 //!     requires { IsIdle (T.means widgets) }
 //! {
-//!     let opening = Opening::new(alloc, LIMITS)?;
-//!     serve::<Brand, T, R>(rt, alloc, opening, widgets)
+//!     let builder = ManagerBuilder::new(alloc, LIMITS)?;
+//!     serve::<Brand, T, R>(rt, alloc, builder, widgets)
 //! }
 //! ```
 //!
@@ -84,11 +84,11 @@
 //! use Rattle.comm_manager.specs.Names.{named}
 //! use Rattle.mine.proofs.named.Given as goal
 //!
-//! abbrev pub ghosts-serve-J-History : goal.ghosts-serve-J-History
-//! ghosts-serve-J-History g a = record { book = a.opening.book; limits = a.opening.limits }
+//! abbrev pub ghosts-serve-M-History : goal.ghosts-serve-M-History
+//! ghosts-serve-M-History g a = record { book = a.builder.book; limits = a.builder.limits }
 //!
-//! abbrev pub ghosts-serve-J-Naming : goal.ghosts-serve-J-Naming
-//! ghosts-serve-J-Naming g a = record { ledgers = named a.opening.first a.opening.second a.opening.third a.opening.fourth; queue = a.opening.queue }
+//! abbrev pub ghosts-serve-M-ManagerId : goal.ghosts-serve-M-ManagerId
+//! ghosts-serve-M-ManagerId g a = record { ledgers = named a.builder.first a.builder.second a.builder.third a.builder.fourth; queue = a.builder.queue }
 //! ```
 //!
 //! A shell thread has a client, and answers each message of the frontend by a change:
@@ -127,42 +127,42 @@
 //! pub join-requires-send-F : goal.join-requires-send-F
 //! join-requires-send-F g c κs within =
 //!     let s = c.type_bounds.sync-R in
-//!     let j = c.type_bounds.send-J in
-//!     let k = c.type_bounds.sync-J in
+//!     let j = c.type_bounds.send-M in
+//!     let k = c.type_bounds.sync-M in
 //!     let t = c.type_bounds.send-T in
-//!     let m = manager_sync _ g.J.Naming g.J.History j k _ g.T.Target t in
-//!     let l = client_send _ g.J.Naming g.J.History j k in
-//!     let p = publisher_send _ g.J.Naming g.J.History j k in
+//!     let m = manager_sync _ g.M.ManagerId g.M.History j k _ g.T.Target t in
+//!     let l = client_send _ g.M.ManagerId g.M.History j k in
+//!     let p = publisher_send _ g.M.ManagerId g.M.History j k in
 //!     search (sendable, crosses) depth 60
 //!
 //! pub join-requires-send-A : goal.join-requires-send-A
 //! join-requires-send-A g c κs within =
-//!     let j = c.type_bounds.send-J in
-//!     let k = c.type_bounds.sync-J in
-//!     let l = client_send _ g.J.Naming g.J.History j k in
-//!     let p = publisher_send _ g.J.Naming g.J.History j k in
+//!     let j = c.type_bounds.send-M in
+//!     let k = c.type_bounds.sync-M in
+//!     let l = client_send _ g.M.ManagerId g.M.History j k in
+//!     let p = publisher_send _ g.M.ManagerId g.M.History j k in
 //!     search (sendable, crosses) depth 60
 //! ```
 //!
-//! `comm_thread_tests` has this whole, in `src/tests/threads.rt`.
+//! `interleaving_tests` has this whole, in `src/tests/threads.rt`.
 #![tactic(auto)]
 
 mod answered;
+mod builder;
 mod change;
 mod client;
 mod inner;
 mod journal;
 mod ledger;
-mod naming;
-mod opening;
+mod manager_id;
 mod publisher;
 mod shared;
 
 pub use answered::Answered;
+pub use builder::ManagerBuilder;
 pub use client::Client;
 pub use comm_versions::{InfoRead, OpeningFault, ReadFault, Stamp, StateRead};
 pub use inner::Farewell;
-pub use naming::Naming;
-pub use opening::Opening;
+pub use manager_id::ManagerId;
 pub use publisher::Publisher;
 pub use shared::{Cause, Manager, ShutdownRefused};

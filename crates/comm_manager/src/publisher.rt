@@ -5,7 +5,7 @@ ghost use Rattle.comm_core.specs.History.{IsLegal};
 ghost use Rattle.comm_outbox.specs.Sides.{Taking};
 ghost use Rattle.comm_manager.specs.Kept.{taker};
 
-use crate::naming::Naming;
+use crate::manager_id::ManagerId;
 use comm_core::Entry;
 use std::alloc::Global;
 use std::marker::{Model, PhantomData};
@@ -13,12 +13,12 @@ use std::sync::{Arc, Wait};
 
 /// Takes what goes out, for the thread that sends it: each entry of the history once, and in its order. Contracts see what it has taken.
 #[derive(Drop)]
-pub struct Publisher<J: Naming> {
+pub struct Publisher<M: ManagerId> {
     side: comm_outbox::Publisher,
-    of: PhantomData<J>,
+    of: PhantomData<M>,
 }
 
-impl<J: Naming> Model for Publisher<J> {
+impl<M: ManagerId> Model for Publisher<M> {
     ghost use Rattle.std.specs.Prelude.{◌≡◌, List};
     ghost use Rattle.comm_core.specs.declared.entry.Entry.{Entry};
     ghost use Rattle.comm_versions.specs.Code.{entries_code};
@@ -30,12 +30,12 @@ impl<J: Naming> Model for Publisher<J> {
 
     ghost view = { λ p. p.side.taken };
 
-    ghost invariant = { λ p. p.side ≡ taker J.queue J.limits p.side.taken };
+    ghost invariant = { λ p. p.side ≡ taker M.queue M.limits p.side.taken };
 }
 
-impl<J: Naming> Publisher<J> {
-    pub(crate) fn new(side: comm_outbox::Publisher) -> Publisher<J>
-        requires { side ≡ taker J.queue J.limits side.taken }
+impl<M: ManagerId> Publisher<M> {
+    pub(crate) fn new(side: comm_outbox::Publisher) -> Publisher<M>
+        requires { side ≡ taker M.queue M.limits side.taken }
         ensures { result ≡ side.taken }
     {
         Publisher {
@@ -47,7 +47,7 @@ impl<J: Naming> Publisher<J> {
     /// Takes the next entry. It takes no memory, and enters no lock of the changes. None says that none was there, at one moment of the call.
     pub fn take<R: Wait>(&mut self, rt: &R) -> Option<Arc<Entry, Global>>
         ensures next { MatchOption result (self.new ≡ self.old) (λ e. self.new ≡ self.old ++ arc_value e ∷ []) }
-        ensures legal { IsLegal J.limits.clients J.limits.comms self.new }
+        ensures legal { IsLegal M.limits.clients M.limits.comms self.new }
     {
         self.side.take(rt)
     }
@@ -60,7 +60,7 @@ impl<J: Naming> Publisher<J> {
     }
 
     pub(crate) fn into_side(self) -> comm_outbox::Publisher
-        ensures { result ≡ taker J.queue J.limits self }
+        ensures { result ≡ taker M.queue M.limits self }
     {
         self.side
     }

@@ -9,11 +9,11 @@ ghost use Rattle.comm_manager.specs.Names.{Named};
 ghost use Rattle.comm_manager.specs.Who.{all_new};
 ghost use Rattle.comm_manager.specs.Why.{IsMissing, all_here, is_here};
 
+use crate::builder::{ManagerBuilder, first_clients};
 use crate::client::Client;
 use crate::inner::{Farewell, Inner};
 use crate::ledger::Books;
-use crate::naming::Naming;
-use crate::opening::{Opening, first_clients};
+use crate::manager_id::ManagerId;
 use crate::publisher::Publisher;
 use comm_core::Core;
 use comm_targets::Target;
@@ -22,9 +22,9 @@ use std::alloc::Global;
 use std::sync::{Mutex, Wait};
 
 /// The manager, which threads share by reference. `shutdown` or `discard` alone ends it.
-pub struct Manager<J: Naming, T: Target> {
+pub struct Manager<M: ManagerId, T: Target> {
     pub(crate) alloc: Global,
-    pub(crate) inner: Mutex<Inner<J, T>>,
+    pub(crate) inner: Mutex<Inner<M, T>>,
 }
 
 /// Why a manager isn't shut down.
@@ -37,22 +37,22 @@ pub enum Cause {
 }
 
 /// A shutdown that is refused. All is handed back.
-pub struct ShutdownRefused<J: Naming, T: Target> {
+pub struct ShutdownRefused<M: ManagerId, T: Target> {
     pub cause: Cause,
-    pub manager: Manager<J, T>,
-    pub clients: Vec<Client<J>>,
-    pub publisher: Publisher<J>,
+    pub manager: Manager<M, T>,
+    pub clients: Vec<Client<M>>,
+    pub publisher: Publisher<M>,
 }
 
 // Whether a client is among these.
-fn is_here<J: Naming>(clients: &[Client<J>], id: u8) -> bool
+fn is_here<M: ManagerId>(clients: &[Client<M>], id: u8) -> bool
     ensures { result ≡ is_here id clients.now }
 {
     clients.iter().any(|client| client.id() == id)
 }
 
 // Whether the first clients are all among these.
-fn are_here<J: Naming>(clients: &[Client<J>], count: u8) -> bool
+fn are_here<M: ManagerId>(clients: &[Client<M>], count: u8) -> bool
     ensures { result ≡ all_here count clients.now }
 {
     for id in 0..count {
@@ -63,19 +63,19 @@ fn are_here<J: Naming>(clients: &[Client<J>], count: u8) -> bool
     true
 }
 
-impl<J: Naming, T: Target> Manager<J, T> {
-    /// A manager that goes by the opening's names; its clients, in the order of their numbers, who have made no change and seen nothing; and its
+impl<M: ManagerId, T: Target> Manager<M, T> {
+    /// A manager that goes by the builder's names; its clients, in the order of their numbers, who have made no change and seen nothing; and its
     /// publisher, who has taken nothing. It isn't opened where memory ran out, or where the versions had no place for a reader (NoReader).
     pub fn open<R: Wait>(
         rt: &R,
         alloc: Global,
-        opening: Opening,
-    ) -> Result<(Manager<J, T>, Vec<Client<J>>, Publisher<J>), OpeningFault>
-        requires { Named opening J.book J.ledgers J.queue J.limits }
-        ensures clients { IfOk result (λ r. r.1.items ≡ all_new J.limits.clients) }
+        builder: ManagerBuilder,
+    ) -> Result<(Manager<M, T>, Vec<Client<M>>, Publisher<M>), OpeningFault>
+        requires { Named builder M.book M.ledgers M.queue M.limits }
+        ensures clients { IfOk result (λ r. r.1.items ≡ all_new M.limits.clients) }
         ensures publisher { IfOk result (λ r. r.2 ≡ []) }
     {
-        let Opening {
+        let ManagerBuilder {
             limits,
             history,
             outbox,
@@ -84,8 +84,8 @@ impl<J: Naming, T: Target> Manager<J, T> {
             second,
             third,
             fourth,
-        } = opening;
-        let (writer, readers) = versions::<J, R>(rt, alloc, history, limits.clients, limits.comms)?;
+        } = builder;
+        let (writer, readers) = versions::<M, R>(rt, alloc, history, limits.clients, limits.comms)?;
         let (books, tickets) = Books::open(first, second, third, fourth);
         let Ok(clients) = first_clients(alloc, readers, tickets) else {
             writer.end(rt);
@@ -97,7 +97,7 @@ impl<J: Naming, T: Target> Manager<J, T> {
                 let inner = Mutex::new(inner);
                 Ok((Manager { alloc, inner }, clients, Publisher::new(publisher)))
             }
-            // The limits of an opening are allowed.
+            // The limits of a builder are allowed.
             Err(_fault) => unreachable!(),
         }
     }
@@ -108,14 +108,14 @@ impl<J: Naming, T: Target> Manager<J, T> {
     pub fn shutdown<R: Wait>(
         self,
         rt: &R,
-        clients: Vec<Client<J>>,
-        publisher: Publisher<J>,
-    ) -> Result<Farewell, ShutdownRefused<J, T>>
-        ensures legal { IfOk result (λ f. IsLegal J.limits.clients J.limits.comms (entries_of f.history.items)) }
-        ensures ended { IfOk result (λ f. (before : List Entry) × (entries_of f.history.items ≡ before ++ End ∷ []) × (length before ≤ J.limits.history)) }
+        clients: Vec<Client<M>>,
+        publisher: Publisher<M>,
+    ) -> Result<Farewell, ShutdownRefused<M, T>>
+        ensures legal { IfOk result (λ f. IsLegal M.limits.clients M.limits.comms (entries_of f.history.items)) }
+        ensures ended { IfOk result (λ f. (before : List Entry) × (entries_of f.history.items ≡ before ++ End ∷ []) × (length before ≤ M.limits.history)) }
         ensures settled { IfOk result (λ f. All (λ w. IsSettled (entries_of f.history.items) w) clients.items) }
         ensures untaken { IfOk result (λ f. publisher ++ entries_of f.untaken.items ≡ entries_of f.history.items) }
-        ensures missing { MatchResult result (λ _. all_here J.limits.clients clients.items ≡ true) (λ e. IsMissing J.limits.clients clients.items e.cause) }
+        ensures missing { MatchResult result (λ _. all_here M.limits.clients clients.items ≡ true) (λ e. IsMissing M.limits.clients clients.items e.cause) }
         ensures err { IfErr result (λ e. (e.clients ≡ clients) × (e.publisher ≡ publisher)) }
     {
         let Manager { alloc, inner } = self;
@@ -143,13 +143,13 @@ impl<J: Naming, T: Target> Manager<J, T> {
 }
 
 // All is handed back.
-fn refused<J: Naming, T: Target>(
+fn refused<M: ManagerId, T: Target>(
     alloc: Global,
     cause: Cause,
-    inner: Inner<J, T>,
-    clients: Vec<Client<J>>,
-    publisher: Publisher<J>,
-) -> ShutdownRefused<J, T>
+    inner: Inner<M, T>,
+    clients: Vec<Client<M>>,
+    publisher: Publisher<M>,
+) -> ShutdownRefused<M, T>
     ensures { (result.cause ≡ cause) × (result.clients ≡ clients) × (result.publisher ≡ publisher) }
 {
     let inner = Mutex::new(inner);

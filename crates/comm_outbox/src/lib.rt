@@ -68,8 +68,8 @@
 //! let untaken = outbox.take_rest(rt, publisher, room);
 //! ```
 //!
-//! `comm_thread_tests` has this whole, in `src/tests/queue.rt`. A structure that keeps an `Outbox` under a lock says of which queue it is
-//! by a type parameter, as `comm_manager`'s `Naming` does, so that `line` is known where lock and publisher come together again.
+//! `interleaving_tests` has this whole, in `src/tests/queue.rt`. A structure that keeps an `Outbox` under a lock says of which queue it is
+//! by a type parameter, as `comm_manager`'s `ManagerId` does, so that `line` is known where lock and publisher come together again.
 #![tactic(auto)]
 
 mod line;

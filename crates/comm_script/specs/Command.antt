@@ -23,8 +23,8 @@ use Rattle.comm_script.specs.declared.stock.StockKind.{StockKind}
 use Rattle.comm_script.specs.declared.stock.StockKind.TheVariants as stock_kind
 use Rattle.comm_value.specs.Gives.{◌>>=◌, or_fault}
 use Rattle.comm_script.specs.Line.{Reading, of_message}
-use Rattle.comm_script.specs.declared.asked.Asked.{Asked}
-use Rattle.comm_script.specs.declared.asked.Asked.TheVariants.{Change, Register, Infos, State}
+use Rattle.comm_script.specs.declared.asked.Request.{Request}
+use Rattle.comm_script.specs.declared.asked.Request.TheVariants.{Change, Register, Infos, State}
 use Rattle.comm_script.specs.declared.asked.Key.{Key}
 use Rattle.comm_script.specs.declared.asked.Key.TheVariants as key
 use Rattle.comm_script.specs.declared.asked.LineFault.TheVariants.{UnknownCall, BadField, Value, BadUuid}
@@ -82,20 +82,20 @@ state_in object line = do
 
 -- ---- the commands
 
-unfoldable pub register_in : Members → Reading Asked
+unfoldable pub register_in : Members → Reading Request
 register_in line = do
   kind ← kind_field line
   name ← text_field key.Name (codes "name") line
   Ok (Register kind name)
 
-abbrev pub unregister_in : Members → Reading Asked
+abbrev pub unregister_in : Members → Reading Request
 unregister_in line = text_field key.Name (codes "name") line >>= (λ name. Ok (Change (call.Unregister name)))
 
 -- the UUID is read last
-abbrev pub launched : List ℕ → List ℕ → tree.Members → Reading Asked
+abbrev pub launched : List ℕ → List ℕ → tree.Members → Reading Request
 launched name uuid state = or_fault BadUuid (parsed uuid) >>= (λ id. Ok (Change (call.Launch id name state)))
 
-unfoldable pub launch_in : Members → Reading Asked
+unfoldable pub launch_in : Members → Reading Request
 launch_in line = do
   name ← text_field key.Name (codes "name") line
   uuid ← text_field key.Uuid (codes "uuid") line
@@ -103,7 +103,7 @@ launch_in line = do
   list ← list_field line
   state_in object line >>= launched name uuid
 
-unfoldable pub push_in : Members → Reading Asked
+unfoldable pub push_in : Members → Reading Request
 push_in line = do
   id ← text_field key.Id (codes "id") line
   object ← object_field key.State (codes "state") line
@@ -111,7 +111,7 @@ push_in line = do
   state ← state_in object line
   Ok (Change (call.Push id state))
 
-unfoldable pub send_in : Members → Reading Asked
+unfoldable pub send_in : Members → Reading Request
 send_in line = do
   id ← text_field key.Id (codes "id") line
   object ← object_field key.Data (codes "data") line
@@ -119,13 +119,13 @@ send_in line = do
   body ← of_message (body_of object line)
   Ok (Change (call.Send id body))
 
-abbrev pub hang_up_in : Members → Reading Asked
+abbrev pub hang_up_in : Members → Reading Request
 hang_up_in line = text_field key.Id (codes "id") line >>= (λ id. Ok (Change (call.HangUp id)))
 
-abbrev pub state_read_in : Members → Reading Asked
+abbrev pub state_read_in : Members → Reading Request
 state_read_in line = text_field key.Id (codes "id") line >>= (λ id. Ok (State id))
 
-abbrev pub command_named : List ℕ → Members → Reading Asked
+abbrev pub command_named : List ℕ → Members → Reading Request
 command_named name line =
     if bytes_eq name (codes "register") then register_in line
     else if bytes_eq name (codes "unregister") then unregister_in line
@@ -136,32 +136,32 @@ command_named name line =
     else if bytes_eq name (codes "state") then state_read_in line
     else Err UnknownCall
 
-abbrev pub command : Data → Members → Reading Asked
+abbrev pub command : Data → Members → Reading Request
 command (string name) line = command_named name line
 command _ line = Err UnknownCall
 
 -- ---- a line
 
-abbrev pub asked_by_message : Incoming → Asked
+abbrev pub asked_by_message : Incoming → Request
 asked_by_message (incoming.Open id target version body) = Change (call.Open id target version body)
 asked_by_message (incoming.Msg id body) = Change (call.Msg id body)
 asked_by_message (incoming.Close id) = Change (call.Close id)
 asked_by_message (incoming.InfoRequest target) = Infos target
 
-abbrev pub asked_by : Option Data → ℕ → Members → Reading (ℕ × Asked)
+abbrev pub asked_by : Option Data → ℕ → Members → Reading (ℕ × Request)
 asked_by None clients line = of_message (message_in clients line) >>= (λ m. Ok (m.0, asked_by_message m.1))
 asked_by (Some name) clients line =
     of_message (client_of clients (get_member (codes "client") line)) >>= (λ client. command name line >>= (λ asked. Ok (client, asked)))
 
-abbrev pub asked_in : ℕ → Members → Reading (ℕ × Asked)
+abbrev pub asked_in : ℕ → Members → Reading (ℕ × Request)
 asked_in clients line = asked_by (get_member (codes "call") line) clients line
 
 -- the client, and what it asks for
-abbrev pub asked : ℕ → List ℕ → Reading (ℕ × Asked)
+abbrev pub asked : ℕ → List ℕ → Reading (ℕ × Request)
 asked clients bytes = of_message (object_in bytes) >>= asked_in clients
 
 -- a change that is asked for hands no target in: a register takes one out of the stock
-abbrev pub HandsNothing : Asked → Type 0
+abbrev pub HandsNothing : Request → Type 0
 HandsNothing (Change c) = HandsNothingIn c
 HandsNothing (Register kind name) = Unit {0}
 HandsNothing (Infos target) = Unit {0}

@@ -19,8 +19,8 @@ use Rattle.comm_script.specs.Line.{Reading}
 use Rattle.comm_script.specs.Command.{asked}
 use Rattle.comm_script.specs.Stock.{first_of, rest_of}
 use Rattle.comm_script.specs.Words.{reply_line, bad_line, state_line, out_line, out_lines}
-use Rattle.comm_script.specs.declared.asked.Asked.{Asked}
-use Rattle.comm_script.specs.declared.asked.Asked.TheVariants.{Change, Register, Infos, State}
+use Rattle.comm_script.specs.declared.asked.Request.{Request}
+use Rattle.comm_script.specs.declared.asked.Request.TheVariants.{Change, Register, Infos, State}
 use Rattle.comm_script.specs.declared.asked.LineFault.TheVariants.{NoStock}
 
 -- the changes so far, and the targets that are left to register
@@ -62,14 +62,14 @@ registered limits now number client kind name None = says now (bad_line number N
 registered limits now number client kind name (Some r) =
     called limits now client (call.Register name r.kind r.notes) (rest_of kind now.stock)
 
-abbrev pub obeyed : Limits → Standing → ℕ → ℕ → Asked → Turn
+abbrev pub obeyed : Limits → Standing → ℕ → ℕ → Request → Turn
 obeyed limits now number client (Change asked) = called limits now client asked now.stock
 obeyed limits now number client (Register kind name) = registered limits now number client kind name (first_of kind now.stock)
 obeyed limits now number client (Infos target) =
     says now (out_line (out.InfoReply (infos (machine limits now) target)) (parent.Read client (length now.history)))
 obeyed limits now number client (State id) = says now (state_line (length now.history) (state_of (machine limits now) id))
 
-abbrev pub answered : Limits → Standing → ℕ → Reading (ℕ × Asked) → Turn
+abbrev pub answered : Limits → Standing → ℕ → Reading (ℕ × Request) → Turn
 answered limits now number (Ok m) = obeyed limits now number m.0 m.1
 answered limits now number (Err fault) = says now (bad_line number fault)
 

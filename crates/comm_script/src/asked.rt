@@ -9,7 +9,7 @@ use std::alloc::AllocError;
 
 /// What a line asks for.
 #[derive(Drop)]
-pub enum Asked {
+pub enum Request {
     /// A change of the manager.
     Change(Call),
     /// The registration of the first target of this kind that the stock has.

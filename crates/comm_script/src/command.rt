@@ -9,7 +9,7 @@ ghost use Rattle.uuid.specs.Text.{parsed};
 ghost use Rattle.comm_value.specs.Gives.{or_fault};
 ghost use Rattle.comm_script.specs.declared.asked.LineFault.TheVariants.{BadUuid};
 
-use crate::asked::{Asked, Key, LineFault};
+use crate::asked::{Key, LineFault, Request};
 use crate::stock::StockKind;
 use comm_core::Call;
 use comm_json::{JsonRef, Shape};
@@ -148,23 +148,23 @@ fn state_in(alloc: Global, object: Fields<'_, '_>, line: Fields<'_, '_>) -> Resu
 }
 
 #[tactic(auto, unfolding(crate::specs::Command::register_in))]
-fn register_in(alloc: Global, line: Fields<'_, '_>) -> Result<Asked, LineFault>
+fn register_in(alloc: Global, line: Fields<'_, '_>) -> Result<Request, LineFault>
     ensures asked { Gives (λ a. a) result (register_in (fields line.entry)) }
     ensures handless { IfOk result HandsNothing }
 {
     let kind = kind_field(line)?;
     let name = text_field(Key::Name, "name", line)?;
     let name = Text::copy_of(alloc, name)?;
-    Ok(Asked::Register { kind, name })
+    Ok(Request::Register { kind, name })
 }
 
-fn unregister_in(alloc: Global, line: Fields<'_, '_>) -> Result<Asked, LineFault>
+fn unregister_in(alloc: Global, line: Fields<'_, '_>) -> Result<Request, LineFault>
     ensures asked { Gives (λ a. a) result (unregister_in (fields line.entry)) }
     ensures handless { IfOk result HandsNothing }
 {
     let name = text_field(Key::Name, "name", line)?;
     let name = Text::copy_of(alloc, name)?;
-    Ok(Asked::Change(Call::Unregister { name }))
+    Ok(Request::Change(Call::Unregister { name }))
 }
 
 fn uuid_of(text: &str) -> Result<Uuid, LineFault>
@@ -176,13 +176,13 @@ fn uuid_of(text: &str) -> Result<Uuid, LineFault>
     }
 }
 
-fn launched(alloc: Global, name: &str, uuid: &str, state: Dict) -> Result<Asked, LineFault>
+fn launched(alloc: Global, name: &str, uuid: &str, state: Dict) -> Result<Request, LineFault>
     ensures asked { Gives (λ a. a) result (launched name.now uuid.now state) }
     ensures handless { IfOk result HandsNothing }
 {
     match uuid_of(uuid) {
         Ok(id) => match Text::copy_of(alloc, name) {
-            Ok(target) => Ok(Asked::Change(Call::Launch { id, target, state })),
+            Ok(target) => Ok(Request::Change(Call::Launch { id, target, state })),
             Err(fault) => {
                 drop(state);
                 Err(LineFault::from(fault))
@@ -196,7 +196,7 @@ fn launched(alloc: Global, name: &str, uuid: &str, state: Dict) -> Result<Asked,
 }
 
 #[tactic(auto, unfolding(crate::specs::Command::launch_in))]
-fn launch_in(alloc: Global, line: Fields<'_, '_>) -> Result<Asked, LineFault>
+fn launch_in(alloc: Global, line: Fields<'_, '_>) -> Result<Request, LineFault>
     ensures asked { Gives (λ a. a) result (launch_in (fields line.entry)) }
     ensures handless { IfOk result HandsNothing }
 {
@@ -209,7 +209,7 @@ fn launch_in(alloc: Global, line: Fields<'_, '_>) -> Result<Asked, LineFault>
 }
 
 #[tactic(auto, unfolding(crate::specs::Command::push_in))]
-fn push_in(alloc: Global, line: Fields<'_, '_>) -> Result<Asked, LineFault>
+fn push_in(alloc: Global, line: Fields<'_, '_>) -> Result<Request, LineFault>
     ensures asked { Gives (λ a. a) result (push_in (fields line.entry)) }
     ensures handless { IfOk result HandsNothing }
 {
@@ -218,11 +218,11 @@ fn push_in(alloc: Global, line: Fields<'_, '_>) -> Result<Asked, LineFault>
     list_field(line)?;
     let id = Text::copy_of(alloc, id)?;
     let state = state_in(alloc, object, line)?;
-    Ok(Asked::Change(Call::Push { id, state }))
+    Ok(Request::Change(Call::Push { id, state }))
 }
 
 #[tactic(auto, unfolding(crate::specs::Command::send_in))]
-fn send_in(alloc: Global, line: Fields<'_, '_>) -> Result<Asked, LineFault>
+fn send_in(alloc: Global, line: Fields<'_, '_>) -> Result<Request, LineFault>
     ensures asked { Gives (λ a. a) result (send_in (fields line.entry)) }
     ensures handless { IfOk result HandsNothing }
 {
@@ -231,28 +231,28 @@ fn send_in(alloc: Global, line: Fields<'_, '_>) -> Result<Asked, LineFault>
     list_field(line)?;
     let id = Text::copy_of(alloc, id)?;
     let body = body_of(alloc, object, line)?;
-    Ok(Asked::Change(Call::Send { id, body }))
+    Ok(Request::Change(Call::Send { id, body }))
 }
 
-fn hang_up_in(alloc: Global, line: Fields<'_, '_>) -> Result<Asked, LineFault>
+fn hang_up_in(alloc: Global, line: Fields<'_, '_>) -> Result<Request, LineFault>
     ensures asked { Gives (λ a. a) result (hang_up_in (fields line.entry)) }
     ensures handless { IfOk result HandsNothing }
 {
     let id = text_field(Key::Id, "id", line)?;
     let id = Text::copy_of(alloc, id)?;
-    Ok(Asked::Change(Call::HangUp { id }))
+    Ok(Request::Change(Call::HangUp { id }))
 }
 
-fn state_read_in(alloc: Global, line: Fields<'_, '_>) -> Result<Asked, LineFault>
+fn state_read_in(alloc: Global, line: Fields<'_, '_>) -> Result<Request, LineFault>
     ensures asked { Gives (λ a. a) result (state_read_in (fields line.entry)) }
     ensures handless { IfOk result HandsNothing }
 {
     let id = text_field(Key::Id, "id", line)?;
     let id = Text::copy_of(alloc, id)?;
-    Ok(Asked::State { id })
+    Ok(Request::State { id })
 }
 
-fn command_named(alloc: Global, name: &str, line: Fields<'_, '_>) -> Result<Asked, LineFault>
+fn command_named(alloc: Global, name: &str, line: Fields<'_, '_>) -> Result<Request, LineFault>
     ensures asked { Gives (λ a. a) result (command_named name.now (fields line.entry)) }
     ensures handless { IfOk result HandsNothing }
 {
@@ -280,7 +280,7 @@ pub fn command(
     alloc: Global,
     call: JsonRef<'_, '_>,
     line: Fields<'_, '_>,
-) -> Result<Asked, LineFault>
+) -> Result<Request, LineFault>
     ensures asked { Gives (λ a. a) result (command (of_ref call.entry) (fields line.entry)) }
     ensures handless { IfOk result HandsNothing }
 {

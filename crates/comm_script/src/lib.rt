@@ -4,7 +4,7 @@
 //! [`RunFault`] says why a script wasn't played to its end. The law [`scripts_make_legal_histories`] ties what a script does to the laws
 //! that `comm_core` has of whole runs.
 //!
-//! Its parts serve who plays scripts over another manager (`comm_shared`): [`split_line`] and [`is_blank`] find the lines, [`asked_by_line`]
+//! Its parts serve who plays scripts over another manager (`shared_script`): [`split_line`] and [`is_blank`] find the lines, [`parse_line`]
 //! reads one, a [`Stock`] has the targets, `append_*` are the lines that are written, and [`send`] writes them.
 #![tactic(auto)]
 
@@ -20,10 +20,10 @@ mod stock;
 mod stream;
 mod words;
 
-pub use asked::{Asked, Key, LineFault};
+pub use asked::{Key, LineFault, Request};
 pub use fault::RunFault;
 pub use laws::scripts_make_legal_histories;
-pub use line::asked_by_line;
+pub use line::parse_line;
 pub use lines::{is_blank, split_line};
 pub use running::{run, run_with};
 pub use stock::{Stock, StockKind, add};

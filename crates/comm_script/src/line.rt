@@ -3,14 +3,14 @@ ghost use Rattle.comm_messages.specs.Fields.{fields};
 ghost use Rattle.comm_script.specs.Line.{Gives};
 ghost use Rattle.comm_script.specs.Command.{asked_by_message, asked_in, asked, HandsNothing};
 
-use crate::asked::{Asked, LineFault};
+use crate::asked::{LineFault, Request};
 use crate::command::command;
 use comm_core::Call;
 use comm_json::LineRoom;
 use comm_messages::{Fields, Incoming, client_of, fields_of, member, message_in, object_in};
 use std::alloc::Global;
 
-fn asked_by_message(incoming: Incoming) -> Asked
+fn asked_by_message(incoming: Incoming) -> Request
     ensures asked { result ≡ asked_by_message incoming }
     ensures handless { HandsNothing result }
 {
@@ -20,19 +20,19 @@ fn asked_by_message(incoming: Incoming) -> Asked
             target,
             version,
             body,
-        } => Asked::Change(Call::Open {
+        } => Request::Change(Call::Open {
             id,
             target,
             version,
             body,
         }),
-        Incoming::Msg { id, body } => Asked::Change(Call::Msg { id, body }),
-        Incoming::Close { id } => Asked::Change(Call::Close { id }),
-        Incoming::InfoRequest { target } => Asked::Infos { target },
+        Incoming::Msg { id, body } => Request::Change(Call::Msg { id, body }),
+        Incoming::Close { id } => Request::Change(Call::Close { id }),
+        Incoming::InfoRequest { target } => Request::Infos { target },
     }
 }
 
-fn asked_in(alloc: Global, line: Fields<'_, '_>, clients: u8) -> Result<(u8, Asked), LineFault>
+fn asked_in(alloc: Global, line: Fields<'_, '_>, clients: u8) -> Result<(u8, Request), LineFault>
     requires { 0 < clients }
     ensures asked { Gives (λ r. (r.0, r.1)) result (asked_in clients (fields line.entry)) }
     ensures below { IfOk result (λ r. r.0 < clients) }
@@ -52,12 +52,12 @@ fn asked_in(alloc: Global, line: Fields<'_, '_>, clients: u8) -> Result<(u8, Ask
 }
 
 /// The client, and what it asks for by a line. The room serves the reading, and can be kept from line to line.
-pub fn asked_by_line(
+pub fn parse_line(
     alloc: Global,
     line: &[u8],
     clients: u8,
     room: &mut LineRoom,
-) -> Result<(u8, Asked), LineFault>
+) -> Result<(u8, Request), LineFault>
     requires { 0 < clients }
     ensures asked { Gives (λ r. (r.0, r.1)) result (asked clients line.now) }
     ensures below { IfOk result (λ r. r.0 < clients) }

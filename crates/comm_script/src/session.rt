@@ -12,9 +12,9 @@ ghost use Rattle.comm_script.specs.Words.{reply_line, out_line, out_lines, state
 ghost use Rattle.comm_script.specs.Played.{Standing, called, registered, obeyed, turn};
 ghost use Rattle.comm_script.specs.Command.{HandsNothing};
 
-use crate::asked::{Asked, LineFault};
+use crate::asked::{LineFault, Request};
 use crate::fault::RunFault;
-use crate::line::asked_by_line;
+use crate::line::parse_line;
 use crate::lines::is_blank;
 use crate::stock::{Stock, StockKind};
 use crate::words::{append_bad, append_out, append_outs, append_reply, append_state_line};
@@ -190,7 +190,7 @@ impl<T: Target> Session<T> {
         alloc: Global,
         number: u64,
         client: u8,
-        asked: Asked,
+        asked: Request,
         text: &mut Vec<u8>,
     ) -> Result<(), AllocError>
         requires client { client < 4 }
@@ -206,12 +206,12 @@ impl<T: Target> Session<T> {
         ensures limits { self.new.limits ≡ self.old.limits }
     {
         match asked {
-            Asked::Change(call) => self.change(alloc, client, call, text)?,
-            Asked::Register { kind, name } => self.register(
+            Request::Change(call) => self.change(alloc, client, call, text)?,
+            Request::Register { kind, name } => self.register(
                 alloc, number, client, kind, name, text,
             )?,
-            Asked::Infos { target } => self.infos(alloc, client, target.as_ref(), text)?,
-            Asked::State { id } => self.state(alloc, &id, text)?,
+            Request::Infos { target } => self.infos(alloc, client, target.as_ref(), text)?,
+            Request::State { id } => self.state(alloc, &id, text)?,
         }
         Ok(())
     }
@@ -240,7 +240,7 @@ impl<T: Target> Session<T> {
         if is_blank(line) {
             return Ok(());
         }
-        match asked_by_line(alloc, line, self.limits.clients, &mut self.room) {
+        match parse_line(alloc, line, self.limits.clients, &mut self.room) {
             Ok((client, asked)) => {
                 self.obey(alloc, number, client, asked, text)?;
                 Ok(())

@@ -85,11 +85,11 @@ passeds_field_send = search (sendable, crosses, passed_send) depth 40
 pub trail_send : IsSend trail.the_row
 trail_send = view_send _ _ _ _ _ (recorded_send (inside.the_field).row _ _ (inside.the_type).to_one (struct_send (shape inside.the_type) (root_send, (passeds_field_send, (passeds_field_send, tt)))))
 
-module _ (J : RattleType) (j : history.Ghosts J.Denot) (sj : IsSend J) (yj : IsSync J) where
-  pub reader_send : IsSend (reader.the_row J j)
+module _ (M : RattleType) (j : history.Ghosts M.Denot) (sj : IsSend M) (yj : IsSync M) where
+  pub reader_send : IsSend (reader.the_row M j)
   reader_send = search (sendable, crosses, Sight.the_send, version_sync, Lens.the_field_send) depth 60 fits 20000
 
-  pub writer_send : IsSend (writer.the_row J j)
+  pub writer_send : IsSend (writer.the_row M j)
   writer_send = search (sendable, crosses, Published.the_send, Head.the_field_send, version_send, version_sync, step_send, trail_send, Shelf.the_field_send) depth 60 fits 20000
 
 -- what a thread that is started with a reader or the writer asks for

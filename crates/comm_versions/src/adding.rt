@@ -47,16 +47,16 @@ pub fn prepare(alloc: Global, trail: &mut Trail, change: Change) -> Result<Step,
 }
 
 // Adds the next entry to the history. Nobody else adds one, so it's never longer than this front; if it were, this wouldn't return.
-fn extend<J: History, R: Wait>(
+fn extend<M: History, R: Wait>(
     rt: &R,
-    head: &Head<J>,
-    front: &mut Published<J>,
+    head: &Head<M>,
+    front: &mut Published<M>,
     entry: &Arc<Entry, Global>,
     relists: bool,
 )
     requires room { length front.old < 2 ^ 62 }
-    requires legal { IsLegal J.limits.clients J.limits.comms (front.old ++ arc_value entry.now ∷ []) }
-    requires lists { relists ≡ false → ListAlike (rows (replay J.limits.comms front.old)) (rows (replay J.limits.comms (front.old ++ arc_value entry.now ∷ []))) }
+    requires legal { IsLegal M.limits.clients M.limits.comms (front.old ++ arc_value entry.now ∷ []) }
+    requires lists { relists ≡ false → ListAlike (rows (replay M.limits.comms front.old)) (rows (replay M.limits.comms (front.old ++ arc_value entry.now ∷ []))) }
     ensures { front.new ≡ front.old ++ arc_value entry.now ∷ [] }
 {
     if !front.extend(head, entry, relists) {
@@ -65,20 +65,20 @@ fn extend<J: History, R: Wait>(
 }
 
 // Adds one entry to the history, and shows it to the readers.
-fn add<J: History, R: Wait>(
+fn add<M: History, R: Wait>(
     rt: &R,
-    head: &Head<J>,
-    front: &mut Published<J>,
+    head: &Head<M>,
+    front: &mut Published<M>,
     shelf: &mut Shelf,
     step: Step,
 )
-    requires next { IsNext J.limits.comms front.old step }
+    requires next { IsNext M.limits.comms front.old step }
     requires room { length front.old < 2 ^ 62 }
-    requires legal { IsLegal J.limits.clients J.limits.comms (front.old ++ arc_value step.entry ∷ []) }
-    requires shown { shelf.old.desk.shown.value.mark ≡ known (origin_of J.book J.limits) front.old }
+    requires legal { IsLegal M.limits.clients M.limits.comms (front.old ++ arc_value step.entry ∷ []) }
+    requires shown { shelf.old.desk.shown.value.mark ≡ known (origin_of M.book M.limits) front.old }
     requires pending { drop shelf.old.behind shelf.old.log.items ≡ [] }
     ensures front { front.new ≡ front.old ++ arc_value step.entry ∷ [] }
-    ensures shown { shelf.new.desk.shown.value.mark ≡ known (origin_of J.book J.limits) front.new }
+    ensures shown { shelf.new.desk.shown.value.mark ≡ known (origin_of M.book M.limits) front.new }
     ensures pending { drop shelf.new.behind shelf.new.log.items ≡ [] }
 {
     let Step {
@@ -92,20 +92,20 @@ fn add<J: History, R: Wait>(
 }
 
 /// Adds all that is to follow, in order.
-pub fn add_all<J: History, R: Wait>(
+pub fn add_all<M: History, R: Wait>(
     rt: &R,
-    head: &Head<J>,
-    front: &mut Published<J>,
+    head: &Head<M>,
+    front: &mut Published<M>,
     shelf: &mut Shelf,
     pending: &mut VecDeque<Step>,
 )
-    requires ready { IsReady J.limits.comms front.old pending.old.items }
+    requires ready { IsReady M.limits.comms front.old pending.old.items }
     requires room { length front.old + length pending.old.items < 2 ^ 62 }
-    requires legal { IsLegal J.limits.clients J.limits.comms (front.old ++ entries pending.old.items) }
-    requires shown { shelf.old.desk.shown.value.mark ≡ known (origin_of J.book J.limits) front.old }
+    requires legal { IsLegal M.limits.clients M.limits.comms (front.old ++ entries pending.old.items) }
+    requires shown { shelf.old.desk.shown.value.mark ≡ known (origin_of M.book M.limits) front.old }
     requires waits { drop shelf.old.behind shelf.old.log.items ≡ [] }
     ensures front { front.new ≡ front.old ++ entries pending.old.items }
-    ensures shown { shelf.new.desk.shown.value.mark ≡ known (origin_of J.book J.limits) front.new }
+    ensures shown { shelf.new.desk.shown.value.mark ≡ known (origin_of M.book M.limits) front.new }
     ensures waits { drop shelf.new.behind shelf.new.log.items ≡ [] }
     ensures done { pending.new.items ≡ [] }
 {

@@ -14,12 +14,12 @@ use std::sync::Arc;
 
 /// A mark of the one history. Contracts see it as its entries.
 #[derive(Drop)]
-pub struct Front<J: History> {
+pub struct Front<M: History> {
     mark: Mark,
-    of: PhantomData<J>,
+    of: PhantomData<M>,
 }
 
-impl<J: History> Model for Front<J> {
+impl<M: History> Model for Front<M> {
     ghost use Rattle.std.specs.Prelude.{◌≡◌, List};
     ghost use Rattle.comm_core.specs.declared.entry.Entry.{Entry};
     ghost use Rattle.comm_versions.specs.Code.{entries_code};
@@ -31,12 +31,12 @@ impl<J: History> Model for Front<J> {
 
     ghost view = { λ f. f.mark.front };
 
-    ghost invariant = { λ f. f.mark.origin ≡ origin_of J.book J.limits };
+    ghost invariant = { λ f. f.mark.origin ≡ origin_of M.book M.limits };
 }
 
-impl<J: History> Front<J> {
-    pub fn of(mark: Mark) -> Front<J>
-        requires { mark.origin ≡ origin_of J.book J.limits }
+impl<M: History> Front<M> {
+    pub fn of(mark: Mark) -> Front<M>
+        requires { mark.origin ≡ origin_of M.book M.limits }
         ensures { result ≡ mark.front }
     {
         Front {
@@ -46,7 +46,7 @@ impl<J: History> Front<J> {
     }
 
     pub fn mark(&self) -> &Mark
-        ensures { result.now ≡ known (origin_of J.book J.limits) self.now }
+        ensures { result.now ≡ known (origin_of M.book M.limits) self.now }
     {
         &self.mark
     }
@@ -54,36 +54,36 @@ impl<J: History> Front<J> {
     /// How many entries it has.
     pub fn len(&self) -> u64
         ensures length { result ≡ length self.now }
-        ensures legal { IsLegal J.limits.clients J.limits.comms self.now }
+        ensures legal { IsLegal M.limits.clients M.limits.comms self.now }
     {
         self.mark.len()
     }
 
     /// The same once more. It takes no memory.
-    pub fn again(&self) -> Front<J>
+    pub fn again(&self) -> Front<M>
         ensures { result ≡ self.now }
     {
         Front::of(self.mark.again())
     }
 
     /// Whether the other begins with this one. Of two fronts the shorter begins the longer.
-    pub fn begins(&self, other: &Front<J>) -> bool
+    pub fn begins(&self, other: &Front<M>) -> bool
         ensures begins { MatchBool result (IsPrefix self.now other.now) (IsPrefix other.now self.now × (length other.now < length self.now)) }
     {
         self.mark.begins(&other.mark)
     }
 
     /// Nothing follows an end: where the other has one, it begins with this.
-    pub fn within(&self, other: &Front<J>)
+    pub fn within(&self, other: &Front<M>)
         ensures { has_end other.now ≡ true → IsPrefix self.now other.now }
     {
         self.mark.within(&other.mark)
     }
 
     /// Adds an entry to all that was seen, and says whether it did. It did not where the history is longer.
-    pub fn extend(&mut self, head: &Head<J>, entry: &Arc<Entry, Global>) -> bool
+    pub fn extend(&mut self, head: &Head<M>, entry: &Arc<Entry, Global>) -> bool
         requires room { length self.old < 2 ^ 62 }
-        requires legal { IsLegal J.limits.clients J.limits.comms (self.old ++ arc_value entry.now ∷ []) }
+        requires legal { IsLegal M.limits.clients M.limits.comms (self.old ++ arc_value entry.now ∷ []) }
         ensures { MatchBool result (self.new ≡ self.old ++ arc_value entry.now ∷ []) (self.new ≡ self.old) }
     {
         self.mark.extend(head, entry)

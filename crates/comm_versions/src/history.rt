@@ -105,9 +105,9 @@ impl BlankHistory {
     }
 
     /// The history's word under a name, and the front that has seen nothing.
-    pub(crate) fn named<J: History>(self, clients: u8, comms: usize) -> (Head<J>, Front<J>)
-        requires book { self ≡ J.book }
-        requires limits { (clients ≡ J.limits.clients) × (comms ≡ J.limits.comms) }
+    pub(crate) fn named<M: History>(self, clients: u8, comms: usize) -> (Head<M>, Front<M>)
+        requires book { self ≡ M.book }
+        requires limits { (clients ≡ M.limits.clients) × (comms ≡ M.limits.comms) }
         ensures { result.1 ≡ [] }
     {
         let BlankHistory { head, seen } = self;
@@ -121,8 +121,8 @@ impl BlankHistory {
 
 /// The one word of the history that a program has: its length.
 #[derive(Drop)]
-pub struct Head<J: History> {
+pub struct Head<M: History> {
     pub(crate) head: Word<Entry, u64, Law>,
-    of: PhantomData<J>,
-    ghost head_is: { head ≡ head_of J.book },
+    of: PhantomData<M>,
+    ghost head_is: { head ≡ head_of M.book },
 }

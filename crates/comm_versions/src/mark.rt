@@ -90,8 +90,8 @@ impl Mark {
     }
 
     /// Adds an entry to all that was seen, and says whether it did. It did not where the history is longer.
-    pub fn extend<J: History>(&mut self, head: &Head<J>, entry: &Arc<Entry, Global>) -> bool
-        requires book { self.old.origin.book ≡ J.book }
+    pub fn extend<M: History>(&mut self, head: &Head<M>, entry: &Arc<Entry, Global>) -> bool
+        requires book { self.old.origin.book ≡ M.book }
         requires room { length self.old.front < 2 ^ 62 }
         requires legal { IsLegal self.old.origin.clients self.old.origin.limit (self.old.front ++ arc_value entry.now ∷ []) }
         ensures { MatchBool result (self.new ≡ known self.old.origin (self.old.front ++ arc_value entry.now ∷ [])) (self.new ≡ self.old) }

@@ -79,13 +79,13 @@ fn seat(shelf: &mut Shelf) -> Result<Lens, AllocError>
     Ok(lens)
 }
 
-fn seats<J: History>(
+fn seats<M: History>(
     alloc: Global,
-    front: &Front<J>,
+    front: &Front<M>,
     shelf: &mut Shelf,
     count: usize,
-) -> Result<Vec<VersionReader<J>>, OpeningFault>
-    requires { view shelf.old.desk.place ≡ (true, known (origin_of J.book J.limits) front.now) }
+) -> Result<Vec<VersionReader<M>>, OpeningFault>
+    requires { view shelf.old.desk.place ≡ (true, known (origin_of M.book M.limits) front.now) }
     ensures count { IfOk result (λ v. vec_len v ≡ count) }
     ensures readers { IfOk result (λ v. All (λ r. r ≡ front.now) v.items) }
     ensures shown { shelf.new.desk.shown.value ≡ shelf.old.desk.shown.value }
@@ -123,20 +123,20 @@ fn pair(
 }
 
 // Readers who know the front that is shown.
-fn opened<J: History, R: Wait>(
+fn opened<M: History, R: Wait>(
     rt: &R,
     alloc: Global,
-    front: &Front<J>,
+    front: &Front<M>,
     shelf: &mut Shelf,
     root: &Arc<Rows, Global>,
     count: usize,
-) -> Result<Vec<VersionReader<J>>, OpeningFault>
-    requires root { arc_value root.now ≡ rows (replay J.limits.comms front.now) }
-    requires shown { shelf.old.desk.shown.value.mark ≡ known (origin_of J.book J.limits) front.now }
+) -> Result<Vec<VersionReader<M>>, OpeningFault>
+    requires root { arc_value root.now ≡ rows (replay M.limits.comms front.now) }
+    requires shown { shelf.old.desk.shown.value.mark ≡ known (origin_of M.book M.limits) front.now }
     requires waits { drop shelf.old.behind shelf.old.log.items ≡ [] }
     ensures count { IfOk result (λ v. vec_len v ≡ count) }
     ensures readers { IfOk result (λ v. All (λ r. r ≡ front.now) v.items) }
-    ensures shown { OnOk result (shelf.new.desk.shown.value.mark ≡ known (origin_of J.book J.limits) front.now) }
+    ensures shown { OnOk result (shelf.new.desk.shown.value.mark ≡ known (origin_of M.book M.limits) front.now) }
     ensures waits { OnOk result (drop shelf.new.behind shelf.new.log.items ≡ []) }
 {
     if warm_up(rt, shelf, root, front.mark()).is_err() {
@@ -146,23 +146,23 @@ fn opened<J: History, R: Wait>(
 }
 
 /// Makes the versions of an empty history, with as many readers as it has clients. The caller picks its name.
-pub fn versions<J: History, R: Wait>(
+pub fn versions<M: History, R: Wait>(
     rt: &R,
     alloc: Global,
     history: BlankHistory,
     readers: u8,
     comms: usize,
-) -> Result<(VersionWriter<J>, Vec<VersionReader<J>>), OpeningFault>
-    requires book { history ≡ J.book }
+) -> Result<(VersionWriter<M>, Vec<VersionReader<M>>), OpeningFault>
+    requires book { history ≡ M.book }
     requires readers { (1 ≤ readers) × (readers ≤ 4) }
-    requires clients { readers ≡ J.limits.clients }
-    requires comms { comms ≡ J.limits.comms }
+    requires clients { readers ≡ M.limits.clients }
+    requires comms { comms ≡ M.limits.comms }
     ensures front { IfOk result (λ r. r.0.front ≡ []) }
     ensures pending { IfOk result (λ r. r.0.pending ≡ []) }
     ensures count { IfOk result (λ r. vec_len r.1 ≡ readers) }
     ensures readers { IfOk result (λ r. All (λ x. x ≡ []) r.1.items) }
 {
-    let (head, front) = history.named::<J>(readers, comms);
+    let (head, front) = history.named::<M>(readers, comms);
     let count = readers as usize;
     let Ok((mut shelf, root)) = pair(alloc, front.mark(), count) else {
         return Err(OpeningFault::Memory);

@@ -17,12 +17,12 @@ use std::sync::Arc;
 
 /// The front that is published, and a number of entries: after each beginning of more the same comms are listed. Contracts see the front.
 #[derive(Drop)]
-pub struct Published<J: History> {
-    front: Front<J>,
+pub struct Published<M: History> {
+    front: Front<M>,
     since: u64,
 }
 
-impl<J: History> Model for Published<J> {
+impl<M: History> Model for Published<M> {
     ghost use Rattle.std.specs.Prelude.{List};
     ghost use Rattle.comm_core.specs.declared.entry.Entry.{Entry};
     ghost use Rattle.comm_versions.specs.Code.{entries_code};
@@ -34,28 +34,28 @@ impl<J: History> Model for Published<J> {
 
     ghost view = { λ p. p.front };
 
-    ghost invariant = { λ p. IsSettled J.limits.comms p.since p.front };
+    ghost invariant = { λ p. IsSettled M.limits.comms p.since p.front };
 }
 
-impl<J: History> Published<J> {
-    pub fn new(front: Front<J>) -> Published<J>
+impl<M: History> Published<M> {
+    pub fn new(front: Front<M>) -> Published<M>
         ensures { result ≡ front }
     {
         let since = front.len();
         Published { front, since }
     }
 
-    pub fn front(&self) -> &Front<J>
+    pub fn front(&self) -> &Front<M>
         ensures { result.now ≡ self.now }
     {
         &self.front
     }
 
     /// Adds an entry, and says whether it did. It did not where the history is longer. The entry may list other comms where `relists` says so.
-    pub fn extend(&mut self, head: &Head<J>, entry: &Arc<Entry, Global>, relists: bool) -> bool
+    pub fn extend(&mut self, head: &Head<M>, entry: &Arc<Entry, Global>, relists: bool) -> bool
         requires room { length self.old < 2 ^ 62 }
-        requires legal { IsLegal J.limits.clients J.limits.comms (self.old ++ arc_value entry.now ∷ []) }
-        requires lists { relists ≡ false → ListAlike (rows (replay J.limits.comms self.old)) (rows (replay J.limits.comms (self.old ++ arc_value entry.now ∷ []))) }
+        requires legal { IsLegal M.limits.clients M.limits.comms (self.old ++ arc_value entry.now ∷ []) }
+        requires lists { relists ≡ false → ListAlike (rows (replay M.limits.comms self.old)) (rows (replay M.limits.comms (self.old ++ arc_value entry.now ∷ []))) }
         ensures { MatchBool result (self.new ≡ self.old ++ arc_value entry.now ∷ []) (self.new ≡ self.old) }
     {
         let before = self.front.len();
@@ -70,8 +70,8 @@ impl<J: History> Published<J> {
 
     /// The version of these comms.
     pub fn version(&self, root: Arc<Rows, Global>) -> Version
-        requires { arc_value root ≡ rows (replay J.limits.comms self.now) }
-        ensures { result.mark ≡ known (origin_of J.book J.limits) self.now }
+        requires { arc_value root ≡ rows (replay M.limits.comms self.now) }
+        ensures { result.mark ≡ known (origin_of M.book M.limits) self.now }
     {
         Version::settled(root, self.since, self.front.mark().again())
     }

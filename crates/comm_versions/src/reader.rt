@@ -36,12 +36,12 @@ struct Shown {
 
 /// Reads the comms that are shown. Contracts see the front that it has seen.
 #[derive(Drop)]
-pub struct VersionReader<J: History> {
+pub struct VersionReader<M: History> {
     lens: Lens,
-    sight: Sight<J>,
+    sight: Sight<M>,
 }
 
-impl<J: History> Model for VersionReader<J> {
+impl<M: History> Model for VersionReader<M> {
     ghost use Rattle.std.specs.Prelude.{List, ◌≡◌, true};
     ghost use Rattle.left_right.specs.Sides.{view as known_at};
     ghost use Rattle.comm_core.specs.declared.entry.Entry.{Entry};
@@ -54,7 +54,7 @@ impl<J: History> Model for VersionReader<J> {
 
     ghost view = { λ r. r.sight };
 
-    ghost invariant = { λ r. ((known_at r.lens.place).0 ≡ true) × ((known_at r.lens.place).1.origin ≡ origin_of J.book J.limits) };
+    ghost invariant = { λ r. ((known_at r.lens.place).0 ≡ true) × ((known_at r.lens.place).1.origin ≡ origin_of M.book M.limits) };
 }
 
 type Found = (Mark, Result<Version, AllocError>);
@@ -81,18 +81,18 @@ fn look(lens: Lens) -> (Lens, Option<Found>)
 
 // Sees what was found. NoVersion comes only where nothing was. A version whose root couldn't be shared is want of memory. So is
 // one that lags behind what was seen: there is none, since a stamp is made after its front was published, but no contract says so.
-fn see<J: History>(sight: &mut Sight<J>, found: Option<Found>) -> Result<Shown, ReadFault>
-    requires origin { IfSome found (λ r. r.0.origin ≡ origin_of J.book J.limits) }
+fn see<M: History>(sight: &mut Sight<M>, found: Option<Found>) -> Result<Shown, ReadFault>
+    requires origin { IfSome found (λ r. r.0.origin ≡ origin_of M.book M.limits) }
     requires version { IfSome found (λ r. IfOk r.1 (λ v. v.mark ≡ r.0)) }
     ensures later { IsPrefix sight.old sight.new }
-    ensures shown { IfOk result (λ r. (r.front ≡ length sight.new) × IsLegal J.limits.clients J.limits.comms sight.new × (arc_value r.root ≡ rows (replay J.limits.comms sight.new)) × IsSettled J.limits.comms r.since sight.new) }
+    ensures shown { IfOk result (λ r. (r.front ≡ length sight.new) × IsLegal M.limits.clients M.limits.comms sight.new × (arc_value r.root ≡ rows (replay M.limits.comms sight.new)) × IsSettled M.limits.comms r.since sight.new) }
     ensures nothing { IsErrOf result fault.NoVersion → found ≡ None }
     ensures none { IsErrOf result fault.NoVersion → sight.new ≡ sight.old }
 {
     let Some((mark, version)) = found else {
         return Err(ReadFault::NoVersion);
     };
-    let shown: Front<J> = Front::of(mark);
+    let shown: Front<M> = Front::of(mark);
     if !sight.front().begins(&shown) {
         return Err(ReadFault::Memory);
     }
@@ -108,9 +108,9 @@ fn see<J: History>(sight: &mut Sight<J>, found: Option<Found>) -> Result<Shown, 
     }
 }
 
-impl<J: History> VersionReader<J> {
-    pub(crate) fn new(lens: Lens, front: Front<J>) -> VersionReader<J>
-        requires { ((view lens.place).0 ≡ true) × ((view lens.place).1.origin ≡ origin_of J.book J.limits) }
+impl<M: History> VersionReader<M> {
+    pub(crate) fn new(lens: Lens, front: Front<M>) -> VersionReader<M>
+        requires { ((view lens.place).0 ≡ true) × ((view lens.place).1.origin ≡ origin_of M.book M.limits) }
         ensures { result ≡ front }
     {
         VersionReader {
@@ -122,7 +122,7 @@ impl<J: History> VersionReader<J> {
     // What is shown now. Its front begins with all that was seen before.
     fn enter(&mut self) -> Result<Shown, ReadFault>
         ensures later { IsPrefix self.old self.new }
-        ensures shown { IfOk result (λ r. (r.front ≡ length self.new) × IsLegal J.limits.clients J.limits.comms self.new × (arc_value r.root ≡ rows (replay J.limits.comms self.new)) × IsSettled J.limits.comms r.since self.new) }
+        ensures shown { IfOk result (λ r. (r.front ≡ length self.new) × IsLegal M.limits.clients M.limits.comms self.new × (arc_value r.root ≡ rows (replay M.limits.comms self.new)) × IsSettled M.limits.comms r.since self.new) }
         ensures none { IsErrOf result fault.NoVersion → self.new ≡ self.old }
     {
         let found = replace_with(&mut self.lens, (), |lens, _| look(lens));
@@ -136,10 +136,10 @@ impl<J: History> VersionReader<J> {
         shown: &Shown,
         asked: Option<&Text>,
     ) -> Result<Infos, AllocError>
-        requires root { arc_value shown.now.root ≡ rows (replay J.limits.comms self.old) }
-        requires settled { IsSettled J.limits.comms shown.now.since self.old }
+        requires root { arc_value shown.now.root ≡ rows (replay M.limits.comms self.old) }
+        requires settled { IsSettled M.limits.comms shown.now.since self.old }
         ensures seen { self.new ≡ self.old }
-        ensures comms { IfOk result (λ i. i ≡ infos (replay J.limits.comms self.old) (option_map (λ t. t.now) asked.entry)) }
+        ensures comms { IfOk result (λ i. i ≡ infos (replay M.limits.comms self.old) (option_map (λ t. t.now) asked.entry)) }
     {
         if let Some(comms) = self.sight.listed(shown.since, asked) {
             return comms.copy();
@@ -154,9 +154,9 @@ impl<J: History> VersionReader<J> {
     /// it is the same list, shared.
     pub fn read_infos(&mut self, alloc: Global, asked: Option<&Text>) -> Result<InfoRead, ReadFault>
         ensures later { IsPrefix self.old self.new }
-        ensures legal { OnOk result (IsLegal J.limits.clients J.limits.comms self.new) }
+        ensures legal { OnOk result (IsLegal M.limits.clients M.limits.comms self.new) }
         ensures front { IfOk result (λ r. r.front ≡ length self.new) }
-        ensures answer { IfOk result (λ r. r.comms ≡ infos (replay J.limits.comms self.new) (option_map (λ t. t.now) asked.entry)) }
+        ensures answer { IfOk result (λ r. r.comms ≡ infos (replay M.limits.comms self.new) (option_map (λ t. t.now) asked.entry)) }
         ensures none { IsErrOf result fault.NoVersion → self.new ≡ self.old }
     {
         let shown = self.enter()?;
@@ -173,9 +173,9 @@ impl<J: History> VersionReader<J> {
     /// NoVersion leaves what was seen.
     pub fn read_state(&mut self, id: &Text) -> Result<StateRead, ReadFault>
         ensures later { IsPrefix self.old self.new }
-        ensures legal { OnOk result (IsLegal J.limits.clients J.limits.comms self.new) }
+        ensures legal { OnOk result (IsLegal M.limits.clients M.limits.comms self.new) }
         ensures front { IfOk result (λ r. r.front ≡ length self.new) }
-        ensures answer { IfOk result (λ r. r.answer ≡ state_of (replay J.limits.comms self.new) id.now) }
+        ensures answer { IfOk result (λ r. r.answer ≡ state_of (replay M.limits.comms self.new) id.now) }
         ensures none { IsErrOf result fault.NoVersion → self.new ≡ self.old }
     {
         replays_are_consistent();
@@ -188,7 +188,7 @@ impl<J: History> VersionReader<J> {
     }
 
     /// From now on it sees no less than the stamp's front. It takes no memory.
-    pub fn hear(&mut self, stamp: &Stamp<J>)
+    pub fn hear(&mut self, stamp: &Stamp<M>)
         ensures one { (self.new ≡ self.old) ⊎ (self.new ≡ stamp.now) }
         ensures own { IsPrefix self.old self.new }
         ensures stamp { IsPrefix stamp.now self.new }
@@ -199,7 +199,7 @@ impl<J: History> VersionReader<J> {
     }
 
     /// All that it has seen stands in a history that has ended.
-    pub fn within(&self, stamp: &Stamp<J>)
+    pub fn within(&self, stamp: &Stamp<M>)
         ensures { has_end stamp.now ≡ true → IsPrefix self.now stamp.now }
     {
         self.sight.front().within(&stamp.front)
@@ -208,7 +208,7 @@ impl<J: History> VersionReader<J> {
     /// How many entries it has seen.
     pub fn seen(&self) -> u64
         ensures length { result ≡ length self.now }
-        ensures legal { IsLegal J.limits.clients J.limits.comms self.now }
+        ensures legal { IsLegal M.limits.clients M.limits.comms self.now }
     {
         self.sight.front().len()
     }

@@ -22,12 +22,12 @@ struct Listing {
 
 /// The front that a reader has seen, and the list of comms that it read last. Contracts see the front.
 #[derive(Drop)]
-pub struct Sight<J: History> {
-    front: Front<J>,
+pub struct Sight<M: History> {
+    front: Front<M>,
     last: Option<Listing>,
 }
 
-impl<J: History> Model for Sight<J> {
+impl<M: History> Model for Sight<M> {
     ghost use Rattle.std.specs.Prelude.{List, IfSome};
     ghost use Rattle.comm_core.specs.declared.entry.Entry.{Entry};
     ghost use Rattle.comm_versions.specs.Code.{entries_code};
@@ -39,7 +39,7 @@ impl<J: History> Model for Sight<J> {
 
     ghost view = { λ s. s.front };
 
-    ghost invariant = { λ s. IfSome s.last (λ l. WasListed J.limits.comms l.count l.asked l.comms s.front) };
+    ghost invariant = { λ s. IfSome s.last (λ l. WasListed M.limits.comms l.count l.asked l.comms s.front) };
 }
 
 // Whether both ask for the same comms.
@@ -53,21 +53,21 @@ fn is_same(one: &Option<Text>, other: Option<&Text>) -> bool
     }
 }
 
-impl<J: History> Sight<J> {
-    pub fn new(front: Front<J>) -> Sight<J>
+impl<M: History> Sight<M> {
+    pub fn new(front: Front<M>) -> Sight<M>
         ensures { result ≡ front }
     {
         Sight { front, last: None }
     }
 
-    pub fn front(&self) -> &Front<J>
+    pub fn front(&self) -> &Front<M>
         ensures { result.now ≡ self.now }
     {
         &self.front
     }
 
     /// Sees a front that begins with what was seen.
-    pub fn advance(&mut self, front: Front<J>)
+    pub fn advance(&mut self, front: Front<M>)
         requires { IsPrefix self.old front }
         ensures { self.new ≡ front }
     {
@@ -76,8 +76,8 @@ impl<J: History> Sight<J> {
 
     /// The list that was read last, where it was of these comms and all beginnings after it list the same.
     pub fn listed(&self, since: u64, asked: Option<&Text>) -> Option<&Infos>
-        requires { IsSettled J.limits.comms since self.now }
-        ensures { IfSome result (λ i. i.now ≡ infos (replay J.limits.comms self.now) (option_map (λ t. t.now) asked.entry)) }
+        requires { IsSettled M.limits.comms since self.now }
+        ensures { IfSome result (λ i. i.now ≡ infos (replay M.limits.comms self.now) (option_map (λ t. t.now) asked.entry)) }
     {
         match &self.last {
             Some(last) if since < last.count && is_same(&last.asked, asked) => Some(&last.comms),
@@ -87,7 +87,7 @@ impl<J: History> Sight<J> {
 
     /// Keeps a list that was read after this front. Err: memory.
     pub fn keep(&mut self, asked: Option<&Text>, comms: &Infos) -> Result<(), AllocError>
-        requires { comms.now ≡ infos (replay J.limits.comms self.old) (option_map (λ t. t.now) asked) }
+        requires { comms.now ≡ infos (replay M.limits.comms self.old) (option_map (λ t. t.now) asked) }
         ensures { self.new ≡ self.old }
     {
         let asked = match asked {

@@ -8,11 +8,11 @@ use std::marker::Model;
 
 /// A front that was published. Contracts see it as its entries.
 #[derive(Drop)]
-pub struct Stamp<J: History> {
-    pub(crate) front: Front<J>,
+pub struct Stamp<M: History> {
+    pub(crate) front: Front<M>,
 }
 
-impl<J: History> Model for Stamp<J> {
+impl<M: History> Model for Stamp<M> {
     ghost use Rattle.std.specs.Prelude.{List};
     ghost use Rattle.comm_core.specs.declared.entry.Entry.{Entry};
     ghost use Rattle.comm_versions.specs.Code.{entries_code};
@@ -24,8 +24,8 @@ impl<J: History> Model for Stamp<J> {
     ghost view = { λ s. s.front };
 }
 
-impl<J: History> Stamp<J> {
-    pub(crate) fn of(front: &Front<J>) -> Stamp<J>
+impl<M: History> Stamp<M> {
+    pub(crate) fn of(front: &Front<M>) -> Stamp<M>
         ensures { result ≡ front.now }
     {
         Stamp {
@@ -36,13 +36,13 @@ impl<J: History> Stamp<J> {
     /// How many entries it tells of.
     pub fn number(&self) -> u64
         ensures length { result ≡ length self.now }
-        ensures legal { IsLegal J.limits.clients J.limits.comms self.now }
+        ensures legal { IsLegal M.limits.clients M.limits.comms self.now }
     {
         self.front.len()
     }
 
     /// The same once more. It takes no memory.
-    pub fn copy(&self) -> Stamp<J>
+    pub fn copy(&self) -> Stamp<M>
         ensures { result ≡ self.now }
     {
         Stamp::of(&self.front)

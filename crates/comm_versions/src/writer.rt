@@ -21,9 +21,9 @@ use std::sync::{Arc, Wait};
 
 /// Adds entries to the history, and shows readers the comms after them. Contracts see what it has published, and what is to follow. It can't be
 /// dropped: `end` ends it.
-pub struct VersionWriter<J: History> {
-    head: Head<J>,
-    front: Published<J>,
+pub struct VersionWriter<M: History> {
+    head: Head<M>,
+    front: Published<M>,
     pending: VecDeque<Step>,
     // The rows after all that is to follow.
     next: Trail,
@@ -31,7 +31,7 @@ pub struct VersionWriter<J: History> {
     shelf: Shelf,
 }
 
-impl<J: History> Model for VersionWriter<J> {
+impl<M: History> Model for VersionWriter<M> {
     ghost use Rattle.std.specs.Prelude.{◌≡◌, ◌++◌, [], drop};
     ghost use Rattle.std.specs.Arc.{arc_value};
     ghost use Rattle.comm_core.specs.History.{IsLegal, replay};
@@ -46,19 +46,19 @@ impl<J: History> Model for VersionWriter<J> {
 
     ghost view = { λ w. record { front = w.front; pending = entries w.pending.items } };
 
-    ghost invariant = { λ w. (w.shelf.desk.shown.value.mark ≡ known (origin_of J.book J.limits) w.front) × (drop w.shelf.behind w.shelf.log.items ≡ []) × IsLegal J.limits.clients J.limits.comms (w.front ++ entries w.pending.items) × IsReady J.limits.comms w.front w.pending.items × (w.next ≡ rows (replay J.limits.comms (w.front ++ entries w.pending.items))) };
+    ghost invariant = { λ w. (w.shelf.desk.shown.value.mark ≡ known (origin_of M.book M.limits) w.front) × (drop w.shelf.behind w.shelf.log.items ≡ []) × IsLegal M.limits.clients M.limits.comms (w.front ++ entries w.pending.items) × IsReady M.limits.comms w.front w.pending.items × (w.next ≡ rows (replay M.limits.comms (w.front ++ entries w.pending.items))) };
 }
 
-impl<J: History> VersionWriter<J> {
+impl<M: History> VersionWriter<M> {
     pub(crate) fn new(
         alloc: Global,
-        head: Head<J>,
-        front: Front<J>,
+        head: Head<M>,
+        front: Front<M>,
         next: Arc<Rows, Global>,
         shelf: Shelf,
-    ) -> VersionWriter<J>
-        requires rows { arc_value next ≡ rows (replay J.limits.comms front) }
-        requires shown { shelf.desk.shown.value.mark ≡ known (origin_of J.book J.limits) front }
+    ) -> VersionWriter<M>
+        requires rows { arc_value next ≡ rows (replay M.limits.comms front) }
+        requires shown { shelf.desk.shown.value.mark ≡ known (origin_of M.book M.limits) front }
         requires pending { drop shelf.behind shelf.log.items ≡ [] }
         ensures front { result.front ≡ front }
         ensures pending { result.pending ≡ [] }
@@ -77,8 +77,8 @@ impl<J: History> VersionWriter<J> {
     /// Makes a change pending, of which the caller knows that it may come next, and that its row is what it changes. An error says that memory
     /// ran out; of what has to be done for a change to be published this is the last that can fail.
     pub fn append(&mut self, change: Change) -> Result<(), AllocError>
-        requires legal { IsLegal J.limits.clients J.limits.comms ((self.old.front ++ self.old.pending) ++ arc_value change.entry ∷ []) }
-        requires row { with_row change.row (rows (replay J.limits.comms (self.old.front ++ self.old.pending))) ≡ rows (replay J.limits.comms ((self.old.front ++ self.old.pending) ++ arc_value change.entry ∷ [])) }
+        requires legal { IsLegal M.limits.clients M.limits.comms ((self.old.front ++ self.old.pending) ++ arc_value change.entry ∷ []) }
+        requires row { with_row change.row (rows (replay M.limits.comms (self.old.front ++ self.old.pending))) ≡ rows (replay M.limits.comms ((self.old.front ++ self.old.pending) ++ arc_value change.entry ∷ [])) }
         ensures front { self.new.front ≡ self.old.front }
         ensures pending { OnOk result (self.new.pending ≡ self.old.pending ++ arc_value change.entry ∷ []) }
         ensures err { OnErr result (self.new ≡ self.old) }
@@ -105,7 +105,7 @@ impl<J: History> VersionWriter<J> {
     }
 
     /// Tells of the front that is published. It takes no memory.
-    pub fn stamp(&self) -> Stamp<J>
+    pub fn stamp(&self) -> Stamp<M>
         ensures { result ≡ self.now.front }
     {
         Stamp::of(self.front.front())

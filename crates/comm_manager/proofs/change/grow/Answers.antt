@@ -12,7 +12,7 @@ use Rattle.comm_manager.proofs.change.grow.Goals as goal
 
 pub append-requires-clause-row : goal.append-requires-clause-row
 append-requires-clause-row g c =
-    let limits = g.J.History.limits in
+    let limits = g.M.History.limits in
     let r = c.args.begun.now in
     let t = c.args.ticket.now in
     let es = c.args.writer.now.front ++ c.args.writer.now.pending in

@@ -9,7 +9,7 @@ use Rattle.comm_manager.proofs.inner.close.Goals as goal
 
 pub append-requires-clause-row : goal.append-requires-clause-row
 append-requires-clause-row g c =
-    let limits = g.J.History.limits in
+    let limits = g.M.History.limits in
     let w = c.args.writer.now in
     let h = c.args.journal.now.all in
     let es = w.front ++ w.pending in

@@ -9,5 +9,5 @@ use Rattle.comm_versions.proofs.adding.add_all.Goals as goal
 pub add-requires-clause-legal : goal.add-requires-clause-legal
 add-requires-clause-legal g c =
     let is : c.loop-step.pending.items ≡ c.in-Some.step ∷ c.pop_front.new.self.items = c.in-Some.ensures.items in
-    let P = λ (l : List Step). IsLegal g.J.History.limits.clients g.J.History.limits.comms (c.loop-step.front ++ entries l) in
-    first_legal g.J.History.limits.clients g.J.History.limits.comms c.prefixes_of_legal_histories_are_legal.ensures c.loop-step.front (arc_value c.in-Some.step.entry) (entries c.pop_front.new.self.items) (subst P is c.loop-step.invariant.2)
+    let P = λ (l : List Step). IsLegal g.M.History.limits.clients g.M.History.limits.comms (c.loop-step.front ++ entries l) in
+    first_legal g.M.History.limits.clients g.M.History.limits.comms c.prefixes_of_legal_histories_are_legal.ensures c.loop-step.front (arc_value c.in-Some.step.entry) (entries c.pop_front.new.self.items) (subst P is c.loop-step.invariant.2)

@@ -9,7 +9,7 @@ use Rattle.comm_versions.proofs.published.Published.extend.Goals as goal
 
 pub invariant_of-self-else-relists : goal.invariant_of-self-else-relists
 invariant_of-self-else-relists g c =
-    let limit = g.J.History.limits.comms in
+    let limit = g.M.History.limits.comms in
     let front = c.self.inside.front in
     let e = arc_value c.args.entry.now in
     let is = c.if-not-extend.ensures in

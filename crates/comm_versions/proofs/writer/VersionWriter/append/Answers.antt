@@ -12,8 +12,8 @@ use Rattle.comm_versions.proofs.writer.VersionWriter.append.Goals as goal
 
 pub invariant_of-self-2 : goal.invariant_of-self-2
 invariant_of-self-2 g c =
-    let clients = g.J.History.limits.clients in
-    let comms = g.J.History.limits.comms in
+    let clients = g.M.History.limits.clients in
+    let comms = g.M.History.limits.comms in
     let e = arc_value c.args.change.entry in
     let r = c.args.change.row in
     let w = c.self.inside in

@@ -1,0 +1,112 @@
+//! What a manager is made of before it has a name.
+ghost use Rattle.std.specs.Prelude.{◌≡◌, ◌≤◌, ◌++◌, [], ◌∷◌, All, IfOk, IfErr, nat_lt, ◌+◌, ◌<◌, ◌-◌, vec_len, if◌then◌else◌};
+ghost use Rattle.comm_core.specs.Limits.{AreAllowed};
+ghost use Rattle.comm_manager.specs.Tally.{tally};
+ghost use Rattle.comm_manager.specs.Who.{who, all_new};
+ghost use Rattle.comm_manager.specs.Why.{Barred};
+
+use crate::client::Client;
+use crate::ledger::{Ticket, Tickets};
+use crate::manager_id::ManagerId;
+use comm_core::{Limits, NewFault};
+use comm_outbox::{Outbox, outbox};
+use comm_versions::{BlankHistory, VersionReader};
+use std::alloc::{AllocError, Global};
+use std::marker::Model;
+use std::sync::ledger::Blank;
+
+/// A manager that has no name yet. Contracts see what it is to be named by.
+#[derive(Drop)]
+pub struct ManagerBuilder {
+    pub(crate) limits: Limits,
+    pub(crate) history: BlankHistory,
+    pub(crate) outbox: Outbox,
+    pub(crate) publisher: comm_outbox::Publisher,
+    pub(crate) first: Blank,
+    pub(crate) second: Blank,
+    pub(crate) third: Blank,
+    pub(crate) fourth: Blank,
+}
+
+impl Model for ManagerBuilder {
+    ghost use Rattle.std.specs.Prelude.{◌≡◌, ◌+◌};
+    ghost use Rattle.comm_core.specs.Limits.{AreAllowed};
+    ghost use Rattle.comm_outbox.specs.Sides.{unfilled, untouched};
+    ghost use Rattle.comm_manager.specs.Names.{Names};
+
+    ghost Value = { Names };
+
+    ghost view = { λ o. record { book = o.history; first = o.first.name; second = o.second.name; third = o.third.name; fourth = o.fourth.name; queue = o.outbox.line; limits = o.limits } };
+
+    ghost invariant = { λ o. (o.first.parts ≡ 1) × (o.second.parts ≡ 1) × (o.third.parts ≡ 1) × (o.fourth.parts ≡ 1) × AreAllowed o.limits × (o.outbox ≡ unfilled o.outbox.line o.limits.clients o.limits.comms (o.limits.outbox + 1)) × (o.publisher ≡ untouched o.outbox.line o.limits.clients o.limits.comms) };
+}
+
+impl ManagerBuilder {
+    /// BadLimits exactly where a limit is out of its bounds, and Memory for want of it.
+    pub fn new(alloc: Global, limits: Limits) -> Result<ManagerBuilder, NewFault>
+        ensures limits { IfOk result (λ o. (o.limits ≡ limits) × AreAllowed limits) }
+        ensures err { IfErr result (λ e. Barred limits e) }
+    {
+        if !limits.are_allowed() {
+            return Err(NewFault::BadLimits);
+        }
+        // One place more than entries may wait: for an end.
+        match outbox(alloc, limits.outbox + 1, limits.clients, limits.comms) {
+            Ok((outbox, publisher)) => Ok(ManagerBuilder {
+                limits,
+                history: BlankHistory::new(),
+                outbox,
+                publisher,
+                first: Blank::new(1),
+                second: Blank::new(1),
+                third: Blank::new(1),
+                fourth: Blank::new(1),
+            }),
+            Err(_) => Err(NewFault::Memory),
+        }
+    }
+}
+
+// The clients and one more, if a reader is left for it.
+fn added<M: ManagerId>(
+    clients: Vec<Client<M>>,
+    readers: &mut Vec<VersionReader<M>>,
+    ticket: Ticket<M>,
+) -> Result<Vec<Client<M>>, AllocError>
+    requires ticket { (ticket.client < 4) × (ticket.number ≡ 0) }
+    requires readers { vec_len readers.old ≡ M.limits.clients - ticket.client }
+    requires none { All (λ r. r ≡ []) readers.old.items }
+    ensures clients { IfOk result (λ v. v.items ≡ (if nat_lt ticket.client M.limits.clients then clients.items ++ who ticket.client 0 [] ∷ [] else clients.items)) }
+    ensures readers { vec_len readers.new ≡ M.limits.clients - (ticket.client + 1) }
+    ensures none { All (λ r. r ≡ []) readers.new.items }
+{
+    let mut clients = clients;
+    if let Some(reader) = readers.pop() {
+        clients.push(Client::new(reader, ticket))?;
+    }
+    Ok(clients)
+}
+
+/// The clients that a manager begins with, one for each reader.
+pub fn first_clients<M: ManagerId>(
+    alloc: Global,
+    readers: Vec<VersionReader<M>>,
+    tickets: Tickets<M>,
+) -> Result<Vec<Client<M>>, AllocError>
+    requires count { (1 ≤ M.limits.clients) × (M.limits.clients ≤ 4) }
+    requires readers { (vec_len readers ≡ M.limits.clients) × All (λ r. r ≡ []) readers.items }
+    requires tickets { (tickets.first ≡ tally 0 0) × (tickets.second ≡ tally 1 0) × (tickets.third ≡ tally 2 0) × (tickets.fourth ≡ tally 3 0) }
+    ensures { IfOk result (λ v. v.items ≡ all_new M.limits.clients) }
+{
+    let Tickets {
+        first,
+        second,
+        third,
+        fourth,
+    } = tickets;
+    let mut readers = readers;
+    let one = added(Vec::new(alloc), &mut readers, first)?;
+    let two = added(one, &mut readers, second)?;
+    let three = added(two, &mut readers, third)?;
+    added(three, &mut readers, fourth)
+}

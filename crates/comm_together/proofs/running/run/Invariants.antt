@@ -1,8 +1,0 @@
-use Rattle.comm_manager.specs.Names.{named}
-use Rattle.comm_together.proofs.running.run.Given as goal
-
-abbrev pub ghosts-opened-J-History : goal.ghosts-opened-J-History
-ghosts-opened-J-History g a = record { book = a.opening.book; limits = a.opening.limits }
-
-abbrev pub ghosts-opened-J-Naming : goal.ghosts-opened-J-Naming
-ghosts-opened-J-Naming g a = record { ledgers = named a.opening.first a.opening.second a.opening.third a.opening.fourth; queue = a.opening.queue }

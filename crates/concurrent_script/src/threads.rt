@@ -1,0 +1,40 @@
+//! All clients at work at once.
+use crate::desk::Desk;
+use crate::player::played;
+use crate::script::Part;
+use client_threads::at_work;
+use comm_manager::{Client, Manager, ManagerId, Publisher};
+use comm_targets::Target;
+use std::sync::Wait;
+use std::thread::Threads;
+
+// What the thread of the client at this place does.
+fn played_at<M: ManagerId, T: Target, R: Wait>(
+    rt: &R,
+    manager: &Manager<M, T>,
+    desk: &Desk<M, T>,
+    parts: &[Part],
+    place: usize,
+    client: &mut Client<M>,
+) {
+    if let Some(part) = parts.get(place) {
+        played(rt, manager, desk, client, part);
+    }
+}
+
+/// Lets each client play its part, and a thread of its own take what goes out.
+pub(crate) fn play_at_once<M: ManagerId + Send + Sync, T: Target, R: Threads + Wait + Sync>(
+    rt: &R,
+    manager: &Manager<M, T>,
+    desk: &Desk<M, T>,
+    parts: &[Part],
+    publisher: &mut Publisher<M>,
+    clients: &mut [Client<M>],
+) {
+    at_work(
+        rt,
+        publisher,
+        &|place, client| played_at(rt, manager, desk, parts, place, client),
+        clients,
+    );
+}
