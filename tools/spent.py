@@ -1,4 +1,5 @@
-"""Processor time of the compiler's processes, by crate: they are looked at while they run, so the last second or two of each isn't counted."""
+"""Processor time of the compiler's processes below this one, by crate: they are looked at while they run, so the last second or two of each
+isn't counted."""
 import os
 from collections import defaultdict
 from pathlib import Path
@@ -13,6 +14,21 @@ def kind_of(words, folder):
     return "tests" if "--test" in words else "proof"
 
 
+def fields_of(process):
+    """What /proc tells of a process behind its name: its state, its parent's number, and so on."""
+    return (process / "stat").read_text().rsplit(")", 1)[1].split()
+
+
+def is_below(process, top):
+    """Whether the process was begun by the one of this number, or by one below it."""
+    while process.name not in ("0", "1"):
+        parent = fields_of(process)[1]
+        if parent == str(top):
+            return True
+        process = process.with_name(parent)
+    return False
+
+
 class Spent:
     def __init__(self):
         self.seconds = {}
@@ -24,9 +40,9 @@ class Spent:
                 continue
             try:
                 words = (process / "cmdline").read_text().split("\0")
-                if "--crate-name" not in words:
+                if "--crate-name" not in words or not is_below(process, os.getpid()):
                     continue
-                fields = (process / "stat").read_text().rsplit(")", 1)[1].split()
+                fields = fields_of(process)
                 folder = os.readlink(process / "cwd")
             except OSError:
                 continue
