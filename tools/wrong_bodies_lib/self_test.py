@@ -101,6 +101,23 @@ class Sums(Room):
         self.assertFalse(self.changes("crates/low/wrong-bodies/two.edit", "file: src/lib.rt\n", "low"))
         self.assertFalse(self.changes("crates.txt", "high: low # above\nlow : json\n", "high"))
 
+    def test_of_a_crate_below_bodies_leave_the_sum_and_contracts_change_it(self):
+        source = "pub fn f(\n    n: u8,\n) -> u8\n    ensures {{ {0} }}\n{{\n    {1}\n}}\n\npub const fn g() -> u8 {{\n    {2}\n}}\n"
+        self.write("crates/low/src/lib.rt", source.format("a", "b", "c"))
+        self.assertFalse(self.changes("crates/low/src/lib.rt", source.format("a", "d", "c"), "high"))
+        self.assertTrue(self.changes("crates/low/src/lib.rt", source.format("a", "e", "c"), "low"))
+        self.assertTrue(self.changes("crates/low/src/lib.rt", source.format("b", "e", "c"), "high"))
+        self.assertTrue(self.changes("crates/low/src/lib.rt", source.format("b", "e", "d"), "high"))
+
+    def test_what_a_source_states(self):
+        for source, stated in (
+            ("fn f() {\n    g();\n}\nstruct S {\n    a: u8,\n}", "fn f() {\n}\nstruct S {\n    a: u8,\n}"),
+            ("trait T {\n    fn f(&self) -> u8\n        ensures { a };\n    fn g();\n}", "trait T {\n    fn f(&self) -> u8\n        ensures { a };\n    fn g();\n}"),
+            ("    fn f()\n        ensures { λ n.\n            n }\n    {\n        loop {\n        }\n    }\n    b", "    fn f()\n        ensures { λ n.\n            n }\n    {\n    }\n    b"),
+            ("fn f() {}\nfn g() {\n    h();", "fn f() {}\nfn g() {\n    h();"),
+        ):
+            self.assertEqual(sums.stated(source), stated)
+
     def test_a_comment_at_the_end_of_a_line_counts(self):
         self.assertEqual(sums.said("a // b\n  // c\n\nd\n", ".rt"), "a // b\nd")
 

@@ -1,11 +1,13 @@
 """A sum of all that the outcome of a wrong body depends on: the edit, its crate, the statements of the crates below, and the kit.
 
-Of the crates below, the check reads what they state: sources with contracts, definitions, and lemmas. Not the answers that prove their
-functions: the gate builds each library as its statements alone. Lines that are blank or only a comment change nothing and are left out."""
+Of the crates below, the check reads what they state: items and contracts, definitions, and lemmas. Neither the bodies of their functions nor the
+answers that prove them: the gate builds each library as its statements alone. Lines that are blank or only a comment change nothing and are left
+out."""
 import hashlib
+import re
 from pathlib import Path
 
-FORM = "1"
+FORM = "2"
 COMMENTS = {".rt": "//", ".antt": "--"}
 ANSWERS = ("Answers.antt", "Invariants.antt", "Proof.antt")
 
@@ -14,6 +16,30 @@ def said(text, suffix):
     """The text without the lines that are blank or only a comment."""
     mark = COMMENTS[suffix]
     return "\n".join(line for line in text.splitlines() if line.strip() and not line.lstrip().startswith(mark))
+
+
+FUNCTION = re.compile(r"^( *)(?:pub(?:\([a-z]+\))? )?(?:unsafe |final )*fn ")
+CLAUSE = re.compile(r"^ *(?:requires|ensures|decreases|where)\b")
+
+
+def stated(text):
+    """A source in rt fmt's layout without the bodies of its functions. Those of constant functions stay, and so does what isn't laid out as
+    expected."""
+    kept, lines, at = [], text.split("\n"), 0
+    while at < len(lines):
+        kept.append(lines[at])
+        function = FUNCTION.match(lines[at])
+        at += 1
+        if not function:
+            continue
+        indent, line = function[1], kept[-1]
+        while at < len(lines) and not (line.endswith((" {", ";")) and not CLAUSE.match(line)) and line != indent + "{":
+            line = lines[at]
+            kept.append(line)
+            at += 1
+        if line.endswith("{") and indent + "}" in lines[at:]:
+            at = lines.index(indent + "}", at)
+    return "\n".join(kept)
 
 
 def listed(text):
@@ -54,7 +80,10 @@ class Sums:
             for part in ("src", "specs", "proofs"):
                 for path in sorted((folder / part).rglob("*")):
                     if path.suffix in COMMENTS and not (is_below and part == "proofs" and path.name in ANSWERS):
-                        total.update(repr((str(path.relative_to(folder)), said(path.read_text(), path.suffix))).encode())
+                        text = path.read_text()
+                        if is_below and path.suffix == ".rt":
+                            text = stated(text)
+                        total.update(repr((str(path.relative_to(folder)), said(text, path.suffix))).encode())
             self.known[key] = total.hexdigest()
         return self.known[key]
 
