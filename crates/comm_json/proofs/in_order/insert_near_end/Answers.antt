@@ -1,6 +1,6 @@
 use Rattle.std.proofs.Common.{◌-◌, ◌∙◌, sym, arith, refl}
 use Rattle.comm_json.proofs.MemberOrder.{let_in_above, let_in_first, let_in_place}
-use Rattle.comm_json.proofs.in_order.let_in.Goals as goal
+use Rattle.comm_json.proofs.in_order.insert_near_end.Goals as goal
 
 pub returns-in-Greater : goal.returns-in-Greater
 returns-in-Greater c done =
