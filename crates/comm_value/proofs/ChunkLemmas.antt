@@ -1,11 +1,11 @@
--- A key sought, and a member put, in one piece of a dict.
+-- A key sought, and a member put, in one chunk of a dict.
 use Rattle.std.proofs.Common.{◌≡◌, ℕ, suc, ◌<◌, ◌+◌, List, [], ◌∷◌, ◌++◌, length, get_or, take, drop, Global, Vec, Ordering, Less, Equal, Greater, true, refl, sym, ap, ◌∙◌, arith, subst, add-one}
 use Rattle.std.specs.Prelude.{Some, if◌then◌else◌}
 use Rattle.std.specs.Ordering.{is_eq, match_ordering}
 use Rattle.std.specs.Arc.{arc_value}
 use Rattle.comm_value.specs.declared.val.Member.{Member}
 use Rattle.comm_value.specs.Tree.{Tree, Members, member}
-use Rattle.comm_value.specs.View.{tree, members_of, Piece, flat}
+use Rattle.comm_value.specs.View.{tree, members_of, Chunk, flat}
 use Rattle.comm_value.specs.Order.{key_cmp, is_first, members_ordered}
 use Rattle.comm_value.specs.Node.{get}
 use Rattle.comm_value.specs.Put.{insert}
@@ -32,7 +32,7 @@ ordered_left (x ∷ xs) ys o =
     let p = parts x.key (tree x.value) (members_of (xs ++ ys)) o in
     whole x.key (tree x.value) (members_of xs) (first_left x.key xs ys p.first) p.value (ordered_left xs ys p.rest)
 
--- ---- the piece of a key
+-- ---- the chunk of a key
 
 above_first : (k : List ℕ) (xs : List Member) (y : Member) (zs : List Member) → is_first k (members_of (xs ++ y ∷ zs)) ≡ true → members_ordered (members_of (xs ++ y ∷ zs)) ≡ true → key_cmp k y.key ≡ Less
 above_first k [] y zs f o = is_less (key_cmp k y.key) f
@@ -58,28 +58,28 @@ first_of : (xs : List Member) (x : Member) → 0 < length xs → x ≡ get_or xs
 first_of [] x h is = absurd (omega arith)
 first_of (y ∷ ys) x h is = ap (λ (z : Member). z ∷ ys) (sym is)
 
--- the members from piece i on, the first of which is x
-from_first : (ps : List Piece) (i : ℕ) (p : Piece) (v : Vec Member Global) (xs : List Member) (x : Member) → i < length ps → p ≡ get_or ps i p → v ≡ arc_value p → xs ≡ v.items → 0 < length xs → x ≡ get_or xs 0 x
+-- the members from chunk i on, the first of which is x
+from_first : (ps : List Chunk) (i : ℕ) (p : Chunk) (v : Vec Member Global) (xs : List Member) (x : Member) → i < length ps → p ≡ get_or ps i p → v ≡ arc_value p → xs ≡ v.items → 0 < length xs → x ≡ get_or xs 0 x
     → flat (drop i ps) ≡ x ∷ (drop 1 xs ++ flat (drop (i + 1) ps))
 from_first ps i p v xs x h is deref items some here = opened ps i p v xs h is deref items ∙ ap (λ l. l ++ flat (drop (i + 1) ps)) (first_of xs x some here)
 
-pub absent_from : (k : List ℕ) (ps : List Piece) (i : ℕ) (p : Piece) (v : Vec Member Global) (xs : List Member) (x : Member) → i < length ps → p ≡ get_or ps i p → v ≡ arc_value p → xs ≡ v.items → 0 < length xs → x ≡ get_or xs 0 x
+pub absent_from : (k : List ℕ) (ps : List Chunk) (i : ℕ) (p : Chunk) (v : Vec Member Global) (xs : List Member) (x : Member) → i < length ps → p ≡ get_or ps i p → v ≡ arc_value p → xs ≡ v.items → 0 < length xs → x ≡ get_or xs 0 x
     → key_cmp k x.key ≡ Less → IsAbsent k (flat (drop i ps))
 absent_from k ps i p v xs x h is deref items some here less = subst (IsAbsent k) (sym (from_first ps i p v xs x h is deref items some here)) less
 
-pub below_from : (k : List ℕ) (ps : List Piece) (i : ℕ) (p : Piece) (v : Vec Member Global) (xs : List Member) (x : Member) → i < length ps → p ≡ get_or ps i p → v ≡ arc_value p → xs ≡ v.items → 0 < length xs → x ≡ get_or xs 0 x
+pub below_from : (k : List ℕ) (ps : List Chunk) (i : ℕ) (p : Chunk) (v : Vec Member Global) (xs : List Member) (x : Member) → i < length ps → p ≡ get_or ps i p → v ≡ arc_value p → xs ≡ v.items → 0 < length xs → x ≡ get_or xs 0 x
     → members_ordered (members_of (flat ps)) ≡ true → (key_cmp k x.key ≡ Less → ⊥) → AllBelow k (flat (take i ps))
 below_from k ps i p v xs x h is deref items some here o more =
     let cut : flat ps ≡ flat (take i ps) ++ x ∷ (drop 1 xs ++ flat (drop (i + 1) ps)) = flat_cut ps i ∙ ap (λ l. flat (take i ps) ++ l) (from_first ps i p v xs x h is deref items some here) in
     below_front k (flat (take i ps)) x (drop 1 xs ++ flat (drop (i + 1) ps)) (ap (λ l. members_ordered (members_of l)) (sym cut) ∙ o) more
 
--- ---- a dict around a piece
+-- ---- a dict around a chunk
 
-pub around : (ps : List Piece) (i : ℕ) (p : Piece) (v : Vec Member Global) (xs : List Member) → i < length ps → p ≡ get_or ps i p → v ≡ arc_value p → xs ≡ v.items → flat ps ≡ flat (take i ps) ++ (xs ++ flat (drop (i + 1) ps))
+pub around : (ps : List Chunk) (i : ℕ) (p : Chunk) (v : Vec Member Global) (xs : List Member) → i < length ps → p ≡ get_or ps i p → v ≡ arc_value p → xs ≡ v.items → flat ps ≡ flat (take i ps) ++ (xs ++ flat (drop (i + 1) ps))
 around ps i p v xs h is deref items = flat_cut ps i ∙ ap (λ l. flat (take i ps) ++ l) (opened ps i p v xs h is deref items)
 
-pub ordered_piece : (ms before xs after : List Member) → ms ≡ before ++ (xs ++ after) → members_ordered (members_of ms) ≡ true → members_ordered (members_of xs) ≡ true
-ordered_piece ms before xs after cut o = ordered_left xs after (ordered_right before (xs ++ after) (ap (λ l. members_ordered (members_of l)) (sym cut) ∙ o))
+pub ordered_chunk : (ms before xs after : List Member) → ms ≡ before ++ (xs ++ after) → members_ordered (members_of ms) ≡ true → members_ordered (members_of xs) ≡ true
+ordered_chunk ms before xs after cut o = ordered_left xs after (ordered_right before (xs ++ after) (ap (λ l. members_ordered (members_of l)) (sym cut) ∙ o))
 
 get_past : (k : List ℕ) (xs ys : List Member) → AllBelow k xs → get k (members_of (xs ++ ys)) ≡ get k (members_of ys)
 get_past k [] ys b = refl
@@ -89,8 +89,8 @@ get_before : (k : List ℕ) (xs ys : List Member) → IsAbsent k ys → members_
 get_before k [] ys a o = none_first k (members_of ys) (first_absent k ys a) o
 get_before k (x ∷ xs) ys a o = ap (λ g. if is_eq (key_cmp k x.key) then Some (tree x.value) else g) (get_before k xs ys a o)
 
-pub get_piece : (k : List ℕ) (ms before xs after : List Member) (all : Members) → ms ≡ before ++ (xs ++ after) → members_of ms ≡ all → members_ordered all ≡ true → AllBelow k before → IsAbsent k after → get k (members_of xs) ≡ get k all
-get_piece k ms before xs after all cut view o b a =
+pub get_chunk : (k : List ℕ) (ms before xs after : List Member) (all : Members) → ms ≡ before ++ (xs ++ after) → members_of ms ≡ all → members_ordered all ≡ true → AllBelow k before → IsAbsent k after → get k (members_of xs) ≡ get k all
+get_chunk k ms before xs after all cut view o b a =
     let order : members_ordered (members_of (before ++ (xs ++ after))) ≡ true = ap (λ l. members_ordered (members_of l)) (sym cut) ∙ ap members_ordered view ∙ o in
     sym (get_past k before (xs ++ after) b ∙ get_before k xs after a (ordered_right xs after (ordered_right before (xs ++ after) order))) ∙ ap (λ l. get k (members_of l)) (sym cut) ∙ ap (get k) view
 
@@ -113,20 +113,20 @@ insert_past : (k : List ℕ) (t : Tree) (xs ys : List Member) → AllBelow k xs 
 insert_past k t [] ys b = refl
 insert_past k t (x ∷ xs) ys b = rw b.0 (ap (member_of x) (insert_past k t xs ys b.1))
 
--- a piece in which the member was put, among the others
-pub insert_piece : (k : List ℕ) (t : Tree) (ms before xs after put new : List Member) → ms ≡ before ++ (xs ++ after) → AllBelow k before → IsAbsent k after
+-- a chunk in which the member was put, among the others
+pub insert_chunk : (k : List ℕ) (t : Tree) (ms before xs after put new : List Member) → ms ≡ before ++ (xs ++ after) → AllBelow k before → IsAbsent k after
     → members_of put ≡ insert k t (members_of xs) → new ≡ before ++ (put ++ after) → members_of new ≡ insert k t (members_of ms)
-insert_piece k t ms before xs after put new cut b a done is =
+insert_chunk k t ms before xs after put new cut b a done is =
     ap members_of is ∙ join_lists before (put ++ after) ∙ ap (join (members_of before)) (join_lists put after ∙ ap (λ l. join l (members_of after)) done ∙ sym (insert_before k t xs after a))
     ∙ sym (insert_past k t before (xs ++ after) b) ∙ ap (λ l. insert k t (members_of l)) (sym cut)
 
--- the piece was taken out, changed and let in again
-pub put_back : (ps slice rest : List Piece) (i : ℕ) (q : Piece) (s : List ℕ) (m : Member) (members changed new : List Member) → i < length ps → slice ≡ ps → s ≡ m.key → q ≡ get_or ps i q → rest ≡ take i ps ++ drop (suc i) ps
+-- the chunk was taken out, changed and let in again
+pub put_back : (ps slice rest : List Chunk) (i : ℕ) (q : Chunk) (s : List ℕ) (m : Member) (members changed new : List Member) → i < length ps → slice ≡ ps → s ≡ m.key → q ≡ get_or ps i q → rest ≡ take i ps ++ drop (suc i) ps
     → AllBelow s (flat (take i slice)) → IsAbsent s (flat (drop (i + 1) slice)) → members ≡ (arc_value q).items → members_of changed ≡ insert m.key (tree m.value) (members_of members)
     → new ≡ flat (take i rest) ++ (changed ++ flat (drop i rest)) → members_of new ≡ insert m.key (tree m.value) (members_of (flat ps))
 put_back ps slice rest i q s m members changed new h same key is out below above own done made =
     let b : AllBelow m.key (flat (take i ps)) = rw (same, key) at below in
     let a : IsAbsent m.key (flat (drop (i + 1) ps)) = rw (same, key) at above in
     let after : flat (drop i rest) ≡ flat (drop (i + 1) ps) = ap (λ l. flat (drop i l)) out ∙ ap flat (drop_rest ps i h) ∙ ap (λ n. flat (drop n ps)) (sym (add-one i)) in
-    insert_piece m.key (tree m.value) (flat ps) (flat (take i ps)) members (flat (drop (i + 1) ps)) changed new (around ps i q (arc_value q) members h is refl own) b a done
+    insert_chunk m.key (tree m.value) (flat ps) (flat (take i ps)) members (flat (drop (i + 1) ps)) changed new (around ps i q (arc_value q) members h is refl own) b a done
     (made ∙ ap (λ l. flat l ++ (changed ++ flat (drop i rest))) (ap (take i) out ∙ take_rest ps i h) ∙ ap (λ l. flat (take i ps) ++ (changed ++ l)) after)
