@@ -20,7 +20,7 @@ use Rattle.comm_core.specs.contracts.manager.Core as core
 use Rattle.comm_core.specs.contracts.comms.Comms as comms
 use Rattle.comm_core.specs.contracts.comm.Comm as comm
 use Rattle.comm_messages.proofs.infos.Infos.TheSendSync as Infos
-use Rattle.comm_tables.proofs.table.Table.TheSendSync as Table
+use Rattle.ordered_table.proofs.table.Table.TheSendSync as Table
 use Rattle.comm_targets.proofs.Sends.{echo_sends, counter_sends}
 use Rattle.comm_targets.specs.contracts.counter.Counter as counter
 use Rattle.comm_targets.specs.contracts.echo.Echo as echo

@@ -10,7 +10,7 @@ ghost use Rattle.comm_c.specs.Parted.{AddUp, AreJson, IsJson, frames_in, frames_
 
 use crate::content::append;
 use base64::engine::general_purpose::STANDARD;
-use comm_json::{LineFault, LineRoom, read_line};
+use comm_json::{JsonFault, ParseArena, read_line};
 use comm_value::write_text;
 use std::alloc::{AllocError, Global};
 
@@ -26,13 +26,13 @@ pub struct Parts<'a> {
 }
 
 // Whether it is one JSON text.
-fn is_json(bytes: &[u8], room: &mut LineRoom) -> Result<bool, AllocError>
+fn is_json(bytes: &[u8], room: &mut ParseArena) -> Result<bool, AllocError>
     ensures { IfOk result (λ b. IsTrue b ↔ IsJson bytes.now) }
 {
     match read_line(bytes, room) {
         Ok(_) => Ok(true),
-        Err(LineFault::NotJson) => Ok(false),
-        Err(LineFault::Memory) => Err(AllocError),
+        Err(JsonFault::NotJson) => Ok(false),
+        Err(JsonFault::Memory) => Err(AllocError),
     }
 }
 
@@ -105,7 +105,7 @@ impl Parts<'_> {
     pub fn are_json(&self, alloc: Global) -> Result<bool, AllocError>
         ensures { IfOk result (λ b. IsTrue b ↔ AreJson self.now.header.now self.now.metadata.now self.now.content.now) }
     {
-        let mut room = LineRoom::new(alloc);
+        let mut room = ParseArena::new(alloc);
         Ok(
             is_json(self.header, &mut room)?
                 && is_json(self.metadata, &mut room)?

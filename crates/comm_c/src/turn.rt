@@ -15,7 +15,7 @@ use crate::desk::Desk;
 use crate::left::kind_of;
 use crate::sequel::Sequel;
 use comm_core::Outgoings;
-use comm_json::LineRoom;
+use comm_json::ParseArena;
 use comm_messages::{MessageFault, Outgoing, Parent};
 use comm_script::{
     LineFault, Request, StockKind, append_bad, append_outs, append_state_line, is_blank, parse_line,
@@ -159,7 +159,7 @@ impl Desk {
         if is_blank(line) {
             return Ok(Sequel::Nothing);
         }
-        let mut room = LineRoom::new(alloc);
+        let mut room = ParseArena::new(alloc);
         let read = parse_line(alloc, line, CLIENTS, &mut room);
         drop(room);
         match read {

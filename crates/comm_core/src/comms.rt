@@ -12,9 +12,9 @@ use crate::comm::Comm;
 use crate::ids::Ids;
 use crate::infos::listed;
 use comm_messages::Infos;
-use comm_tables::Table;
 use comm_targets::{Held, Target};
 use comm_value::{Dict, Text};
+use ordered_table::Table;
 use std::alloc::{AllocError, Global};
 use std::collections::BTreeMap;
 use std::marker::Model;
@@ -28,7 +28,7 @@ pub struct Comms {
 }
 
 impl Model for Comms {
-    ghost use Rattle.comm_tables.specs.Table.{entries};
+    ghost use Rattle.ordered_table.specs.Table.{entries};
     ghost use Rattle.comm_core.specs.Tables.{Table};
     ghost use Rattle.comm_core.specs.declared.comm.Comm.{Comm};
     ghost use Rattle.comm_core.specs.Code.{comms_code};

@@ -3,9 +3,10 @@ ghost use Rattle.std.specs.BTreeMap.{insert_entry};
 ghost use Rattle.json.specs.Value.{members_view};
 ghost use Rattle.serde_json.specs.Data.{no_members};
 ghost use Rattle.serde_json.specs.View.{members_view as owned_view};
-ghost use Rattle.comm_json.specs.Behind.{behind, members, members_data, members_of, listed, text_cmp, AreInOrder};
+ghost use Rattle.comm_json.specs.Behind.{behind, members, members_data, members_of};
+ghost use Rattle.comm_json.specs.Behind.{member_refs, text_cmp, AreInOrder};
 
-use crate::json_ref::{JsonRef, Members, ObjectRef};
+use crate::json_ref::{JsonRef, LineMembers, ObjectRef};
 use bumpalo::Bump;
 use serde_json::{Map, Value};
 use std::alloc::{AllocError, Global};
@@ -15,7 +16,7 @@ use std::collections::BTreeMap;
 /// A member behind a reference: its key and its value.
 pub type MemberRef<'v, 'a> = (&'v str, JsonRef<'v, 'a>);
 
-/// Members in the order of their keys' bytes, each key once. The list stands where the lists of their object do.
+/// An object's members in the order of their keys' bytes, each key once. A line's object has them in its arena.
 #[derive(Drop)]
 pub enum MembersInOrder<'v, 'a> {
     Owned(Vec<MemberRef<'v, 'a>>),
@@ -25,7 +26,7 @@ pub enum MembersInOrder<'v, 'a> {
 impl<'v, 'a> MembersInOrder<'v, 'a> {
     /// The members, the lowest key first.
     pub fn as_slice(&self) -> &[MemberRef<'v, 'a>]
-        ensures { result.now ≡ listed self.now }
+        ensures { result.now ≡ member_refs self.now }
     {
         match self {
             MembersInOrder::Owned(all) => all,
@@ -34,14 +35,15 @@ impl<'v, 'a> MembersInOrder<'v, 'a> {
     }
 }
 
-// How many members are moved at most to let one in among them.
+// The most members that an insertion moves.
 const NEAR: usize = 64;
 
 impl<'v, 'a> ObjectRef<'v, 'a> {
-    /// Its members in the order of their keys' bytes, each key once. It takes time as a sorting does, and less where they stand in order.
+    /// Its members in the order of their keys' bytes, each key once. O(n) where they are nearly in order, else
+    /// O(n log n). Err: out of memory.
     pub fn in_order(self, alloc: Global) -> Result<MembersInOrder<'v, 'a>, AllocError>
-        ensures all { IfOk result (λ all. members_of (listed all) ≡ members self.entry) }
-        ensures ordered { IfOk result (λ all. AreInOrder (listed all)) }
+        ensures all { IfOk result (λ all. members_of (member_refs all) ≡ members self.entry) }
+        ensures ordered { IfOk result (λ all. AreInOrder (member_refs all)) }
     {
         match self {
             ObjectRef::Owned(map) => Ok(MembersInOrder::Owned(all_of(alloc, map)?)),
@@ -66,28 +68,30 @@ fn all_of<'v, 'a>(
 
 fn in_order<'v, 'a>(
     alloc: Global,
-    list: &'v Members<'a>,
+    list: &'v LineMembers<'a>,
 ) -> Result<Vec<MemberRef<'v, 'a>, &'a Bump>, AllocError>
-    ensures all { IfOk result (λ all. members_of all.items ≡ members_data (members_view list.now.items) no_members) }
+    ensures all { IfOk result
+        (λ all. members_of all.items ≡ members_data (members_view list.now.items) no_members) }
     ensures ordered { IfOk result (λ all. AreInOrder all.items) }
 {
     let mut all = Vec::with_capacity(*list.allocator(), list.len())?;
     for member in list {
-        if !let_in(&mut all, member.0, JsonRef::Borrowed(&member.1))? {
+        if !insert_near_end(&mut all, member.0, JsonRef::Borrowed(&member.1))? {
             return by_map(alloc, list);
         }
     }
     Ok(all)
 }
 
-// Puts a member at its place, or says that its place is too far from the end.
-fn let_in<'v, 'a>(
+// Inserts a member at its place, or in place of the one with its key. Ok(false): its place is too far from the end.
+fn insert_near_end<'v, 'a>(
     all: &mut Vec<MemberRef<'v, 'a>, &'a Bump>,
     key: &'v str,
     value: JsonRef<'v, 'a>,
 ) -> Result<bool, AllocError>
     requires { AreInOrder all.old.items }
-    ensures { result ≡ Ok true → all.new.items ≡ insert_entry text_cmp all.old.items key.entry value.entry }
+    ensures { result ≡ Ok true
+        → all.new.items ≡ insert_entry text_cmp all.old.items key.entry value.entry }
 {
     let mut place = all.len();
     let least = place.saturating_sub(NEAR);
@@ -113,9 +117,10 @@ fn let_in<'v, 'a>(
 
 fn by_map<'v, 'a>(
     alloc: Global,
-    list: &'v Members<'a>,
+    list: &'v LineMembers<'a>,
 ) -> Result<Vec<MemberRef<'v, 'a>, &'a Bump>, AllocError>
-    ensures all { IfOk result (λ all. members_of all.items ≡ members_data (members_view list.now.items) no_members) }
+    ensures all { IfOk result
+        (λ all. members_of all.items ≡ members_data (members_view list.now.items) no_members) }
     ensures ordered { IfOk result (λ all. AreInOrder all.items) }
 {
     let mut map: BTreeMap<&'v str, JsonRef<'v, 'a>> = BTreeMap::new(alloc);

@@ -5,7 +5,7 @@ ghost use Rattle.serde_json.specs.Read.{number_of, number_from};
 use fast_float::Numeral;
 use serde_json::Number;
 
-// The number that a number's text writes, where serde_json takes it.
+/// The number that a text denotes (RFC 8259, 6), where it is in serde_json's range.
 pub(crate) fn number_in(text: &str) -> Option<Number>
     ensures { option_map number_view result ≡ number_of text.now }
 {

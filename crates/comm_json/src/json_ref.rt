@@ -3,16 +3,16 @@ ghost use Rattle.json.specs.Value.{value_view, members_view};
 ghost use Rattle.serde_json.specs.Data.{no_members};
 ghost use Rattle.serde_json.specs.Find.{get_member, get_item};
 ghost use Rattle.serde_json.specs.Read.{of_json};
-ghost use Rattle.comm_json.specs.Behind.{behind, data_of, members_data, items, members, shown, items_count};
+ghost use Rattle.comm_json.specs.Behind.{behind, data_of, members_data, items, members, data_of_kind, items_count};
 
 use crate::json_number::number_in;
 use bumpalo::Bump;
 use serde_json::{Map, Number, Value};
 
-/// The JSON value of a line: its texts stand in the line, its lists in the room that it was read with.
+/// The JSON value that [`crate::read_line`] gives: strings are slices of the line, lists stand in the arena.
 pub type LineValue<'a> = json::Value<'a, &'a Bump>;
 
-/// A JSON value behind a reference: `serde_json`'s, or one whose texts stand in the line that it was read from.
+/// A JSON value behind a reference: an owned one of `serde_json`, or one that [`crate::read_line`] gave.
 #[derive(Clone, Copy)]
 pub enum JsonRef<'v, 'a> {
     Owned(&'v Value),
@@ -26,19 +26,19 @@ pub enum ItemsRef<'v, 'a> {
     Borrowed(&'v Vec<LineValue<'a>, &'a Bump>),
 }
 
-/// The members of an object as they stand in a line; of two with one key the last stands.
-pub type Members<'a> = Vec<(&'a str, LineValue<'a>), &'a Bump>;
+/// The members of an object in the order of the line. Of several with one key the last counts, as in `serde_json`.
+pub type LineMembers<'a> = Vec<(&'a str, LineValue<'a>), &'a Bump>;
 
 /// A JSON object behind a reference.
 #[derive(Clone, Copy)]
 pub enum ObjectRef<'v, 'a> {
     Owned(&'v Map<String, Value>),
-    Borrowed(&'v Members<'a>),
+    Borrowed(&'v LineMembers<'a>),
 }
 
-/// What a JSON value is, one level deep.
+/// The kind of a JSON value, with its scalar, its items or its members behind a reference.
 #[derive(Clone, Copy)]
-pub enum Shape<'v, 'a> {
+pub enum JsonKind<'v, 'a> {
     Null,
     Bool(bool),
     Number(Number),
@@ -48,48 +48,48 @@ pub enum Shape<'v, 'a> {
 }
 
 impl<'v, 'a> JsonRef<'v, 'a> {
-    /// What it is. A number beyond `serde_json`'s range would be null; in a tree that `read_line` gave there is none.
-    pub fn shape(self) -> Shape<'v, 'a>
-        ensures { shown result ≡ behind self.entry }
+    /// Its kind. A number beyond `serde_json`'s range would be `Null`; a tree that `read_line` gave has none.
+    pub fn kind(self) -> JsonKind<'v, 'a>
+        ensures { data_of_kind result ≡ behind self.entry }
     {
         match self {
-            JsonRef::Owned(value) => shape_of_owned(value),
-            JsonRef::Borrowed(value) => shape_of_borrowed(value),
+            JsonRef::Owned(value) => kind_of_owned(value),
+            JsonRef::Borrowed(value) => kind_of_borrowed(value),
         }
     }
 }
 
-fn shape_of_owned<'v, 'a>(value: &'v Value) -> Shape<'v, 'a>
-    ensures { shown result ≡ behind (JsonRef.Owned value.entry) }
+fn kind_of_owned<'v, 'a>(value: &'v Value) -> JsonKind<'v, 'a>
+    ensures { data_of_kind result ≡ behind (JsonRef.Owned value.entry) }
 {
     match value {
-        Value::Null => Shape::Null,
-        Value::Bool(b) => Shape::Bool(*b),
-        Value::Number(number) => Shape::Number(*number),
-        Value::String(text) => Shape::Text(text.as_str()),
-        Value::Array(items) => Shape::Items(ItemsRef::Owned(items)),
-        Value::Object(members) => Shape::Object(ObjectRef::Owned(members)),
+        Value::Null => JsonKind::Null,
+        Value::Bool(b) => JsonKind::Bool(*b),
+        Value::Number(number) => JsonKind::Number(*number),
+        Value::String(text) => JsonKind::Text(text.as_str()),
+        Value::Array(items) => JsonKind::Items(ItemsRef::Owned(items)),
+        Value::Object(members) => JsonKind::Object(ObjectRef::Owned(members)),
     }
 }
 
-fn shape_of_borrowed<'v, 'a>(value: &'v LineValue<'a>) -> Shape<'v, 'a>
-    ensures { shown result ≡ behind (JsonRef.Borrowed value.entry) }
+fn kind_of_borrowed<'v, 'a>(value: &'v LineValue<'a>) -> JsonKind<'v, 'a>
+    ensures { data_of_kind result ≡ behind (JsonRef.Borrowed value.entry) }
 {
     match value {
-        json::Value::Null => Shape::Null,
-        json::Value::Bool(b) => Shape::Bool(*b),
+        json::Value::Null => JsonKind::Null,
+        json::Value::Bool(b) => JsonKind::Bool(*b),
         json::Value::Number(text) => match number_in(text) {
-            Some(number) => Shape::Number(number),
-            None => Shape::Null,
+            Some(number) => JsonKind::Number(number),
+            None => JsonKind::Null,
         },
-        json::Value::String(text) => Shape::Text(text),
-        json::Value::Array(items) => Shape::Items(ItemsRef::Borrowed(items)),
-        json::Value::Object(list) => Shape::Object(ObjectRef::Borrowed(list)),
+        json::Value::String(text) => JsonKind::Text(text),
+        json::Value::Array(items) => JsonKind::Items(ItemsRef::Borrowed(items)),
+        json::Value::Object(list) => JsonKind::Object(ObjectRef::Borrowed(list)),
     }
 }
 
 impl<'v, 'a> ItemsRef<'v, 'a> {
-    /// How many items there are.
+    /// The number of items.
     pub fn len(self) -> usize
         ensures { result ≡ items_count (items self.entry) }
     {
@@ -99,7 +99,7 @@ impl<'v, 'a> ItemsRef<'v, 'a> {
         }
     }
 
-    /// The item at this index, from 0.
+    /// The item at an index, from 0. None: the index is not below [`ItemsRef::len`]. O(1).
     pub fn get(self, index: usize) -> Option<JsonRef<'v, 'a>>
         ensures item { option_map behind result ≡ get_item index (items self.entry) }
         ensures within { IfSome result (λ _. index < items_count (items self.entry)) }
@@ -120,7 +120,7 @@ impl<'v, 'a> ItemsRef<'v, 'a> {
 }
 
 impl<'v, 'a> ObjectRef<'v, 'a> {
-    /// The value at this key.
+    /// The value at a key, compared by bytes. None: no member has it. O(n) in the members of a line's object.
     pub fn get(self, key: &str) -> Option<JsonRef<'v, 'a>>
         ensures { option_map behind result ≡ get_member key.now (members self.entry) }
     {
@@ -138,8 +138,9 @@ impl<'v, 'a> ObjectRef<'v, 'a> {
 }
 
 // The value of the last member with this key.
-fn last_of<'v, 'a>(list: &'v Members<'a>, key: &str) -> Option<&'v LineValue<'a>>
-    ensures { option_map (λ v. data_of (value_view v.now)) result ≡ get_member key.now (members_data (members_view list.now.items) no_members) }
+fn last_of<'v, 'a>(list: &'v LineMembers<'a>, key: &str) -> Option<&'v LineValue<'a>>
+    ensures { option_map (λ v. data_of (value_view v.now)) result
+        ≡ get_member key.now (members_data (members_view list.now.items) no_members) }
 {
     let mut left = list.len();
     while left > 0 {

@@ -1,11 +1,12 @@
 //! JSON values behind references: `serde_json`'s, and those whose texts stand in the line that they were read from.
 //!
-//! A line is read once, by the kit's `json`, into a tree that borrows its texts ([`read_line`]). What is read is what `serde_json`
-//! reads, and the contracts see it as `serde_json`'s data; so both kinds go through one door, [`JsonRef`].
+//! [`read_line`] parses a line once, by the kit's `json`, into a tree whose strings are slices of the line and whose
+//! lists stand in an arena ([`ParseArena`]). Contracts see both kinds of value as `serde_json`'s data, so both are read
+//! through one type, [`JsonRef`].
 //!
-//! The words of the contracts are in `specs/Behind`: `line_value` is the JSON value that a line is, `behind` the data behind a reference,
-//! `items` and `members` those behind a list or an object, `shown` the data of which a shape is the outermost level, and `data_of` what
-//! `serde_json` reads where the kit's `json` read a tree.
+//! The definitions of the contracts are in `specs/Behind`: `line_value` is the JSON value of a line, `behind` the data
+//! behind a reference, `items` and `members` the data behind a list or an object, `data_of_kind` the data of a
+//! [`JsonKind`], and `data_of` the data of a tree of the kit's `json`.
 
 #![tactic(auto)]
 
@@ -16,6 +17,6 @@ mod ranges;
 mod reading;
 
 pub use in_order::{MemberRef, MembersInOrder};
-pub use json_ref::{ItemsRef, JsonRef, LineValue, Members, ObjectRef, Shape};
+pub use json_ref::{ItemsRef, JsonKind, JsonRef, LineMembers, LineValue, ObjectRef};
 pub use ranges::numbers_are_in_range;
-pub use reading::{LineFault, LineRoom, read_line};
+pub use reading::{JsonFault, ParseArena, read_line};

@@ -5,14 +5,17 @@ ghost use Rattle.serde_json.specs.Read.{of_json, of_items, of_members};
 ghost use Rattle.comm_json.specs.Behind.{data_of, items_data, members_data};
 
 use crate::json_number::number_in;
-use crate::json_ref::{LineValue, Members};
+use crate::json_ref::{LineMembers, LineValue};
 use bumpalo::Bump;
 use json::Value;
 
-/// Whether `serde_json` takes each number of the value, so that it reads the value at all.
+/// Whether each number of the value is in `serde_json`'s range, so that `serde_json` reads the value. O(n).
+#[must_use]
 #[cycle(in_range)]
 pub fn numbers_are_in_range(value: &LineValue<'_>) -> bool
-    ensures { MatchBool result (of_json (value_view value.now) ≡ Some (data_of (value_view value.now))) (of_json (value_view value.now) ≡ None) }
+    ensures { MatchBool result
+        (of_json (value_view value.now) ≡ Some (data_of (value_view value.now)))
+        (of_json (value_view value.now) ≡ None) }
 {
     match value {
         Value::Null | Value::Bool(_) | Value::String(_) => true,
@@ -24,7 +27,9 @@ pub fn numbers_are_in_range(value: &LineValue<'_>) -> bool
 
 #[cycle(in_range)]
 fn items_are_in_range(items: &Vec<LineValue<'_>, &Bump>) -> bool
-    ensures { MatchBool result (of_items (items_view items.now.items) ≡ Some (items_data (items_view items.now.items))) (of_items (items_view items.now.items) ≡ None) }
+    ensures { MatchBool result
+        (of_items (items_view items.now.items) ≡ Some (items_data (items_view items.now.items)))
+        (of_items (items_view items.now.items) ≡ None) }
 {
     for item in items {
         if !numbers_are_in_range(item) {
@@ -35,8 +40,11 @@ fn items_are_in_range(items: &Vec<LineValue<'_>, &Bump>) -> bool
 }
 
 #[cycle(in_range)]
-fn members_are_in_range(members: &Members<'_>) -> bool
-    ensures { MatchBool result (of_members (members_view members.now.items) no_members ≡ Some (members_data (members_view members.now.items) no_members)) (of_members (members_view members.now.items) no_members ≡ None) }
+fn members_are_in_range(members: &LineMembers<'_>) -> bool
+    ensures { MatchBool result
+        (of_members (members_view members.now.items) no_members
+        ≡ Some (members_data (members_view members.now.items) no_members))
+        (of_members (members_view members.now.items) no_members ≡ None) }
 {
     for member in members {
         if !numbers_are_in_range(&member.1) {

@@ -7,7 +7,7 @@ use Rattle.comm_core.specs.contracts.manager.Core as core
 use Rattle.comm_core.specs.contracts.comms.Comms as comms
 use Rattle.comm_core.specs.contracts.comm.Comm as comm
 use Rattle.comm_messages.proofs.infos.Infos.TheSendSync as Infos
-use Rattle.comm_tables.proofs.table.Table.TheSendSync as Table
+use Rattle.ordered_table.proofs.table.Table.TheSendSync as Table
 use Rattle.comm_targets.specs.declared.target.Target as target
 use Rattle.comm_value.proofs.text.Text.TheSendSync as Text
 use Rattle.comm_versions.specs.declared.history.History as history

@@ -12,7 +12,7 @@ ghost use Rattle.comm_script.specs.declared.asked.LineFault.TheVariants.{BadUuid
 use crate::asked::{Key, LineFault, Request};
 use crate::stock::StockKind;
 use comm_core::Call;
-use comm_json::{JsonRef, Shape};
+use comm_json::{JsonKind, JsonRef};
 use comm_messages::{Fields, body_of, buffers_of, member, object_or_empty, text, whole_dict};
 use comm_value::{Buffers, Dict, Path, Text, Val, ValueFault, paths_of, put_all};
 use std::alloc::Global;
@@ -47,9 +47,9 @@ fn list_field(line: Fields<'_, '_>) -> Result<(), LineFault>
     let Some(buffers) = member(line, "buffers") else {
         return Ok(());
     };
-    match buffers.shape() {
-        Shape::Null | Shape::Items(_) => Ok(()),
-        Shape::Bool(_) | Shape::Number(_) | Shape::Text(_) | Shape::Object(_) => Err(
+    match buffers.kind() {
+        JsonKind::Null | JsonKind::Items(_) => Ok(()),
+        JsonKind::Bool(_) | JsonKind::Number(_) | JsonKind::Text(_) | JsonKind::Object(_) => Err(
             LineFault::BadField(Key::Buffers),
         ),
     }
@@ -284,10 +284,12 @@ pub fn command(
     ensures asked { Gives (λ a. a) result (command (of_ref call.entry) (fields line.entry)) }
     ensures handless { IfOk result HandsNothing }
 {
-    match call.shape() {
-        Shape::Text(name) => command_named(alloc, name, line),
-        Shape::Null | Shape::Bool(_) | Shape::Number(_) | Shape::Items(_) | Shape::Object(_) => Err(
-            LineFault::UnknownCall,
-        ),
+    match call.kind() {
+        JsonKind::Text(name) => command_named(alloc, name, line),
+        JsonKind::Null
+        | JsonKind::Bool(_)
+        | JsonKind::Number(_)
+        | JsonKind::Items(_)
+        | JsonKind::Object(_) => Err(LineFault::UnknownCall),
     }
 }

@@ -6,7 +6,7 @@ ghost use Rattle.comm_script.specs.Command.{asked_by_message, asked_in, asked, H
 use crate::asked::{LineFault, Request};
 use crate::command::command;
 use comm_core::Call;
-use comm_json::LineRoom;
+use comm_json::ParseArena;
 use comm_messages::{Fields, Incoming, client_of, fields_of, member, message_in, object_in};
 use std::alloc::Global;
 
@@ -56,7 +56,7 @@ pub fn parse_line(
     alloc: Global,
     line: &[u8],
     clients: u8,
-    room: &mut LineRoom,
+    room: &mut ParseArena,
 ) -> Result<(u8, Request), LineFault>
     requires { 0 < clients }
     ensures asked { Gives (λ r. (r.0, r.1)) result (asked clients line.now) }

@@ -21,7 +21,7 @@ use crate::words::{append_bad, append_out, append_outs, append_reply, append_sta
 use comm_core::{
     Call, Core, Limits, NewFault, Reply, exact_machines_leave_no_choice, steps_keep_machines_exact,
 };
-use comm_json::LineRoom;
+use comm_json::ParseArena;
 use comm_messages::{MessageFault, Outgoing, Parent};
 use comm_targets::Target;
 use comm_value::{Text, ValueFault};
@@ -34,7 +34,7 @@ pub struct Session<T: Target> {
     pub stock: Stock<T>,
     pub changes: u64,
     pub made: [u64; 4],
-    pub room: LineRoom,
+    pub room: ParseArena,
 }
 
 ghost use Rattle.comm_script.specs.Session.{Stands, IsWithin};
@@ -56,7 +56,7 @@ impl<T: Target> Session<T> {
                 stock: Stock::new(targets),
                 changes: 0,
                 made: [0; 4],
-                room: LineRoom::new(alloc),
+                room: ParseArena::new(alloc),
             }),
             Err(NewFault::BadLimits) => Err(RunFault::BadLimits),
             Err(NewFault::Memory) => Err(RunFault::Memory),

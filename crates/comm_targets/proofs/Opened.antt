@@ -3,7 +3,7 @@ use Rattle.std.proofs.Common.{◌≡◌, ℕ, ◌≤◌, true, false, cond, ◌|
 use Rattle.std.specs.Prelude.{string_bytes}
 use Rattle.std.specs.Map.{lookup, remove_entry}
 use Rattle.std.specs.Str.{bytes_eq}
-use Rattle.comm_tables.specs.Texts.{by_text}
+use Rattle.ordered_table.specs.Texts.{by_text}
 use Rattle.comm_targets.specs.OpenComms.{texts_of, opened_by, CanAdd, CanCommit}
 use Rattle.comm_targets.specs.Meaning.{has_id, without}
 use Rattle.comm_targets.specs.declared.staged_event.StagedEvent.{StagedEvent}

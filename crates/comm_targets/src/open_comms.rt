@@ -1,5 +1,5 @@
 ghost use Rattle.std.specs.Prelude.{◌≡◌, ◌≤◌, ◌↔◌, true, false, [], IsTrue, IfOk, IfSome, OnOk, OnErr, IsSome, None, Some, option_map, string_bytes};
-ghost use Rattle.comm_tables.specs.Table.{entries};
+ghost use Rattle.ordered_table.specs.Table.{entries};
 ghost use Rattle.comm_targets.specs.OpenComms.{CanAdd, opened_by, texts_of};
 ghost use Rattle.comm_targets.specs.declared.staged_event.StagedEvent.{StagedEvent};
 ghost use Rattle.comm_targets.specs.Meaning.{has_id, without, ids_after, stages_message};
@@ -7,8 +7,8 @@ ghost use Rattle.comm_targets.specs.Meaning.{has_id, without, ids_after, stages_
 use crate::answer::Answer;
 use crate::event::Event;
 use crate::staged::Staged;
-use comm_tables::Table;
 use comm_value::Text;
+use ordered_table::Table;
 use std::alloc::{AllocError, Global};
 use std::marker::Model;
 
@@ -23,7 +23,7 @@ pub struct OpenComms {
 
 impl Model for OpenComms {
     ghost use Rattle.std.specs.Prelude.{option_map, string_bytes};
-    ghost use Rattle.comm_tables.specs.Table.{entries};
+    ghost use Rattle.ordered_table.specs.Table.{entries};
     ghost use Rattle.comm_targets.specs.OpenComms.{OpenAndStaged, CanCommit, texts_of};
     ghost use Rattle.comm_targets.specs.Code.{open_and_staged_code};
 

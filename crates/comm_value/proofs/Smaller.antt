@@ -4,7 +4,7 @@ use Rattle.std.specs.Arc.{arc_value}
 use Rattle.comm_value.specs.declared.val.Member.{Member}
 use Rattle.comm_value.specs.declared.val.Dict.TheDeep.{deep-Val, deep-Member}
 use Rattle.comm_value.specs.Tree.{Members, members_size}
-use Rattle.comm_value.specs.View.{members_of, Piece, flat}
+use Rattle.comm_value.specs.View.{members_of, Chunk, flat}
 use Rattle.comm_value.specs.Falls.{value_falls, member_falls, size_append}
 use Rattle.comm_value.proofs.Flat.{opened, flat_cut}
 
@@ -18,22 +18,22 @@ member_in [] j d h = absurd (omega arith)
 member_in (m ∷ ms) zero d h = omega (arith, member_falls m)
 member_in (m ∷ ms) (suc j) d h = omega (arith, member_in ms j d (omega arith))
 
-piece_in : (ps : List Piece) (i : ℕ) (xs : List Member) → flat (drop i ps) ≡ xs ++ flat (drop (i + 1) ps) → members_size (members_of xs) ≤ members_size (members_of (flat ps))
-piece_in ps i xs here =
+chunk_in : (ps : List Chunk) (i : ℕ) (xs : List Member) → flat (drop i ps) ≡ xs ++ flat (drop (i + 1) ps) → members_size (members_of xs) ≤ members_size (members_of (flat ps))
+chunk_in ps i xs here =
     let cut : members_size (members_of (flat ps)) ≡ members_size (members_of (flat (take i ps))) + members_size (members_of (flat (drop i ps))) =
     ap (λ l. members_size (members_of l)) (flat_cut ps i) ∙ size_append (flat (take i ps)) (flat (drop i ps)) in
     let rest : members_size (members_of (flat (drop i ps))) ≡ members_size (members_of xs) + members_size (members_of (flat (drop (i + 1) ps))) =
     ap (λ l. members_size (members_of l)) here ∙ size_append xs (flat (drop (i + 1) ps)) in
     omega (arith, cut, rest)
 
--- the value of the member at j in the piece at i
-pub value_smaller : (ps : List Piece) (i : ℕ) (p : Piece) (v : Vec Member Global) (xs : List Member) (j : ℕ) (x : Member) (all : Members) → i < length ps → p ≡ get_or ps i p → v ≡ arc_value p → xs ≡ v.items
+-- the value of the member at j in the chunk at i
+pub value_smaller : (ps : List Chunk) (i : ℕ) (p : Chunk) (v : Vec Member Global) (xs : List Member) (j : ℕ) (x : Member) (all : Members) → i < length ps → p ≡ get_or ps i p → v ≡ arc_value p → xs ≡ v.items
     → j < length xs → x ≡ get_or xs j x → members_of (flat ps) ≡ all → deep-Val x.value < members_size all
 value_smaller ps i p v xs j x all h is deref items within here view =
-    omega (arith, value_in xs j x within, piece_in ps i xs (opened ps i p v xs h is deref items), ap (λ (m : Member). deep-Val m.value) here, ap members_size view)
+    omega (arith, value_in xs j x within, chunk_in ps i xs (opened ps i p v xs h is deref items), ap (λ (m : Member). deep-Val m.value) here, ap members_size view)
 
 -- and that member
-pub member_smaller : (ps : List Piece) (i : ℕ) (p : Piece) (v : Vec Member Global) (xs : List Member) (j : ℕ) (x : Member) (all : Members) → i < length ps → p ≡ get_or ps i p → v ≡ arc_value p → xs ≡ v.items
+pub member_smaller : (ps : List Chunk) (i : ℕ) (p : Chunk) (v : Vec Member Global) (xs : List Member) (j : ℕ) (x : Member) (all : Members) → i < length ps → p ≡ get_or ps i p → v ≡ arc_value p → xs ≡ v.items
     → j < length xs → x ≡ get_or xs j x → members_of (flat ps) ≡ all → deep-Member x < members_size all
 member_smaller ps i p v xs j x all h is deref items within here view =
-    omega (arith, member_in xs j x within, piece_in ps i xs (opened ps i p v xs h is deref items), ap (λ (m : Member). deep-Member m) here, ap members_size view)
+    omega (arith, member_in xs j x within, chunk_in ps i xs (opened ps i p v xs h is deref items), ap (λ (m : Member). deep-Member m) here, ap members_size view)

@@ -1,4 +1,4 @@
--- The bytes of a text's characters, wherever they stand.
+-- The bytes of a string's characters, inline or on the heap.
 use Rattle.std.specs.Prelude.{ℕ, List, string_bytes}
 use Rattle.comm_value.specs.declared.chars.Chars.{Chars}
 use Rattle.comm_value.specs.declared.chars.Chars.TheVariants.{Short, Long}

@@ -1,4 +1,4 @@
--- For proofs: a whole number as its sign and its distance from 0, or from -1 down.
+-- For proofs: an integer as its sign and its distance from 0, or from -1 downwards.
 use Rattle.std.specs.Prelude.{◌≡◌, refl, ℕ, ℤ, pos, negsuc, Bool, true, false}
 
 abbrev pub signed : Bool → ℕ → ℤ

@@ -1,11 +1,11 @@
-// The characters of a text, in one place.
+// The characters of a string.
 ghost use Rattle.std.specs.Prelude.{◌≡◌, IfOk};
 ghost use Rattle.comm_value.specs.Chars.{bytes_in};
 
 use arrayvec::ArrayString;
 use std::alloc::{AllocError, Global};
 
-/// The characters of a text. Short ones stand beside the count of their owners, and so take one allocation in place of two.
+/// The characters of a string. Up to 40 bytes stand inline beside the reference count: one allocation instead of two.
 #[derive(Drop)]
 pub(crate) enum Chars {
     Short(ArrayString<40>),
@@ -13,6 +13,7 @@ pub(crate) enum Chars {
 }
 
 impl Chars {
+    /// A copy of these characters. Err: out of memory.
     pub(crate) fn copy_of(alloc: Global, text: &str) -> Result<Chars, AllocError>
         ensures { IfOk result (λ c. bytes_in c ≡ text.now) }
     {
@@ -22,6 +23,7 @@ impl Chars {
         }
     }
 
+    /// The characters.
     pub(crate) fn as_str(&self) -> &str
         ensures { result.now ≡ bytes_in self.now }
     {

@@ -7,19 +7,19 @@ use std::alloc::{AllocError, Global};
 use std::sync::Arc;
 
 impl Items {
-    // The values by themselves: they are copied only where something else shares the list.
+    /// The values, moved out. They are copied only where copies of the list share them.
     pub(crate) fn into_values(self, alloc: Global) -> Result<Vec<Val>, AllocError>
         ensures shown { IfOk result (λ all. items_of all.items ≡ self) }
         ensures ordered { items_ordered self ≡ true }
     {
         match Arc::try_unwrap(self.all) {
             Ok(all) => Ok(all),
-            Err(shared) => copy_all(alloc, shared.as_slice()),
+            Err(shared) => copy_values(alloc, shared.as_slice()),
         }
     }
 }
 
-fn copy_all(alloc: Global, all: &[Val]) -> Result<Vec<Val>, AllocError>
+fn copy_values(alloc: Global, all: &[Val]) -> Result<Vec<Val>, AllocError>
     ensures { IfOk result (λ copies. map tree copies.items ≡ map tree all.now) }
 {
     let mut copies = Vec::with_capacity(alloc, all.len())?;

@@ -1,4 +1,4 @@
-// Texts as JSON strings.
+// Strings as JSON text.
 ghost use Rattle.std.specs.Prelude.{◌≡◌, ◌<◌, [], ◌∷◌, ◌++◌, true, IsTrue, OnOk};
 ghost use Rattle.std.specs.Bool.{OnFalse};
 ghost use Rattle.std.specs.Char.{digit_char};
@@ -6,7 +6,8 @@ ghost use Rattle.json.specs.Print.{escape_letter, escape_byte, escape, quoted};
 
 use std::alloc::AllocError;
 
-/// Appends a text as a JSON string (RFC 8259, 7), with the shortest escapes. After an error some of it may be there.
+/// Appends a string as JSON text with the shortest escapes (RFC 8259, 7). Err: out of memory; `out` may hold a part
+/// of it.
 pub fn write_text(text: &str, out: &mut Vec<u8>) -> Result<(), AllocError>
     ensures { OnOk result (out.new.items ≡ out.old.items ++ quoted text.now) }
 {
@@ -20,7 +21,7 @@ pub fn write_text(text: &str, out: &mut Vec<u8>) -> Result<(), AllocError>
     Ok(out.push(b'"')?)
 }
 
-// Whether no byte needs an escape, as in nearly all texts. It looks at all of them, which compilers turn into many at a time.
+// Whether no byte needs an escape, as in most strings. It has no early return, so that compilers vectorize it.
 fn is_plain(bytes: &[u8]) -> bool
     ensures { IsTrue result → escape bytes.now ≡ bytes.now }
 {
@@ -31,7 +32,7 @@ fn is_plain(bytes: &[u8]) -> bool
     plain
 }
 
-// What needs no escape goes out in runs.
+// Appends the bytes with their escapes; bytes between two escapes are appended at once.
 fn write_escaped(bytes: &[u8], out: &mut Vec<u8>) -> Result<(), AllocError>
     ensures { OnOk result (out.new.items ≡ out.old.items ++ escape bytes.now) }
 {

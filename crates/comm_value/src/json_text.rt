@@ -13,18 +13,22 @@ use itoa::Buffer;
 use std::alloc::AllocError;
 
 impl Val {
-    /// Appends the compact JSON text (RFC 8259) of a value; bytes, which JSON lacks, are written as null. After an error some of it may be there.
+    /// Appends the value as compact JSON (RFC 8259), a buffer as null. Err: out of memory; `out` may hold a part of
+    /// the text.
     pub fn write_json(&self, out: &mut Vec<u8>) -> Result<(), AllocError>
-        ensures { OnOk result (out.new.items ≡ out.old.items ++ compact_text (json_of (tree self.now))) }
+        ensures { OnOk result
+            (out.new.items ≡ out.old.items ++ compact_text (json_of (tree self.now))) }
     {
         write_value(self, out)
     }
 }
 
 impl Dict {
-    /// The same of a dict, its keys in the order of their bytes.
+    /// Appends the dict as compact JSON with its keys in byte order, a buffer as null. Err: out of memory; `out` may
+    /// hold a part of the text.
     pub fn write_json(&self, out: &mut Vec<u8>) -> Result<(), AllocError>
-        ensures { OnOk result (out.new.items ≡ out.old.items ++ compact_text (object (json_members self.now))) }
+        ensures { OnOk result
+            (out.new.items ≡ out.old.items ++ compact_text (object (json_members self.now))) }
     {
         write_members(self, out)
     }
@@ -53,7 +57,8 @@ fn write_comma(later: bool, out: &mut Vec<u8>) -> Result<(), AllocError>
 
 #[cycle(json_text)]
 fn write_value(value: &Val, out: &mut Vec<u8>) -> Result<(), AllocError>
-    ensures { OnOk result (out.new.items ≡ out.old.items ++ compact_text (json_of (tree value.now))) }
+    ensures { OnOk result
+        (out.new.items ≡ out.old.items ++ compact_text (json_of (tree value.now))) }
 {
     match value {
         Val::Null => out.extend_from_slice(b"null"),
@@ -69,7 +74,8 @@ fn write_value(value: &Val, out: &mut Vec<u8>) -> Result<(), AllocError>
 
 #[cycle(json_text)]
 fn write_items(items: &Items, out: &mut Vec<u8>) -> Result<(), AllocError>
-    ensures { OnOk result (out.new.items ≡ out.old.items ++ 91 ∷ items_text false (json_items items.now)) }
+    ensures { OnOk result
+        (out.new.items ≡ out.old.items ++ 91 ∷ items_text false (json_items items.now)) }
 {
     out.push(b'[')?;
     let mut later = false;
@@ -83,12 +89,13 @@ fn write_items(items: &Items, out: &mut Vec<u8>) -> Result<(), AllocError>
 
 #[cycle(json_text)]
 fn write_members(dict: &Dict, out: &mut Vec<u8>) -> Result<(), AllocError>
-    ensures { OnOk result (out.new.items ≡ out.old.items ++ 123 ∷ members_text false (json_members dict.now)) }
+    ensures { OnOk result
+        (out.new.items ≡ out.old.items ++ 123 ∷ members_text false (json_members dict.now)) }
 {
     out.push(b'{')?;
     let mut later = false;
-    for piece in dict.pieces() {
-        for member in piece.as_slice() {
+    for chunk in dict.chunks() {
+        for member in chunk.as_slice() {
             write_comma(later, out)?;
             write_text(member.key.as_str(), out)?;
             out.push(b':')?;

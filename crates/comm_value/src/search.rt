@@ -6,11 +6,13 @@ ghost use Rattle.comm_value.specs.Search.{AllBelow, IsFound, IsAbsent};
 use crate::val::Member;
 use std::cmp::Ordering;
 
-// Where the key stands, or where it would.
+/// Binary search. Ok: the index of the member with the key. Err: the index at which it would be inserted.
 pub(crate) fn place_of(members: &[Member], key: &str) -> Result<usize, usize>
     requires { members_ordered (members_of members.now) ≡ true }
-    ensures found { IfOk result (λ i. (i < length members.now) × AllBelow key.now (take i members.now) × IsFound key.now (drop i members.now)) }
-    ensures absent { IfErr result (λ i. (i ≤ length members.now) × AllBelow key.now (take i members.now) × IsAbsent key.now (drop i members.now)) }
+    ensures found { IfOk result (λ i. (i < length members.now)
+        × AllBelow key.now (take i members.now) × IsFound key.now (drop i members.now)) }
+    ensures absent { IfErr result (λ i. (i ≤ length members.now)
+        × AllBelow key.now (take i members.now) × IsAbsent key.now (drop i members.now)) }
 {
     let mut low = 0;
     let mut high = members.len();

@@ -1,4 +1,4 @@
-// A value taken out of the list or dict that it stands in, so that what is put into it needn't copy it.
+// Moving a value out of its list or dict, so that it isn't shared and can be changed without a copy.
 ghost use Rattle.std.specs.Prelude.{◌≡◌, IfOk, IfSome, option_map};
 ghost use Rattle.comm_value.specs.declared.path.Step.TheVariants.{Key, Index};
 ghost use Rattle.comm_value.specs.Tree.{Tree, list, dict};
@@ -12,21 +12,23 @@ use crate::val::{Dict, Items, Val};
 use std::alloc::{AllocError, Global};
 use std::mem;
 
-/// What stood at a step of a value, and the value with null there.
+/// The child that was at a step of a value, and the value with null there.
 #[derive(Drop)]
 pub(crate) struct Taken {
     pub(crate) inner: Val,
     pub(crate) outer: Val,
 }
 
-/// The child at the step, and the rest of the value. None: it has no such child.
+/// Moves the child at the step out of a value. None: the value has no such child.
 pub(crate) fn take_child(
     alloc: Global,
     value: Val,
     step: &Step,
 ) -> Result<Option<Taken>, AllocError>
-    ensures inner { IfOk result (λ o. option_map (λ x. tree x.inner) o ≡ child step.now (tree value)) }
-    ensures outer { IfOk result (λ o. IfSome o (λ x. (t : Tree) → with_child step.now t (tree x.outer) ≡ with_child step.now t (tree value))) }
+    ensures inner { IfOk result
+        (λ o. option_map (λ x. tree x.inner) o ≡ child step.now (tree value)) }
+    ensures outer { IfOk result (λ o. IfSome o (λ x. (t : Tree)
+        → with_child step.now t (tree x.outer) ≡ with_child step.now t (tree value))) }
 {
     match value {
         Val::Dict(dict) => match step {
@@ -43,7 +45,8 @@ pub(crate) fn take_child(
 
 fn take_member(alloc: Global, members: Dict, key: &Text) -> Result<Option<Taken>, AllocError>
     ensures inner { IfOk result (λ o. option_map (λ x. tree x.inner) o ≡ get key.now members) }
-    ensures outer { IfOk result (λ o. IfSome o (λ x. (t : Tree) → with_child (Key key.now) t (tree x.outer) ≡ with_child (Key key.now) t (dict members))) }
+    ensures outer { IfOk result (λ o. IfSome o (λ x. (t : Tree)
+        → with_child (Key key.now) t (tree x.outer) ≡ with_child (Key key.now) t (dict members))) }
 {
     let inner = match members.get(key.as_str()) {
         Some(value) => value.copy()?,
@@ -59,7 +62,8 @@ fn take_member(alloc: Global, members: Dict, key: &Text) -> Result<Option<Taken>
 
 fn take_item(alloc: Global, items: Items, n: usize) -> Result<Option<Taken>, AllocError>
     ensures inner { IfOk result (λ o. option_map (λ x. tree x.inner) o ≡ get_item n items) }
-    ensures outer { IfOk result (λ o. IfSome o (λ x. (t : Tree) → with_child (Index n) t (tree x.outer) ≡ with_child (Index n) t (list items))) }
+    ensures outer { IfOk result (λ o. IfSome o (λ x. (t : Tree)
+        → with_child (Index n) t (tree x.outer) ≡ with_child (Index n) t (list items))) }
 {
     let mut all = items.into_values(alloc)?;
     if n >= all.len() {

@@ -7,7 +7,7 @@ use crate::limits::CLIENTS;
 use crate::reading::{heard, said_of};
 use crate::script::{Line, Part};
 use comm_core::Unavailable;
-use comm_json::LineRoom;
+use comm_json::ParseArena;
 use comm_manager::{Answered, Client, Manager, ManagerId, Stamp};
 use comm_messages::{Outgoing, Parent};
 use comm_script::{
@@ -171,7 +171,7 @@ fn answer<M: ManagerId, T: Target, R: Wait>(
     desk: &Desk<M, T>,
     client: &mut Client<M>,
     line: &Line,
-    room: &mut LineRoom,
+    room: &mut ParseArena,
     said: &mut Vec<u8>,
 ) -> Result<(u64, bool), RunFault> {
     let other = heard(&line.text, room)?;
@@ -197,7 +197,7 @@ fn play<M: ManagerId, T: Target, R: Wait>(
     desk: &Desk<M, T>,
     client: &mut Client<M>,
     line: &Line,
-    room: &mut LineRoom,
+    room: &mut ParseArena,
     account: &mut Account,
 ) -> Result<(), RunFault> {
     let mut said = Vec::new(desk.alloc);
@@ -224,7 +224,7 @@ fn play_all<M: ManagerId, T: Target, R: Wait>(
     lines: &[Line],
     account: &mut Account,
 ) -> Result<(), RunFault> {
-    let mut room = LineRoom::new(desk.alloc);
+    let mut room = ParseArena::new(desk.alloc);
     for line in lines {
         play(rt, manager, desk, client, line, &mut room, account)?;
         yield_now();

@@ -1,6 +1,6 @@
 //! What a line says.
 use crate::limits::CLIENTS;
-use comm_json::{LineRoom, Shape};
+use comm_json::{JsonKind, ParseArena};
 use comm_messages::{MessageFault, client_of, fields_of, member, object_in};
 use comm_script::{LineFault, RunFault};
 use comm_value::ValueFault;
@@ -15,7 +15,7 @@ pub(crate) fn said_of(fault: LineFault) -> Result<LineFault, RunFault> {
 }
 
 /// The client that a line names by its key `hear`. What isn't the number of a client names none.
-pub(crate) fn heard(text: &[u8], room: &mut LineRoom) -> Result<Option<u8>, RunFault> {
+pub(crate) fn heard(text: &[u8], room: &mut ParseArena) -> Result<Option<u8>, RunFault> {
     let object = match object_in(text, room) {
         Ok(object) => object,
         Err(MessageFault::Memory) => return Err(RunFault::Memory),
@@ -24,8 +24,8 @@ pub(crate) fn heard(text: &[u8], room: &mut LineRoom) -> Result<Option<u8>, RunF
     let Some(hear) = member(fields_of(&object), "hear") else {
         return Ok(None);
     };
-    match hear.shape() {
-        Shape::Number(_) => Ok(client_of(Some(hear), CLIENTS).ok()),
+    match hear.kind() {
+        JsonKind::Number(_) => Ok(client_of(Some(hear), CLIENTS).ok()),
         _ => Ok(None),
     }
 }

@@ -2,7 +2,7 @@
 use crate::account::Account;
 use crate::limits::CLIENTS;
 use crate::reading::said_of;
-use comm_json::LineRoom;
+use comm_json::ParseArena;
 use comm_script::{RunFault, is_blank, parse_line, split_line};
 use std::alloc::{AllocError, Global};
 use std::io::{ErrorKind, Read};
@@ -26,7 +26,7 @@ pub struct Part {
 #[derive(Drop)]
 pub struct Script {
     alloc: Global,
-    room: LineRoom,
+    room: ParseArena,
     count: u64,
     parts: Vec<Part>,
 }
@@ -42,7 +42,7 @@ impl Script {
         }
         Ok(Script {
             alloc,
-            room: LineRoom::new(alloc),
+            room: ParseArena::new(alloc),
             count: 0,
             parts,
         })

@@ -4,7 +4,7 @@ ghost use Rattle.shared_script.specs.Heard.{IsLater};
 
 use crate::desk::Desk;
 use crate::words::append_entry;
-use comm_json::LineRoom;
+use comm_json::ParseArena;
 use comm_manager::{Client, Manager, ManagerId, Publisher};
 use comm_messages::MessageFault;
 use comm_script::{LineFault, RunFault, append_bad, is_blank, parse_line};
@@ -18,7 +18,7 @@ pub struct Player<M: ManagerId, T: Target> {
     pub clients: Vec<Client<M>>,
     pub publisher: Publisher<M>,
     pub desk: Desk<M, T>,
-    pub room: LineRoom,
+    pub room: ParseArena,
 }
 
 impl<M: ManagerId, T: Target> Player<M, T> {

@@ -7,7 +7,7 @@ ghost use Rattle.comm_script.specs.Stock.{AreIdle};
 use crate::desk::Desk;
 use crate::player::Player;
 use comm_core::{Limits, NewFault};
-use comm_json::LineRoom;
+use comm_json::ParseArena;
 use comm_manager::{Manager, ManagerBuilder, ManagerId, OpeningFault};
 use comm_script::{PIECE, RunFault, Stock, send, split_line};
 use comm_targets::Target;
@@ -79,7 +79,7 @@ fn opened<M: ManagerId, I: Read, O: Write, T: Target, R: Wait>(
                 clients,
                 publisher,
                 desk,
-                room: LineRoom::new(alloc),
+                room: ParseArena::new(alloc),
             };
             let played = play(rt, &manager, &mut player, reader, writer);
             drop(player);

@@ -4,7 +4,7 @@ ghost use Rattle.comm_value.specs.Places.{members_have_bytes};
 
 use crate::call::cut;
 use crate::wrong::Wrong;
-use comm_json::LineRoom;
+use comm_json::ParseArena;
 use comm_messages::{Body, fields_of, object_in, whole_dict};
 use comm_value::{Buffers, Bytes, Dict};
 use std::alloc::Global;
@@ -14,7 +14,7 @@ pub fn dict_of(alloc: Global, json: &str) -> Result<Dict, Wrong>
     ensures { IfOk result (λ d. members_have_bytes d ≡ false) }
 {
     let json = if json.is_empty() { "{}" } else { json };
-    let mut room = LineRoom::new(alloc);
+    let mut room = ParseArena::new(alloc);
     let object = object_in(json.as_bytes(), &mut room)?;
     Ok(whole_dict(alloc, fields_of(&object))?)
 }

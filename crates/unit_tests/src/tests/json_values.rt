@@ -1,4 +1,6 @@
-use comm_json::{JsonRef, LineFault, LineRoom, ObjectRef, Shape, numbers_are_in_range, read_line};
+use comm_json::{
+    JsonFault, JsonKind, JsonRef, ObjectRef, ParseArena, numbers_are_in_range, read_line,
+};
 use serde_json::Value;
 use std::alloc::{AllocError, Global};
 use std::test::Fail;
@@ -10,7 +12,7 @@ fn append_number(
     value: JsonRef<'_, '_>,
     text: &mut Vec<u8>,
 ) -> Result<(), AllocError> {
-    let Shape::Number(number) = value.shape() else {
+    let JsonKind::Number(number) = value.kind() else {
         return append_words(&["-"], text);
     };
     match number.as_u64() {
@@ -25,7 +27,7 @@ fn append_value(
     value: JsonRef<'_, '_>,
     text: &mut Vec<u8>,
 ) -> Result<(), AllocError> {
-    let Shape::Items(items) = value.shape() else {
+    let JsonKind::Items(items) = value.kind() else {
         return append_number(alloc, value, text);
     };
     let len = items.len();
@@ -62,14 +64,14 @@ fn append_members(
 
 // The members of a line that is read as JSON, and as a value of `serde_json`, which are the same.
 fn append_line(alloc: Global, line: &[u8], key: &str, text: &mut Vec<u8>) -> Result<(), Wrong> {
-    let mut room = LineRoom::new(alloc);
+    let mut room = ParseArena::new(alloc);
     let value = match read_line(line, &mut room) {
         Ok(value) => value,
-        Err(LineFault::NotJson) => return Ok(append_words(&["not json\n"], text)?),
-        Err(LineFault::Memory) => return Err(Wrong("no memory")),
+        Err(JsonFault::NotJson) => return Ok(append_words(&["not json\n"], text)?),
+        Err(JsonFault::Memory) => return Err(Wrong("no memory")),
     };
     holds(numbers_are_in_range(&value), "a number is out of range")?;
-    let Shape::Object(object) = JsonRef::Borrowed(&value).shape() else {
+    let JsonKind::Object(object) = JsonRef::Borrowed(&value).kind() else {
         return Err(Wrong("no object"));
     };
     append_members(alloc, object, key, text)?;

@@ -1,4 +1,4 @@
-use comm_json::{JsonRef, LineRoom};
+use comm_json::{JsonRef, ParseArena};
 use comm_messages::{
     Fields, Incoming, MessageFault, buffers_of, client_of, fields_of, member, message_of,
     object_in, object_or_empty, read_message, text, text_or_none, whole_dict,
@@ -336,7 +336,7 @@ fn append_field(
 }
 
 fn append_fields(alloc: Global, out: &mut Vec<u8>) -> Result<(), Wrong> {
-    let mut room = LineRoom::new(alloc);
+    let mut room = ParseArena::new(alloc);
     let object = object_in(COMMAND, &mut room)?;
     for key in ["call", "client", "data", "state", "none"] {
         append_field(alloc, fields_of(&object), key, out)?;

@@ -8,7 +8,7 @@ loop-member-init c = (ap members_of c.in_ok-all.ensures.items, none_in_order _ c
 
 pub loop-member-preserved : goal.loop-member-preserved
 loop-member-preserved c =
-    let put = c.in_ok-let_in.ensures (ap Ok c.if-not-branch.false) in (
+    let put = c.in_ok-insert_near_end.ensures (ap Ok c.if-not-branch.false) in (
       put_next _ c.loop-member.member-index c.member-item.result c.loop-member.all.items _ _ _ c.loop-member-test.true c.member-item.is c.loop-member.invariant.0 put refl refl,
       subst AreInOrder (sym put) (order_kept _ _ _ c.loop-member.invariant.1),
     )

@@ -1,5 +1,5 @@
 use Rattle.std.proofs.Common.{◌≡◌, ap, sym, ◌∙◌, Some, false, option_map, string_bytes}
-use Rattle.comm_tables.specs.Table.{entries}
+use Rattle.ordered_table.specs.Table.{entries}
 use Rattle.comm_targets.specs.OpenComms.{texts_of, opened_by}
 use Rattle.comm_targets.specs.Meaning.{has_id}
 use Rattle.comm_targets.proofs.open_comms.readied.Goals as goal

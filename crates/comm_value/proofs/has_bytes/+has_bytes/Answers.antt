@@ -10,8 +10,8 @@ pub a_member_holds_bytes-holds_bytes-requires : goal.a_member_holds_bytes-holds_
 a_member_holds_bytes-holds_bytes-requires t c = (
   omega (
     arith,
-    value_smaller _ c.loop-piece.piece-index c.piece-item.result c.deref.result.now _ c.loop-member.member-index c.member-item.result _ c.loop-piece-test.true c.piece-item.is c.deref.ensures c.as_slice-member-items.ensures.value
-        c.loop-member-test.true c.member-item.is c.pieces-piece-items.ensures.shown,
+    value_smaller _ c.loop-chunk.chunk-index c.chunk-item.result c.deref.result.now _ c.loop-member.member-index c.member-item.result _ c.loop-chunk-test.true c.chunk-item.is c.deref.ensures c.as_slice-member-items.ensures.value
+        c.loop-member-test.true c.member-item.is c.chunks-chunk-items.ensures.shown,
     c.decreases,
   ),
   tt,
@@ -19,7 +19,7 @@ a_member_holds_bytes-holds_bytes-requires t c = (
 
 pub a_member_holds_bytes-loop-member-init : goal.a_member_holds_bytes-loop-member-init
 a_member_holds_bytes-loop-member-init t c =
-    ap (λ l. members_have_bytes (members_of l)) (sym (opened _ c.loop-piece.piece-index c.piece-item.result c.deref.result.now _ c.loop-piece-test.true c.piece-item.is c.deref.ensures c.as_slice-member-items.ensures.value)) ∙ c.loop-piece.invariant
+    ap (λ l. members_have_bytes (members_of l)) (sym (opened _ c.loop-chunk.chunk-index c.chunk-item.result c.deref.result.now _ c.loop-chunk-test.true c.chunk-item.is c.deref.ensures c.as_slice-member-items.ensures.value)) ∙ c.loop-chunk.invariant
 
 pub a_member_holds_bytes-loop-member-preserved : goal.a_member_holds_bytes-loop-member-preserved
 a_member_holds_bytes-loop-member-preserved t c =
@@ -29,8 +29,8 @@ pub a_member_holds_bytes-returns-then-holds_bytes : goal.a_member_holds_bytes-re
 a_member_holds_bytes-returns-then-holds_bytes t c =
     member_has _ c.member-item.result _ _ (next_is _ c.loop-member.member-index c.member-item.result _ c.loop-member-test.true c.member-item.is) c.loop-member.invariant c.if-holds_bytes.ensures
 
-pub a_member_holds_bytes-loop-piece-preserved : goal.a_member_holds_bytes-loop-piece-preserved
-a_member_holds_bytes-loop-piece-preserved t c = ap (λ l. members_have_bytes (members_of l)) (sym (closed _ c.loop-member.member-index _ c.loop-member-test.false)) ∙ c.loop-member.invariant
+pub a_member_holds_bytes-loop-chunk-preserved : goal.a_member_holds_bytes-loop-chunk-preserved
+a_member_holds_bytes-loop-chunk-preserved t c = ap (λ l. members_have_bytes (members_of l)) (sym (closed _ c.loop-member.member-index _ c.loop-member-test.false)) ∙ c.loop-member.invariant
 
 pub a_member_holds_bytes-returns : goal.a_member_holds_bytes-returns
-a_member_holds_bytes-returns t c = ap (λ l. members_have_bytes (members_of l)) (sym (none_left _ c.loop-piece.piece-index c.loop-piece-test.false)) ∙ c.loop-piece.invariant
+a_member_holds_bytes-returns t c = ap (λ l. members_have_bytes (members_of l)) (sym (none_left _ c.loop-chunk.chunk-index c.loop-chunk-test.false)) ∙ c.loop-chunk.invariant

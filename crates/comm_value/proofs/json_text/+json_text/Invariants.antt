@@ -8,10 +8,10 @@ abbrev pub invariant-write_items-loop-item : goal.invariant-write_items-loop-ite
 invariant-write_items-loop-item l =
     l.out.items ++ items_text l.later (json_items (items_of (drop l.item-index l.item-items))) ≡ l.initial.out.items ++ items_text false (json_items l.items)
 
-abbrev pub invariant-write_members-loop-piece : goal.invariant-write_members-loop-piece
-invariant-write_members-loop-piece l =
-    l.out.items ++ members_text l.later (json_members (members_of (flat (drop l.piece-index l.piece-items)))) ≡ l.fn.out.items ++ 123 ∷ members_text false (json_members l.dict)
+abbrev pub invariant-write_members-loop-chunk : goal.invariant-write_members-loop-chunk
+invariant-write_members-loop-chunk l =
+    l.out.items ++ members_text l.later (json_members (members_of (flat (drop l.chunk-index l.chunk-items)))) ≡ l.fn.out.items ++ 123 ∷ members_text false (json_members l.dict)
 
 abbrev pub invariant-write_members-loop-member : goal.invariant-write_members-loop-member
 invariant-write_members-loop-member l =
-    l.out.items ++ members_text l.later (json_members (members_of (drop l.member-index l.member-items ++ flat (drop (l.piece-index + 1) l.piece-items)))) ≡ l.fn.out.items ++ 123 ∷ members_text false (json_members l.dict)
+    l.out.items ++ members_text l.later (json_members (members_of (drop l.member-index l.member-items ++ flat (drop (l.chunk-index + 1) l.chunk-items)))) ≡ l.fn.out.items ++ 123 ∷ members_text false (json_members l.dict)

@@ -3,7 +3,7 @@ use Rattle.std.specs.Str.{bytes_eq}
 use Rattle.comm_targets.specs.Meaning.{Meaning}
 use Rattle.comm_core.specs.Machine.{ids_of}
 use Rattle.comm_core.specs.Tables.{Opens}
-use Rattle.comm_tables.proofs.Walking.{ahead_entry, ahead_gap}
+use Rattle.ordered_table.proofs.Walking.{ahead_entry, ahead_gap}
 use Rattle.comm_core.proofs.Closing.{first_is, one_less, none_less}
 use Rattle.comm_core.proofs.comms.Comms.close_those_of.Goals as goal
 use Rattle.comm_core.proofs.comms.Comms.close_those_of.Goals.{in-Some+then-eq, in-Some+else-eq, in_default}

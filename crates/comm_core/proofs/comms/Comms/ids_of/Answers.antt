@@ -1,7 +1,7 @@
 use Rattle.std.proofs.Common.{◌≡◌, ◌<◌, ap, sym, ◌∙◌, true, false, arith, length}
 use Rattle.std.specs.Str.{bytes_eq}
 use Rattle.comm_core.specs.Machine.{ids_of}
-use Rattle.comm_tables.proofs.Walking.{walked_entry, walked_gap}
+use Rattle.ordered_table.proofs.Walking.{walked_entry, walked_gap}
 use Rattle.comm_core.proofs.Closing.{one_more, none_more}
 use Rattle.comm_core.proofs.comms.Comms.ids_of.Goals as goal
 use Rattle.comm_core.proofs.comms.Comms.ids_of.Goals.{in-Some+then-eq+in_ok-copy+in_ok-push, in-Some+else-eq, in_default}

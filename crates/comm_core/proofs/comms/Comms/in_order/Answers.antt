@@ -1,5 +1,5 @@
 use Rattle.std.proofs.Common.{◌<◌, [], ap, sym, ◌∙◌, arith, length}
-use Rattle.comm_tables.proofs.Walking.{walked_entry, walked_gap}
+use Rattle.ordered_table.proofs.Walking.{walked_entry, walked_gap}
 use Rattle.comm_core.specs.Kept.{pairs_of}
 use Rattle.comm_core.specs.Reads.{in_order}
 use Rattle.comm_core.specs.Tables.{Opens}

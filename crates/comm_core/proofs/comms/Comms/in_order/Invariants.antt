@@ -1,5 +1,5 @@
 use Rattle.std.proofs.Common.{◌≡◌, take}
-use Rattle.comm_tables.specs.Table.{there}
+use Rattle.ordered_table.specs.Table.{there}
 use Rattle.comm_core.specs.Kept.{pairs_of}
 use Rattle.comm_core.specs.Reads.{in_order}
 use Rattle.comm_core.proofs.comms.Comms.in_order.Given as goal

@@ -1,7 +1,7 @@
 use Rattle.std.proofs.Common.{◌≡◌, None, Some, refl, ap, sym, rules}
 use Rattle.std.specs.Str.{bytes_eq}
 use Rattle.std.specs.Map.{lookup}
-use Rattle.comm_tables.specs.Table.{entries}
+use Rattle.ordered_table.specs.Table.{entries}
 use Rattle.comm_core.specs.Kept.{IsCurrent, pairs_of}
 use Rattle.comm_core.proofs.Kept.{current_with_state, still_current}
 use Rattle.comm_core.proofs.comms.Comms.set_state.Goals as goal

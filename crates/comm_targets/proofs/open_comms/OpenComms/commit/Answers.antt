@@ -1,5 +1,5 @@
 use Rattle.std.proofs.Common.{ap, sym, subst, ◌∙◌, Some, IsSome, option_map, string_bytes}
-use Rattle.comm_tables.specs.Table.{entries}
+use Rattle.ordered_table.specs.Table.{entries}
 use Rattle.comm_targets.specs.OpenComms.{OpenAndStaged, CanCommit, texts_of}
 use Rattle.comm_targets.proofs.Opened.{found_by_text, none_found, fresh_absent}
 use Rattle.comm_targets.proofs.open_comms.OpenComms.commit.Goals as goal

@@ -1,5 +1,5 @@
 use Rattle.std.proofs.Common.{ap, ◌∙◌, option_map, string_bytes}
-use Rattle.comm_tables.specs.Table.{entries, there}
+use Rattle.ordered_table.specs.Table.{entries, there}
 use Rattle.comm_targets.specs.OpenComms.{texts_of}
 use Rattle.comm_targets.specs.Meaning.{has_id}
 use Rattle.comm_targets.proofs.Opened.{ready_kept}

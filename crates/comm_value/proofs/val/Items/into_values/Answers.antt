@@ -9,5 +9,5 @@ use Rattle.comm_value.proofs.val.Items.into_values.Goals as goal
 pub returns-in-Err-clause-shown : goal.returns-in-Err-clause-shown
 returns-in-Err-clause-shown c =
     let there : c.as_slice.result.now ≡ (arc_value c.self.inside.all).items = c.as_slice.ensures.value ∙ ap (λ (v : Vec Val Global). v.items) (c.deref.ensures ∙ ap arc_value c.in-Err.ensures.err) in
-    if_ok (λ all. map tree all.items ≡ map tree c.as_slice.result.now) (λ all. items_of all.items ≡ c.args.self) c.copy_all.result
-    (λ all h. same_items all.items c.as_slice.result.now h ∙ ap items_of there ∙ c.self.view_is) c.copy_all.ensures
+    if_ok (λ all. map tree all.items ≡ map tree c.as_slice.result.now) (λ all. items_of all.items ≡ c.args.self) c.copy_values.result
+    (λ all h. same_items all.items c.as_slice.result.now h ∙ ap items_of there ∙ c.self.view_is) c.copy_values.ensures

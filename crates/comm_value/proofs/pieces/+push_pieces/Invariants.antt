@@ -1,5 +1,0 @@
-use Rattle.std.proofs.Common.{length}
-use Rattle.comm_value.proofs.pieces.+push_pieces.Given as goal
-
-abbrev pub decreases-push_pieces : goal.decreases-push_pieces
-decreases-push_pieces l = length l.members.items
