@@ -4,14 +4,14 @@ use Rattle.serde_json.specs.Data.{Data, Items, no_items, item}
 use Rattle.serde_json.specs.Find.{get_item}
 use Rattle.comm_value.specs.Gives.{◌>>=◌, or_fault, Fails}
 use Rattle.comm_messages.specs.Gives.{Reading, is_memory}
-use Rattle.comm_messages.specs.Buffers.{decoded, decoded_from}
+use Rattle.comm_messages.specs.Buffers.{buffer_of, buffers_from}
 use Rattle.comm_messages.specs.declared.fault.MessageFault.{MessageFault}
 use Rattle.comm_messages.specs.declared.fault.MessageFault.TheVariants.{BadBuffer}
 
 some_same : {A : Type 0} {x y : A} → Some x ≡ Some y → x ≡ y
 some_same h = cc
 
--- those that were decoded before the rest
+-- the buffers decoded so far, before the rest
 abbrev pub after : List (List ℕ) → Reading (List (List ℕ)) → Reading (List (List ℕ))
 after bs rest = rest >>= (λ cs. Ok (bs ++ cs))
 
@@ -43,30 +43,30 @@ left_none (item e ds) (suc n) at = left_none ds n at
 
 -- what is left from number n on
 abbrev pub rest : Items → ℕ → Reading (List (List ℕ))
-rest ds n = decoded_from n (left n ds)
+rest ds n = buffers_from n (left n ds)
 
 pub one_more : (ds : Items) (d : Data) (all new : List (List ℕ)) (b : List ℕ) (whole : Reading (List (List ℕ)))
-    → get_item (length all) ds ≡ Some d → or_fault (BadBuffer (length all)) (decoded d) ≡ Ok b → new ≡ all ++ b ∷ []
+    → get_item (length all) ds ≡ Some d → or_fault (BadBuffer (length all)) (buffer_of d) ≡ Ok b → new ≡ all ++ b ∷ []
     → whole ≡ after all (rest ds (length all)) → whole ≡ after new (rest ds (length new))
 one_more ds d all new b whole at is more before =
     let n = length all in
     let next : suc n ≡ length new = omega (arith, ap length more, length-append all (b ∷ [])) in
     before
-    ∙ ap (λ is. after all (decoded_from n is)) (left_item ds n d at)
+    ∙ ap (λ is. after all (buffers_from n is)) (left_item ds n d at)
     ∙ ap (λ r. after all (r >>= (λ c. rest ds (suc n) >>= (λ bs. Ok (c ∷ bs))))) is
     ∙ after-cons all b (rest ds (suc n))
     ∙ ap (λ l. after l (rest ds (suc n))) (sym more) ∙ ap (λ m. after new (rest ds m)) next
 
 pub one_fails : (ds : Items) (d : Data) (all : List (List ℕ)) (e : MessageFault) (whole : Reading (List (List ℕ)))
-    → get_item (length all) ds ≡ Some d → or_fault (BadBuffer (length all)) (decoded d) ≡ Err e → whole ≡ after all (rest ds (length all)) → whole ≡ Err e
+    → get_item (length all) ds ≡ Some d → or_fault (BadBuffer (length all)) (buffer_of d) ≡ Err e → whole ≡ after all (rest ds (length all)) → whole ≡ Err e
 one_fails ds d all e whole at is before =
     let n = length all in
     before
-    ∙ ap (λ is. after all (decoded_from n is)) (left_item ds n d at)
+    ∙ ap (λ is. after all (buffers_from n is)) (left_item ds n d at)
     ∙ ap (λ r. after all (r >>= (λ c. rest ds (suc n) >>= (λ bs. Ok (c ∷ bs))))) is
 
 pub none_left : (ds : Items) (all : List (List ℕ)) (whole : Reading (List (List ℕ))) → get_item (length all) ds ≡ None → whole ≡ after all (rest ds (length all)) → whole ≡ Ok all
-none_left ds all whole at before = before ∙ ap (λ is. after all (decoded_from (length all) is)) (left_none ds (length all) at) ∙ ap Ok (append-nil all)
+none_left ds all whole at before = before ∙ ap (λ is. after all (buffers_from (length all) is)) (left_none ds (length all) at) ∙ ap Ok (append-nil all)
 
 -- a part fails, and so does the whole
 fails_by : {A B : Type 0} (memory : Bool) (e : MessageFault) (part : Reading A) (whole : Reading B) → (part ≡ Err e → whole ≡ Err e) → Fails memory e part → Fails memory e whole

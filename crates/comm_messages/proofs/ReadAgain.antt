@@ -22,7 +22,7 @@ use Rattle.comm_value.proofs.Keys.{both, is_less}
 use Rattle.comm_messages.specs.Content.{Content}
 use Rattle.comm_value.specs.Gives.{or_fault, ◌>>=◌}
 use Rattle.comm_messages.specs.Gives.{Reading}
-use Rattle.comm_messages.specs.Buffers.{decoded_from}
+use Rattle.comm_messages.specs.Buffers.{buffers_from}
 use Rattle.comm_messages.specs.Fields.{fields_of}
 use Rattle.comm_messages.specs.Listed.{IdsAreInOrder}
 use Rattle.comm_messages.specs.declared.infos.Info.{Info}
@@ -97,10 +97,10 @@ mutual
 bytes_again : (b : List ℕ) → IsBytes b → result_ok (decode_of standard (encode_of standard b)) ≡ Some b
 bytes_again b h = ap result_ok (decode_of-encode_of standard b refl h)
 
-buffers_again : (n : ℕ) (bs : List (List ℕ)) → All IsBytes bs → decoded_from n (buffer_texts bs) ≡ Ok bs
+buffers_again : (n : ℕ) (bs : List (List ℕ)) → All IsBytes bs → buffers_from n (buffer_texts bs) ≡ Ok bs
 buffers_again n [] h = refl
 buffers_again n (b ∷ bs) h =
-    ap (λ r. or_fault (BadBuffer n) r >>= (λ c. decoded_from (suc n) (buffer_texts bs) >>= (λ cs. Ok (c ∷ cs)))) (bytes_again b (h 0 b (omega arith)))
+    ap (λ r. or_fault (BadBuffer n) r >>= (λ c. buffers_from (suc n) (buffer_texts bs) >>= (λ cs. Ok (c ∷ cs)))) (bytes_again b (h 0 b (omega arith)))
     ∙ ap (λ r. r >>= (λ cs. Ok (b ∷ cs))) (buffers_again (suc n) bs (λ k d lt. h (suc k) d (omega arith)))
 
 texts_clean : (bs : List (List ℕ)) → AreClean (buffer_texts bs)
@@ -113,14 +113,14 @@ some_same : {A : Type 0} {x y : A} → Some x ≡ Some y → x ≡ y
 some_same h = cc
 
 open_object : (clients : ℕ) (parent : Parent) (id target version : List ℕ) (body : Content) → nat_lt (client_in parent) clients ≡ true
-    → members_of (to.json_members body.content) ≡ Some body.content → decoded_from 0 (buffer_texts body.buffers) ≡ Ok body.buffers
+    → members_of (to.json_members body.content) ≡ Some body.content → buffers_from 0 (buffer_texts body.buffers) ≡ Ok body.buffers
     → message_of clients (json_of (parts_of (Open id target version body)) parent) ≡ Ok (client_in parent, incoming.Open id target (Some version) body)
 unfolding message_in heading open_in
 open_object clients (Call c n) id target version body client values buffers = rw (client, values, buffers) refl
 open_object clients (Read c n) id target version body client values buffers = rw (client, values, buffers) refl
 
 msg_object : (clients : ℕ) (parent : Parent) (id : List ℕ) (body : Content) → nat_lt (client_in parent) clients ≡ true
-    → members_of (to.json_members body.content) ≡ Some body.content → decoded_from 0 (buffer_texts body.buffers) ≡ Ok body.buffers
+    → members_of (to.json_members body.content) ≡ Some body.content → buffers_from 0 (buffer_texts body.buffers) ≡ Ok body.buffers
     → message_of clients (json_of (parts_of (Msg id body)) parent) ≡ Ok (client_in parent, incoming.Msg id body)
 unfolding message_in heading msg_in
 msg_object clients (Call c n) id body client values buffers = rw (client, values, buffers) refl

@@ -11,7 +11,7 @@ use Rattle.comm_value.specs.ToJson.{json_members}
 use Rattle.comm_messages.specs.Content.{Content}
 use Rattle.serde_json.proofs.OnLiterals.{serde_json_on_literals}
 use Rattle.comm_messages.specs.Text.{buffer_texts, comm_members, text}
-use Rattle.comm_messages.specs.Parts.{GrowsBy, buffers_text, parent_text, front_text, content_text, end_text}
+use Rattle.comm_messages.specs.Parts.{GrowsBy, buffers_text, parent_text, front_text, content_text, metadata_text, end_text, info_text}
 use Rattle.comm_messages.specs.declared.outgoing.Outgoing.{Outgoing}
 use Rattle.comm_messages.specs.declared.outgoing.Outgoing.TheVariants.{Open, Msg, Close, InfoReply}
 use Rattle.comm_messages.specs.declared.infos.Info.{Info}
@@ -60,6 +60,11 @@ pub open_content : (m : Outgoing) (id target version : List ℕ) (body : Content
 unfolding serde_json_on_literals
 open_content m id target version body is = rw is (simp append_assoc)
 
+pub open_metadata : (m : Outgoing) (id target version : List ℕ) (body : Content) → m ≡ Open id target version body
+    → metadata_text m ≡ codes "{\"version\":" ++ (quoted version ++ codes "}")
+unfolding serde_json_on_literals
+open_metadata m id target version body is = rw is (simp append_assoc)
+
 pub msg_content : (m : Outgoing) (id : List ℕ) (body : Content) → m ≡ Msg id body
     → content_text m ≡ (codes "{\"comm_id\":" ++ quoted id) ++ ((codes ",\"data\":" ++ compact_text (object (json_members body.content))) ++ codes "}")
 unfolding serde_json_on_literals
@@ -95,19 +100,16 @@ reply_end m comms is = rw is refl
 abbrev pub comms_rest : List Info → ℕ → List ℕ
 comms_rest infos i = members_text (nat_lt 0 i) (comm_members (drop i infos))
 
-abbrev pub comm_text : Info → List ℕ
-comm_text info = quoted info.id ++ (codes ":{\"target_name\":" ++ (quoted info.target ++ codes "}"))
-
 comm-member : (k : Bool) (info : Info) (infos : List Info)
-    → members_text k (comm_members (info ∷ infos)) ≡ (comma_if k ++ comm_text info) ++ members_text true (comm_members infos)
+    → members_text k (comm_members (info ∷ infos)) ≡ (comma_if k ++ info_text info) ++ members_text true (comm_members infos)
 unfolding serde_json_on_literals
 comm-member k info infos = simp append_assoc
 
 pub one_more_comm : (infos : List Info) (i : ℕ) (info : Info) (old new whole : List ℕ) → i < length infos → info ≡ get_or infos i info
-    → GrowsBy old (comma_if (nat_lt 0 i) ++ comm_text info) new → old ++ comms_rest infos i ≡ whole → new ++ comms_rest infos (i + 1) ≡ whole
+    → GrowsBy old (comma_if (nat_lt 0 i) ++ info_text info) new → old ++ comms_rest infos i ≡ whole → new ++ comms_rest infos (i + 1) ≡ whole
 one_more_comm infos i info old new whole h is more before =
     let next : i + 1 ≡ suc i = omega arith in
-    let written = comma_if (nat_lt 0 i) ++ comm_text info in
+    let written = comma_if (nat_lt 0 i) ++ info_text info in
     let first : comms_rest infos i ≡ written ++ members_text true (comm_members (drop (suc i) infos)) =
     ap (λ l. members_text (nat_lt 0 i) (comm_members l)) (drop-cons infos i info h ∙ ap (λ c. c ∷ drop (suc i) infos) (sym is))
     ∙ comm-member (nat_lt 0 i) info (drop (suc i) infos) in

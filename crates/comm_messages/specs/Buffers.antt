@@ -1,4 +1,4 @@
--- Binary buffers in a line: a list of texts in base64 (RFC 4648, section 4), with padding.
+-- Binary buffers in a line: a list of strings in base64 (RFC 4648, section 4), with padding.
 use Rattle.std.specs.Prelude.{ℕ, suc, List, [], ◌∷◌, Option, Some, None, Ok, Err}
 use Rattle.std.specs.Result.{result_ok}
 use Rattle.base64.specs.GeneralPurpose.{decode_of}
@@ -9,19 +9,20 @@ use Rattle.comm_messages.specs.Gives.{Reading}
 use Rattle.comm_messages.specs.declared.fault.MessageFault.TheVariants.{BadContent, BadBuffer}
 use Rattle.comm_messages.specs.declared.fault.Field.TheVariants.{Buffers}
 
--- the bytes that a text encodes
-abbrev pub decoded : Data → Option (List ℕ)
-decoded (string s) = result_ok (decode_of standard s)
-decoded _ = None
+-- the bytes that a string encodes
+abbrev pub buffer_of : Data → Option (List ℕ)
+buffer_of (string s) = result_ok (decode_of standard s)
+buffer_of _ = None
 
 -- the buffers from number n on
-abbrev pub decoded_from : ℕ → Items → Reading (List (List ℕ))
-decoded_from n no_items = Ok []
-decoded_from n (item d ds) = or_fault (BadBuffer n) (decoded d) >>= (λ b. decoded_from (suc n) ds >>= (λ bs. Ok (b ∷ bs)))
+abbrev pub buffers_from : ℕ → Items → Reading (List (List ℕ))
+buffers_from n no_items = Ok []
+buffers_from n (item d ds) =
+    or_fault (BadBuffer n) (buffer_of d) >>= (λ b. buffers_from (suc n) ds >>= (λ bs. Ok (b ∷ bs)))
 
 -- absent or null is no buffer
 abbrev pub buffers_of : Option Data → Reading (List (List ℕ))
 buffers_of None = Ok []
 buffers_of (Some null) = Ok []
-buffers_of (Some (array ds)) = decoded_from 0 ds
+buffers_of (Some (array ds)) = buffers_from 0 ds
 buffers_of (Some _) = Err (BadContent Buffers)

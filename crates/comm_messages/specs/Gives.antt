@@ -1,4 +1,4 @@
--- What a reader gives: a value, or the first test that fails. Want of memory is left open.
+-- What a reader gives: a value, or the first test that fails. Out of memory leaves the result open.
 use Rattle.std.specs.Prelude.{Bool, true, false, Result}
 use Rattle.comm_value.specs.Gives as any
 use Rattle.comm_messages.specs.declared.fault.MessageFault.{MessageFault}

@@ -1,4 +1,5 @@
--- The message of a line, or the first of the tests that it fails ('Messaging in Jupyter' 5.3, "Custom Messages" and "Comm info").
+-- The message of a line, or the first of the tests that it fails ('Messaging in Jupyter' 5.3, "Custom Messages" and
+-- "Comm info").
 use Rattle.std.specs.Prelude.{ℕ, List, Option, option_and_then, Ok, Err, codes, if◌then◌else◌}
 use Rattle.std.specs.Str.{bytes_eq}
 use Rattle.serde_json.specs.Data.{Data, Members}
@@ -12,7 +13,8 @@ use Rattle.comm_messages.specs.Fields.{object_in, object_or_empty, text, text_or
 use Rattle.comm_messages.specs.Buffers.{buffers_of}
 use Rattle.comm_messages.specs.declared.fault.Field.{Field}
 use Rattle.comm_messages.specs.declared.fault.Field.TheVariants as field
-use Rattle.comm_messages.specs.declared.fault.MessageFault.TheVariants.{NotJson, NoType, UnknownType, BadContent, NotWhole}
+use Rattle.comm_messages.specs.declared.fault.MessageFault.TheVariants.{NotJson, NoType, UnknownType}
+use Rattle.comm_messages.specs.declared.fault.MessageFault.TheVariants.{BadContent, NotWhole}
 use Rattle.comm_messages.specs.declared.incoming.Incoming.{Incoming}
 use Rattle.comm_messages.specs.declared.incoming.Incoming.TheVariants.{Open, Msg, Close, InfoRequest}
 use Rattle.comm_messages.specs.declared.read.MessageType.{MessageType}
@@ -25,7 +27,10 @@ type_named name =
     else if bytes_eq name (codes "comm_info_request") then Ok type.InfoRequest else Err UnknownType
 
 abbrev pub type_of : Option Data → Reading MessageType
-type_of header = or_fault NoType (option_and_then (λ ms. text (get_member (codes "msg_type") ms)) (option_and_then members_in header)) >>= type_named
+type_of header =
+    or_fault NoType
+    (option_and_then (λ ms. text (get_member (codes "msg_type") ms)) (option_and_then members_in header))
+    >>= type_named
 
 -- the client and the type
 unfoldable pub heading : ℕ → Members → Reading (ℕ × MessageType)
@@ -69,13 +74,13 @@ msg_in line content = do
   body ← body_of dict line
   Ok (Msg id body)
 
--- the metadata and the buffers of a message that uses neither: they are tested and dropped
+-- the metadata and the buffers of a message that uses neither: they are checked and dropped
 abbrev pub unused_in : Members → Reading (List (List ℕ))
 unused_in line = do
   metadata ← object_at field.Metadata (codes "metadata") line
   buffers_of (get_member (codes "buffers") line)
 
--- so is its data
+-- its data is checked and dropped too
 unfoldable pub close_in : Members → Members → Reading Incoming
 close_in line content = do
   id ← text_at field.CommId (codes "comm_id") content
@@ -107,10 +112,10 @@ message_in clients line = do
   incoming ← incoming_in head.1 line content
   Ok (head.0, incoming)
 
--- the same of a JSON value
+-- the client and the message of a JSON value
 abbrev pub message_of : ℕ → Data → Reading (ℕ × Incoming)
 message_of clients value = or_fault NotJson (members_in value) >>= message_in clients
 
--- the same of the bytes of a line
+-- the client and the message of a line's bytes
 abbrev pub message : ℕ → List ℕ → Reading (ℕ × Incoming)
 message clients bytes = object_in bytes >>= message_in clients

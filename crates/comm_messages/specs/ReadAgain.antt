@@ -1,9 +1,10 @@
--- A message that was written is read again, as JSON and as the same message: the words of the law in laws.rt.
+-- The round trip of a message that is written: it is read as JSON and as an equal message. The law is in laws.rt.
 use Rattle.std.specs.Prelude.{◌≡◌, ◌<◌, ◌≤◌, ◌^◌, ℕ, true, false, List, [], ◌∷◌, Option, Some, None, Ok, All, IsUtf8, ⊤}
 use Rattle.base64.specs.GeneralPurpose.{IsBytes}
 use Rattle.serde_json.specs.Data.{depth}
 use Rattle.serde_json.specs.Read.{max_depth}
-use Rattle.comm_value.specs.Tree.{Tree, whole, text as a_text, list, dict, Items, no_items, item, Members, no_members, member}
+use Rattle.comm_value.specs.Tree.{Tree, whole, text as a_text, list, dict}
+use Rattle.comm_value.specs.Tree.{Items, no_items, item, Members, no_members, member}
 use Rattle.comm_value.specs.Order.{members_ordered}
 use Rattle.comm_value.specs.Places.{members_have_bytes}
 use Rattle.comm_value.specs.Range.{in_range}
@@ -20,7 +21,7 @@ use Rattle.comm_messages.specs.declared.outgoing.Outgoing.TheVariants.{Open, Msg
 use Rattle.comm_messages.specs.declared.outgoing.Parent.{Parent}
 use Rattle.comm_messages.specs.declared.outgoing.Parent.TheVariants.{Call, Read}
 
--- the message of the other side that has the same id, target name, version, data and buffers; a reply to comm_info_request is none that is read
+-- the incoming message with equal id, target name, version, data and buffers; a comm_info_reply isn't read
 abbrev pub same_message : Outgoing → Option Incoming
 same_message (Open id target version body) = Some (incoming.Open id target (Some version) body)
 same_message (Msg id body) = Some (incoming.Msg id body)
@@ -70,20 +71,25 @@ MessageKept (InfoReply comms) = InfosKept comms × IdsAreInOrder comms
 
 -- ---- the law
 
--- the text is read as the object that is written, each key of it and each comm of a reply, where it nests no deeper than is read
+-- the text parses as the object that is written, with each key and each comm of a reply, where it nests no deeper than
+-- is read
 abbrev pub TextIsItsObject : Type 0
 TextIsItsObject =
-    (m : Outgoing) (parent : Parent) → MessageKept m → client_in parent < 2 ^ 8 → number_in parent < 2 ^ 64 → depth (json_of (parts_of m) parent) ≤ max_depth
+    (m : Outgoing) (parent : Parent) → MessageKept m → client_in parent < 2 ^ 8 → number_in parent < 2 ^ 64
+    → depth (json_of (parts_of m) parent) ≤ max_depth
     → line_value (text m parent) ≡ Some (json_of (parts_of m) parent)
 
 -- the object that is written says the message
 abbrev pub ObjectSaysMessage : Type 0
 ObjectSaysMessage =
-    (clients : ℕ) (m : Outgoing) (parent : Parent) (i : Incoming) → same_message m ≡ Some i → MessageKept m → client_in parent < clients
+    (clients : ℕ) (m : Outgoing) (parent : Parent) (i : Incoming) → same_message m ≡ Some i → MessageKept m
+    → client_in parent < clients
     → message_of clients (json_of (parts_of m) parent) ≡ Ok (client_in parent, i)
 
 -- so the message and its client are read from the text again
 abbrev pub TextIsReadAgain : Type 0
 TextIsReadAgain =
-    (clients : ℕ) (m : Outgoing) (parent : Parent) (i : Incoming) → same_message m ≡ Some i → MessageKept m → client_in parent < clients → clients < 2 ^ 8
-    → number_in parent < 2 ^ 64 → depth (json_of (parts_of m) parent) ≤ max_depth → message clients (text m parent) ≡ Ok (client_in parent, i)
+    (clients : ℕ) (m : Outgoing) (parent : Parent) (i : Incoming) → same_message m ≡ Some i → MessageKept m
+    → client_in parent < clients → clients < 2 ^ 8 → number_in parent < 2 ^ 64
+    → depth (json_of (parts_of m) parent) ≤ max_depth
+    → message clients (text m parent) ≡ Ok (client_in parent, i)

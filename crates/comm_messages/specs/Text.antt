@@ -1,8 +1,10 @@
--- The text of an outgoing message ('Messaging in Jupyter' 5.3, "Custom Messages" and "Comm info"): compact JSON with its keys in byte order.
+-- The text of an outgoing message ('Messaging in Jupyter' 5.3, "Custom Messages" and "Comm info"): compact JSON with
+-- its keys in byte order.
 use Rattle.std.specs.Prelude.{ℕ, List, [], ◌∷◌, map, codes, Bool, true, false}
 use Rattle.base64.specs.GeneralPurpose.{encode_of}
 use Rattle.base64.specs.Engines.{standard}
-use Rattle.serde_json.specs.Data.{Data, number, unsigned, string, array, object, Items, no_items, item, Members, no_members, member}
+use Rattle.serde_json.specs.Data.{Data, number, unsigned, string, array, object}
+use Rattle.serde_json.specs.Data.{Items, no_items, item, Members, no_members, member}
 use Rattle.serde_json.specs.Written.{compact_text}
 use Rattle.comm_value.specs.ToJson.{json_members}
 use Rattle.comm_messages.specs.declared.outgoing.Outgoing.{Outgoing}
@@ -22,7 +24,8 @@ buffer_texts buffers = texts (map (encode_of standard) buffers)
 -- the target name of each comm, by its id: a list in the order of ids gives an object with its keys in order, each once
 abbrev pub comm_members : List Info → Members
 comm_members [] = no_members
-comm_members (info ∷ infos) = member info.id (object (member (codes "target_name") (string info.target) no_members)) (comm_members infos)
+comm_members (info ∷ infos) =
+    member info.id (object (member (codes "target_name") (string info.target) no_members)) (comm_members infos)
 
 pub record Parts : Type 0 where
   pub type : List ℕ
@@ -33,13 +36,16 @@ pub record Parts : Type 0 where
 abbrev pub parts_of : Outgoing → Parts
 parts_of (Open id target version body) = record {
   type = codes "comm_open";
-  content = member (codes "comm_id") (string id) (member (codes "data") (object (json_members body.content)) (member (codes "target_name") (string target) no_members));
+  content = member (codes "comm_id") (string id)
+      (member (codes "data") (object (json_members body.content))
+      (member (codes "target_name") (string target) no_members));
   metadata = member (codes "version") (string version) no_members;
   buffers = body.buffers;
 }
 parts_of (Msg id body) = record {
   type = codes "comm_msg";
-  content = member (codes "comm_id") (string id) (member (codes "data") (object (json_members body.content)) no_members);
+  content = member (codes "comm_id") (string id)
+      (member (codes "data") (object (json_members body.content)) no_members);
   metadata = no_members;
   buffers = body.buffers;
 }
@@ -51,7 +57,8 @@ parts_of (Close id) = record {
 }
 parts_of (InfoReply comms) = record {
   type = codes "comm_info_reply";
-  content = member (codes "comms") (object (comm_members comms)) (member (codes "status") (string (codes "ok")) no_members);
+  content = member (codes "comms") (object (comm_members comms))
+      (member (codes "status") (string (codes "ok")) no_members);
   metadata = no_members;
   buffers = [];
 }

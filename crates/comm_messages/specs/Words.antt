@@ -1,4 +1,4 @@
--- What is said of a part of a message that is of the wrong type.
+-- The error text for a part of a message that has the wrong type.
 use Rattle.std.specs.Prelude.{ℕ, List, codes}
 use Rattle.comm_messages.specs.declared.fault.Field.{Field}
 use Rattle.comm_messages.specs.declared.fault.Field.TheVariants.{Content, CommId, TargetName, Body, Metadata, Buffers}

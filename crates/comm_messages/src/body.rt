@@ -5,8 +5,8 @@ use comm_value::{Buffers, Dict};
 use std::alloc::{AllocError, Global};
 use std::marker::Model;
 
-/// What a comm's message carries: `data`, which has no bytes in it, and the binary buffers beside it
-/// ('Messaging in Jupyter' 5.3, "Custom Messages").
+/// The payload of a comm's message: `data`, which contains no bytes, and the binary buffers beside it ('Messaging in
+/// Jupyter' 5.3, "Custom Messages").
 #[derive(Drop)]
 pub struct Body {
     content: Dict,
@@ -28,6 +28,7 @@ impl Model for Body {
 }
 
 impl Body {
+    /// A body of this `data` and these buffers, which are moved in.
     pub fn new(content: Dict, buffers: Buffers) -> Body
         requires { members_have_bytes content ≡ false }
         ensures { result ≡ record { content = content; buffers = buffers } }
@@ -35,7 +36,7 @@ impl Body {
         Self { content, buffers }
     }
 
-    /// The same body. Its members and its buffers are shared.
+    /// A copy that shares the members and the bytes of the buffers. Err: out of memory.
     pub fn copy(&self, alloc: Global) -> Result<Body, AllocError>
         ensures { IfOk result (λ b. b ≡ self.now) }
     {
@@ -44,7 +45,7 @@ impl Body {
         Ok(Body { content, buffers })
     }
 
-    /// The message's `data`.
+    /// The `data` of the message, which contains no bytes.
     pub fn content(&self) -> &Dict
         ensures content { result.now ≡ self.now.content }
         ensures plain { members_have_bytes self.now.content ≡ false }
@@ -52,14 +53,14 @@ impl Body {
         &self.content
     }
 
-    /// The message's buffers, in their order.
+    /// The buffers of the message, in order.
     pub fn buffers(&self) -> &Buffers
         ensures { result.now ≡ self.now.buffers }
     {
         &self.buffers
     }
 
-    /// The data and the buffers by themselves.
+    /// The `data` and the buffers, moved out.
     pub fn into_parts(self) -> (Dict, Buffers)
         ensures content { result.0 ≡ self.content }
         ensures buffers { result.1 ≡ self.buffers }

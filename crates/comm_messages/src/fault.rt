@@ -5,20 +5,20 @@ use std::alloc::{AllocError, AllocFailed};
 use std::fmt;
 use thiserror::Error;
 
-/// A part of a message that can be of the wrong type.
+/// A part of a message that has the wrong type, in [`MessageFault::BadContent`].
 #[derive(Clone, Copy, Debug, PartialEq, Eq, Drop)]
 pub enum Field {
-    /// `content`, an object.
+    /// `content` is to be an object.
     Content,
-    /// `content.comm_id`, a text.
+    /// `content.comm_id` is to be a string.
     CommId,
-    /// `content.target_name`, a text.
+    /// `content.target_name` is to be a string; in a `comm_info_request` it may be null or absent.
     TargetName,
-    /// `content.data`, an object.
+    /// `content.data` is to be an object, or null or absent.
     Body,
-    /// `metadata`, an object.
+    /// `metadata` is to be an object, or null or absent.
     Metadata,
-    /// `buffers`, a list.
+    /// `buffers` is to be a list, or null or absent.
     Buffers,
 }
 
@@ -40,24 +40,31 @@ impl fmt::Display for Field {
     }
 }
 
-/// Why a line is no message: the first test that it fails.
+/// Why a line isn't a message of a comm: the first test that it fails, in the order of `specs/Message`.
 #[derive(Clone, Copy, Debug, PartialEq, Eq, Drop, Error)]
 pub enum MessageFault {
+    /// The line isn't UTF-8, isn't JSON (RFC 8259), or isn't an object.
     #[error("the line is not a JSON object")]
     NotJson,
+    /// `header` isn't an object with a string `msg_type`.
     #[error("`header` has no text `msg_type`")]
     NoType,
+    /// `msg_type` isn't `comm_open`, `comm_msg`, `comm_close` or `comm_info_request`.
     #[error("`msg_type` names no message of a comm")]
     UnknownType,
+    /// This part has the wrong type, or is missing where it is required.
     #[error("{0}")]
     BadContent(Field),
+    /// A number in `data` isn't an integer from -2^63 to 2^64 - 1.
     #[error("a number in `data` is not a whole number from -2^63 to 2^64 - 1")]
     NotWhole,
-    /// The number of the buffer, from 0.
+    /// The buffer of this index, from 0, isn't a string in base64.
     #[error("buffer {0} is not a text in base64")]
     BadBuffer(usize),
+    /// `client` isn't an integer from 0 to the number of clients less one.
     #[error("`client` is not a whole number below the number of clients")]
     BadClient,
+    /// Out of memory.
     #[error("memory ran out")]
     Memory,
 }

@@ -6,14 +6,16 @@ use std::alloc::{AllocError, Global};
 use std::marker::Model;
 use std::sync::Arc;
 
-/// An open comm: its id and the name of its target.
+/// An open comm in a `comm_info_reply`.
 #[derive(Drop)]
 pub struct Info {
+    /// The comm's id.
     pub id: Text,
+    /// The name of its target.
     pub target: Text,
 }
 
-/// Open comms, seen as a list in the byte order of their ids, each id once, as a reply lists them. Copies share it.
+/// The open comms of a `comm_info_reply`, in the byte order of their ids, each id once. Copies share the list.
 #[derive(Drop)]
 pub struct Infos {
     all: Arc<Vec<Info>, Global>,
@@ -33,7 +35,7 @@ impl Model for Infos {
 }
 
 impl Infos {
-    /// These comms, which stand in the byte order of their ids and are moved in. Err: memory.
+    /// The list of these comms, which are moved in; their ids are in byte order, each once. Err: out of memory.
     pub fn new(alloc: Global, all: Vec<Info>) -> Result<Infos, AllocError>
         requires { IdsAreInOrder all.items }
         ensures { IfOk result (λ i. i ≡ all.items) }
@@ -43,7 +45,7 @@ impl Infos {
         })
     }
 
-    /// The same list, shared: nothing in it is copied. Err: it can't be shared once more.
+    /// A copy that shares the list. Err: the reference count is at its maximum.
     pub fn copy(&self) -> Result<Infos, AllocError>
         ensures { IfOk result (λ i. i ≡ self.now) }
     {
@@ -52,7 +54,7 @@ impl Infos {
         })
     }
 
-    /// The comms in the byte order of their ids, each id once.
+    /// The comms, in the byte order of their ids.
     pub fn as_slice(&self) -> &[Info]
         ensures listed { result.now ≡ self.now }
         ensures in_order { IdsAreInOrder self.now }

@@ -1,9 +1,10 @@
-// Laws of the definitions. Each is the contract of a function that does nothing.
+// Laws of the definitions: each is the contract of a function with an empty body.
 ghost use Rattle.comm_messages.specs.ReadAgain.{ObjectSaysMessage, TextIsItsObject, TextIsReadAgain};
 
-/// A message that `write_message` writes is read as the JSON object that `specs/Text` has, also a reply to `comm_info_request` with each of
-/// its comms. A `comm_open`, `comm_msg` or `comm_close` is read again as the same message: the same client, id, target name, version, data
-/// and buffers. It says so where what is written nests at most 127 deep, since no deeper JSON is read.
+/// The round trip. The text of [`crate::write_message`] parses as the JSON object that `specs/Text` defines, a
+/// `comm_info_reply` included. [`crate::read_message`] reads a `comm_open`, `comm_msg` or `comm_close` from it with
+/// equal client, id, target name, version, data and buffers. Both hold where the JSON nests at most 127 deep: no
+/// deeper JSON is read.
 pub fn written_is_read_again()
     ensures object { ObjectSaysMessage }
     ensures json { TextIsItsObject }

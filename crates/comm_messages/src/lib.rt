@@ -1,14 +1,15 @@
-//! Messages of Jupyter comms ('Messaging in Jupyter' 5.3, "Custom Messages" and "Comm info"), from lines of JSON and to them.
+//! Messages of Jupyter comms ('Messaging in Jupyter' 5.3, "Custom Messages" and "Comm info"): parsing and
+//! serialization.
 //!
-//! A line is read as a client's message ([`read_message`]), whole or by its fields ([`object_in`], [`member`], [`message_in`]), and what the
-//! kernel sends is written as compact JSON with its keys in byte order ([`write_message`]). `specs/Message` says which message a line is, or
-//! the first test that it fails, by the words of `specs/Fields` and `specs/Buffers`; `specs/Text` says each byte that is written. The law
-//! [`written_is_read_again`] ties the two.
+//! [`read_message`] parses a line of JSON as a frontend's message; [`object_in`], [`member`] and [`message_in`] do it
+//! by fields. [`write_message`] serializes a message of the kernel as compact JSON with its keys in byte order;
+//! [`append_content`], [`append_metadata`] and [`append_buffers`] give its parts. `specs/Message` defines the message
+//! of a line, or the first test that it fails, by the definitions of `specs/Fields` and `specs/Buffers`; `specs/Text`
+//! defines each byte of the output. The law [`written_is_read_again`] is the round trip.
 //!
-//! The contracts say exactly what these give, up to want of memory: where a function answers [`MessageFault::Memory`] or `AllocError`,
-//! nothing is said of the line or the message (`specs/Gives`). That comes only where the allocator refused, or where what is shared can't
-//! be shared once more: in reading for the lists, texts, members and buffers of a line, in writing for the room of the text and the base64
-//! of a buffer. No clause says so, since a contract can't name the allocator's refusals.
+//! A result other than out of memory is exactly the definition's. After [`MessageFault::Memory`] or `AllocError`
+//! nothing is known of the line or the message (`specs/Gives`): an allocation failed, or a reference count was at its
+//! maximum. No clause says when that comes, since a contract can't name what an allocator refuses.
 
 #![tactic(auto)]
 
@@ -35,4 +36,6 @@ pub use infos::{Info, Infos};
 pub use laws::written_is_read_again;
 pub use outgoing::{Outgoing, Parent};
 pub use read::{body_of, message_in, message_of, read_message};
-pub use write::{append_buffers, append_message, write_message};
+pub use write::{
+    append_buffers, append_content, append_ids, append_message, append_metadata, write_message,
+};

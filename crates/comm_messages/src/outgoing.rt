@@ -8,29 +8,37 @@ use std::alloc::{AllocError, Global};
 /// A message that the kernel sends ('Messaging in Jupyter' 5.3, "Custom Messages").
 #[derive(Drop)]
 pub enum Outgoing {
-    /// `comm_open`: a comm of this id with this target; the version goes into `metadata.version`.
+    /// `comm_open` opens a comm at the frontend.
     Open {
+        /// `content.comm_id`.
         id: Text,
+        /// `content.target_name`.
         target: Text,
+        /// `metadata.version`.
         version: Text,
+        /// `content.data` and the buffers.
         body: Body,
     },
-    /// `comm_msg`: a message to the comm of this id.
+    /// `comm_msg` goes to an open comm.
     Msg {
+        /// `content.comm_id`.
         id: Text,
+        /// `content.data` and the buffers.
         body: Body,
     },
-    /// `comm_close`: the comm of this id ends.
+    /// `comm_close` closes a comm at the frontend.
     Close {
+        /// `content.comm_id`.
         id: Text,
     },
-    /// `comm_info_reply`: the comms that are open ("Comm info").
+    /// `comm_info_reply` lists the open comms ("Comm info").
     InfoReply {
+        /// `content.comms`.
         comms: Infos,
     },
 }
 
-/// What an outgoing message answers.
+/// The request that an outgoing message belongs to.
 #[derive(Clone, Copy, Debug, PartialEq, Eq, Drop)]
 pub enum Parent {
     /// A call of a client, by its number within that client, from 1.
@@ -40,7 +48,7 @@ pub enum Parent {
 }
 
 impl Outgoing {
-    /// The same message. Its texts, members and buffers are shared. An error says that memory ran out.
+    /// A copy that shares strings, members and the bytes of buffers. Err: out of memory.
     pub fn copy(&self, alloc: Global) -> Result<Outgoing, AllocError>
         ensures { IfOk result (λ m. m ≡ self.now) }
     {

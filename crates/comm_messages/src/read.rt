@@ -2,7 +2,10 @@ ghost use Rattle.std.specs.Prelude.{◌≡◌, ◌<◌, IfOk, Some, option_map, 
 ghost use Rattle.serde_json.specs.View.{view};
 ghost use Rattle.comm_messages.specs.Gives.{Gives};
 ghost use Rattle.comm_messages.specs.Fields.{behind, fields};
-ghost use Rattle.comm_messages.specs.Message.{type_named, type_of, heading, text_at, filter_at, object_at, version_of, body_of, open_in, msg_in, unused_in, close_in, info_request_in, incoming_in, message_in, message_of, message};
+ghost use Rattle.comm_messages.specs.Message.{type_named, type_of, heading, text_at, filter_at};
+ghost use Rattle.comm_messages.specs.Message.{object_at, version_of, body_of, open_in, msg_in, unused_in};
+ghost use Rattle.comm_messages.specs.Message.{close_in, info_request_in, incoming_in};
+ghost use Rattle.comm_messages.specs.Message.{message_in, message_of, message};
 
 use crate::body::Body;
 use crate::buffers::buffers_of;
@@ -12,12 +15,12 @@ use crate::fields::{
     whole_dict,
 };
 use crate::incoming::Incoming;
-use comm_json::{JsonRef, LineRoom, ObjectRef, Shape};
+use comm_json::{JsonKind, JsonRef, ObjectRef, ParseArena};
 use comm_value::{Buffers, Text};
 use serde_json::Value;
 use std::alloc::{AllocError, Global};
 
-/// The kinds of message that are read.
+/// The `msg_type` of a frontend's message.
 #[derive(Clone, Copy, Debug, PartialEq, Eq, Drop)]
 pub enum MessageType {
     Open,
@@ -26,17 +29,18 @@ pub enum MessageType {
     InfoRequest,
 }
 
-/// The client and the message of a line, or the first test that it fails.
+/// Parses a line of JSON as a message of one of `clients` clients. Gives the client's index, from 0, and the message.
+/// Err: the first test that the line fails (see [`MessageFault`]), or Memory.
 pub fn read_message(alloc: Global, line: &[u8], clients: u8) -> Result<(u8, Incoming), MessageFault>
     ensures message { Gives (λ r. (r.0, r.1)) result (message clients line.now) }
     ensures below { 0 < clients → IfOk result (λ r. r.0 < clients) }
 {
-    let mut room = LineRoom::new(alloc);
-    let object = object_in(line, &mut room)?;
+    let mut arena = ParseArena::new(alloc);
+    let object = object_in(line, &mut arena)?;
     message_in(alloc, fields_of(&object), clients)
 }
 
-/// The same of a JSON value that was read.
+/// Reads a message from a parsed JSON value, as [`read_message`] does from a line.
 pub fn message_of(alloc: Global, value: &Value, clients: u8) -> Result<(u8, Incoming), MessageFault>
     ensures message { Gives (λ r. (r.0, r.1)) result (message_of clients (view value.now)) }
     ensures below { 0 < clients → IfOk result (λ r. r.0 < clients) }
@@ -47,7 +51,7 @@ pub fn message_of(alloc: Global, value: &Value, clients: u8) -> Result<(u8, Inco
     }
 }
 
-/// The same of the members of a JSON object.
+/// Reads a message from the members of a JSON object, as [`read_message`] does from a line.
 #[tactic(auto, unfolding(crate::specs::Message::message_in))]
 pub fn message_in(
     alloc: Global,
@@ -79,14 +83,16 @@ fn type_of(header: Option<JsonRef<'_, '_>>) -> Result<MessageType, MessageFault>
     let Some(header) = header else {
         return Err(MessageFault::NoType);
     };
-    match header.shape() {
-        Shape::Object(object) => match text(member(Some(object), "msg_type")) {
+    match header.kind() {
+        JsonKind::Object(object) => match text(member(Some(object), "msg_type")) {
             Some(name) => type_named(name),
             None => Err(MessageFault::NoType),
         },
-        Shape::Null | Shape::Bool(_) | Shape::Number(_) | Shape::Text(_) | Shape::Items(_) => Err(
-            MessageFault::NoType,
-        ),
+        JsonKind::Null
+        | JsonKind::Bool(_)
+        | JsonKind::Number(_)
+        | JsonKind::Text(_)
+        | JsonKind::Items(_) => Err(MessageFault::NoType),
     }
 }
 
@@ -134,7 +140,8 @@ fn version_of<'v>(metadata: Fields<'v, '_>) -> Option<&'v str>
     text(member(metadata, "version"))
 }
 
-/// The body of an object's members, with the buffers of the line's.
+/// A body of `object` as its `data`, with the buffers at `line`'s member `buffers`. Err: NotWhole, BadContent(Buffers),
+/// BadBuffer or Memory.
 pub fn body_of(
     alloc: Global,
     object: Fields<'_, '_>,
@@ -176,21 +183,22 @@ fn open_in(
     let data = object_at(Field::Body, "data", content)?;
     let metadata = object_at(Field::Metadata, "metadata", line)?;
     let body = body_of(alloc, data, line)?;
-    Ok(opened(alloc, id, target, version_of(metadata), body)?)
+    Ok(open_message(alloc, id, target, version_of(metadata), body)?)
 }
 
-fn opened(
+fn open_message(
     alloc: Global,
     id: &str,
     target: &str,
     version: Option<&str>,
     body: Body,
 ) -> Result<Incoming, AllocError>
-    ensures { IfOk result (λ i. i ≡ Incoming.Open id.now target.now (option_map (λ s. s.now) version.entry) body) }
+    ensures { IfOk result
+        (λ i. i ≡ Incoming.Open id.now target.now (option_map (λ s. s.now) version.entry) body) }
 {
     let id = Text::copy_of(alloc, id)?;
     let target = Text::copy_of(alloc, target)?;
-    let version = copied(alloc, version)?;
+    let version = copy_optional(alloc, version)?;
     Ok(Incoming::Open {
         id,
         target,
@@ -199,7 +207,7 @@ fn opened(
     })
 }
 
-fn copied(alloc: Global, text: Option<&str>) -> Result<Option<Text>, AllocError>
+fn copy_optional(alloc: Global, text: Option<&str>) -> Result<Option<Text>, AllocError>
     ensures { IfOk result (λ t. t ≡ option_map (λ s. s.now) text.entry) }
 {
     match text {
@@ -242,7 +250,7 @@ fn close_in(
     })
 }
 
-// The metadata and the buffers of a message that uses neither.
+// Checks the metadata and the buffers of a message that uses neither.
 fn unused_in(alloc: Global, line: Fields<'_, '_>) -> Result<Buffers, MessageFault>
     ensures { Gives (λ b. b) result (unused_in (fields line.entry)) }
 {
@@ -261,7 +269,7 @@ fn info_request_in(
     let target = filter_at("target_name", content)?;
     unused_in(alloc, line)?;
     Ok(Incoming::InfoRequest {
-        target: copied(alloc, target)?,
+        target: copy_optional(alloc, target)?,
     })
 }
 

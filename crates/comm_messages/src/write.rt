@@ -6,7 +6,8 @@ ghost use Rattle.serde_json.specs.Written.{comma_if, items_text, members_text, c
 ghost use Rattle.serde_json.specs.Data.{object};
 ghost use Rattle.comm_value.specs.ToJson.{json_members};
 ghost use Rattle.comm_messages.specs.Text.{text, buffer_texts, comm_members, goes_with};
-ghost use Rattle.comm_messages.specs.Parts.{GrowsBy, buffers_text, parent_text, front_text, content_text, end_text};
+ghost use Rattle.comm_messages.specs.Parts.{GrowsBy, buffers_text, parent_text, front_text};
+ghost use Rattle.comm_messages.specs.Parts.{content_text, info_text, metadata_text, end_text, ids_text};
 
 use crate::body::Body;
 use crate::infos::{Info, Infos};
@@ -15,7 +16,7 @@ use base64::engine::general_purpose::STANDARD;
 use comm_value::{Buffers, Bytes, Text, write_text};
 use std::alloc::{AllocError, Global};
 
-/// The JSON text of a message.
+/// Serializes a message as compact JSON with its keys in byte order. Err: out of memory.
 pub fn write_message(
     alloc: Global,
     message: &Outgoing,
@@ -29,7 +30,8 @@ pub fn write_message(
     Ok(out)
 }
 
-/// Puts the JSON text of a message behind what the buffer holds. Where memory runs out the buffer may hold a part of it.
+/// Appends the JSON text of a message, as [`write_message`] gives it. Err: out of memory; `out` may hold a part of
+/// the text.
 pub fn append_message(
     alloc: Global,
     message: &Outgoing,
@@ -63,7 +65,8 @@ fn append_parent(parent: &Parent, out: &mut Vec<u8>) -> Result<(), AllocError>
 }
 
 fn append_client(client: u8, out: &mut Vec<u8>) -> Result<(), AllocError>
-    ensures { OnOk result (GrowsBy out.old.items (codes ",\"client\":" ++ decimal client) out.new.items) }
+    ensures { OnOk result
+        (GrowsBy out.old.items (codes ",\"client\":" ++ decimal client) out.new.items) }
 {
     append(b",\"client\":", out)?;
     append_number(client as u64, out)?;
@@ -83,7 +86,8 @@ fn append_front(parent: &Parent, out: &mut Vec<u8>) -> Result<(), AllocError>
     Ok(())
 }
 
-fn append_content(message: &Outgoing, out: &mut Vec<u8>) -> Result<(), AllocError>
+/// Appends the `content` of a message as compact JSON. Err: out of memory; `out` may hold a part of the text.
+pub fn append_content(message: &Outgoing, out: &mut Vec<u8>) -> Result<(), AllocError>
     ensures { OnOk result (GrowsBy out.old.items (content_text message.now) out.new.items) }
 {
     match message {
@@ -117,9 +121,43 @@ fn append_content(message: &Outgoing, out: &mut Vec<u8>) -> Result<(), AllocErro
     Ok(())
 }
 
+/// Appends the `metadata` of a message as compact JSON. Err: out of memory; `out` may hold a part of the text.
+pub fn append_metadata(message: &Outgoing, out: &mut Vec<u8>) -> Result<(), AllocError>
+    ensures { OnOk result (GrowsBy out.old.items (metadata_text message.now) out.new.items) }
+{
+    match message {
+        Outgoing::Open { version, .. } => {
+            append(b"{\"version\":", out)?;
+            append_text(version, out)?;
+            append(b"}", out)?;
+        }
+        Outgoing::Msg { .. } | Outgoing::Close { .. } | Outgoing::InfoReply { .. } => append(
+            b"{}", out,
+        )?,
+    }
+    Ok(())
+}
+
+/// Appends ids as a JSON list of strings, in order. Err: out of memory; `out` may hold a part of the text.
+pub fn append_ids(ids: &[Text], out: &mut Vec<u8>) -> Result<(), AllocError>
+    ensures { OnOk result (out.new.items ≡ out.old.items ++ ids_text ids.now) }
+{
+    out.extend_from_slice(b"[")?;
+    let mut later = false;
+    for id in ids {
+        if later {
+            out.push(b',')?;
+        }
+        write_text(id.as_str(), out)?;
+        later = true;
+    }
+    out.extend_from_slice(b"]")
+}
+
 // The members of the object and its closing bracket.
 fn append_comms(comms: &Infos, out: &mut Vec<u8>) -> Result<(), AllocError>
-    ensures { OnOk result (GrowsBy out.old.items (members_text false (comm_members comms.now)) out.new.items) }
+    ensures { OnOk result
+        (GrowsBy out.old.items (members_text false (comm_members comms.now)) out.new.items) }
 {
     for (number, info) in comms.as_slice().iter().enumerate() {
         append_comm(number, info, out)?;
@@ -128,7 +166,8 @@ fn append_comms(comms: &Infos, out: &mut Vec<u8>) -> Result<(), AllocError>
 }
 
 fn append_comm(number: usize, info: &Info, out: &mut Vec<u8>) -> Result<(), AllocError>
-    ensures { OnOk result (GrowsBy out.old.items (comma_if (nat_lt 0 number) ++ (quoted info.now.id ++ (codes ":{\"target_name\":" ++ (quoted info.now.target ++ codes "}")))) out.new.items) }
+    ensures { OnOk result
+        (GrowsBy out.old.items (comma_if (nat_lt 0 number) ++ info_text info.now) out.new.items) }
 {
     append_comma(number, out)?;
     append_text(&info.id, out)?;
@@ -139,7 +178,8 @@ fn append_comm(number: usize, info: &Info, out: &mut Vec<u8>) -> Result<(), Allo
 }
 
 fn append_id(id: &Text, out: &mut Vec<u8>) -> Result<(), AllocError>
-    ensures { OnOk result (GrowsBy out.old.items (codes "{\"comm_id\":" ++ quoted id.now) out.new.items) }
+    ensures { OnOk result
+        (GrowsBy out.old.items (codes "{\"comm_id\":" ++ quoted id.now) out.new.items) }
 {
     append(b"{\"comm_id\":", out)?;
     append_text(id, out)?;
@@ -147,7 +187,9 @@ fn append_id(id: &Text, out: &mut Vec<u8>) -> Result<(), AllocError>
 }
 
 fn append_data(body: &Body, out: &mut Vec<u8>) -> Result<(), AllocError>
-    ensures { OnOk result (GrowsBy out.old.items (codes ",\"data\":" ++ compact_text (object (json_members body.now.content))) out.new.items) }
+    ensures { OnOk result (GrowsBy out.old.items
+        (codes ",\"data\":" ++ compact_text (object (json_members body.now.content)))
+        out.new.items) }
 {
     append(b",\"data\":", out)?;
     body.content().write_json(out)?;
@@ -194,7 +236,7 @@ fn append_text(text: &Text, out: &mut Vec<u8>) -> Result<(), AllocError>
     write_text(text.as_str(), out)
 }
 
-// A comma stands before each but the first.
+// A comma before each but the first.
 fn append_comma(number: usize, out: &mut Vec<u8>) -> Result<(), AllocError>
     ensures { OnOk result (GrowsBy out.old.items (comma_if (nat_lt 0 number)) out.new.items) }
 {
@@ -226,9 +268,11 @@ fn append_buffers_of(alloc: Global, message: &Outgoing, out: &mut Vec<u8>) -> Re
     Ok(())
 }
 
-/// Puts the buffers behind what the buffer holds, each as its base64 text: the items of a JSON list, and its closing bracket.
+/// Appends buffers in base64 with padding (RFC 4648, section 4), as the items of a JSON list and its closing bracket.
+/// Err: out of memory; `out` may hold a part of the text.
 pub fn append_buffers(alloc: Global, buffers: &Buffers, out: &mut Vec<u8>) -> Result<(), AllocError>
-    ensures { OnOk result (GrowsBy out.old.items (items_text false (buffer_texts buffers.now)) out.new.items) }
+    ensures { OnOk result
+        (GrowsBy out.old.items (items_text false (buffer_texts buffers.now)) out.new.items) }
 {
     for (number, buffer) in buffers.as_slice().iter().enumerate() {
         append_buffer(alloc, number, buffer, out)?;
@@ -242,7 +286,8 @@ fn append_buffer(
     buffer: &Bytes,
     out: &mut Vec<u8>,
 ) -> Result<(), AllocError>
-    ensures { OnOk result (GrowsBy out.old.items (comma_if (nat_lt 0 number) ++ quoted (encode_of standard buffer.now)) out.new.items) }
+    ensures { OnOk result (GrowsBy out.old.items
+        (comma_if (nat_lt 0 number) ++ quoted (encode_of standard buffer.now)) out.new.items) }
 {
     append_comma(number, out)?;
     let text = STANDARD.encode(alloc, buffer.as_slice())?;
