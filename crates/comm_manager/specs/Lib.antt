@@ -1,10 +1,10 @@
 pub mod Asked
 pub mod Code
 pub mod Journal
-pub mod Kept
+pub mod UnderLock
 pub mod Mine
 pub mod Names
 pub mod Tally
-pub mod Tickets
+pub mod SeqShares
 pub mod Who
 pub mod Why

@@ -6,7 +6,7 @@ ghost use Rattle.comm_manager.specs.Who.{who, all_new};
 ghost use Rattle.comm_manager.specs.Why.{Barred};
 
 use crate::client::Client;
-use crate::ledger::{Ticket, Tickets};
+use crate::ledger::{ClientSeq, ClientSeqs};
 use crate::manager_id::ManagerId;
 use comm_core::{Limits, NewFault};
 use comm_outbox::{Outbox, outbox};
@@ -36,9 +36,9 @@ impl Model for ManagerBuilder {
 
     ghost Value = { Names };
 
-    ghost view = { λ o. record { book = o.history; first = o.first.name; second = o.second.name; third = o.third.name; fourth = o.fourth.name; queue = o.outbox.line; limits = o.limits } };
+    ghost view = { λ o. record { book = o.history; first = o.first.name; second = o.second.name; third = o.third.name; fourth = o.fourth.name; queue = o.outbox.queue; limits = o.limits } };
 
-    ghost invariant = { λ o. (o.first.parts ≡ 1) × (o.second.parts ≡ 1) × (o.third.parts ≡ 1) × (o.fourth.parts ≡ 1) × AreAllowed o.limits × (o.outbox ≡ unfilled o.outbox.line o.limits.clients o.limits.comms (o.limits.outbox + 1)) × (o.publisher ≡ untouched o.outbox.line o.limits.clients o.limits.comms) };
+    ghost invariant = { λ o. (o.first.parts ≡ 1) × (o.second.parts ≡ 1) × (o.third.parts ≡ 1) × (o.fourth.parts ≡ 1) × AreAllowed o.limits × (o.outbox ≡ unfilled o.outbox.queue o.limits.clients o.limits.comms (o.limits.outbox + 1)) × (o.publisher ≡ untouched o.outbox.queue o.limits.clients o.limits.comms) };
 }
 
 impl ManagerBuilder {
@@ -68,21 +68,21 @@ impl ManagerBuilder {
 }
 
 // The clients and one more, if a reader is left for it.
-fn added<M: ManagerId>(
+fn with_client<M: ManagerId>(
     clients: Vec<Client<M>>,
     readers: &mut Vec<VersionReader<M>>,
-    ticket: Ticket<M>,
+    seq: ClientSeq<M>,
 ) -> Result<Vec<Client<M>>, AllocError>
-    requires ticket { (ticket.client < 4) × (ticket.number ≡ 0) }
-    requires readers { vec_len readers.old ≡ M.limits.clients - ticket.client }
+    requires seq { (seq.client < 4) × (seq.number ≡ 0) }
+    requires readers { vec_len readers.old ≡ M.limits.clients - seq.client }
     requires none { All (λ r. r ≡ []) readers.old.items }
-    ensures clients { IfOk result (λ v. v.items ≡ (if nat_lt ticket.client M.limits.clients then clients.items ++ who ticket.client 0 [] ∷ [] else clients.items)) }
-    ensures readers { vec_len readers.new ≡ M.limits.clients - (ticket.client + 1) }
+    ensures clients { IfOk result (λ v. v.items ≡ (if nat_lt seq.client M.limits.clients then clients.items ++ who seq.client 0 [] ∷ [] else clients.items)) }
+    ensures readers { vec_len readers.new ≡ M.limits.clients - (seq.client + 1) }
     ensures none { All (λ r. r ≡ []) readers.new.items }
 {
     let mut clients = clients;
     if let Some(reader) = readers.pop() {
-        clients.push(Client::new(reader, ticket))?;
+        clients.push(Client::new(reader, seq))?;
     }
     Ok(clients)
 }
@@ -91,22 +91,22 @@ fn added<M: ManagerId>(
 pub fn first_clients<M: ManagerId>(
     alloc: Global,
     readers: Vec<VersionReader<M>>,
-    tickets: Tickets<M>,
+    seqs: ClientSeqs<M>,
 ) -> Result<Vec<Client<M>>, AllocError>
     requires count { (1 ≤ M.limits.clients) × (M.limits.clients ≤ 4) }
     requires readers { (vec_len readers ≡ M.limits.clients) × All (λ r. r ≡ []) readers.items }
-    requires tickets { (tickets.first ≡ tally 0 0) × (tickets.second ≡ tally 1 0) × (tickets.third ≡ tally 2 0) × (tickets.fourth ≡ tally 3 0) }
+    requires seqs { (seqs.first ≡ tally 0 0) × (seqs.second ≡ tally 1 0) × (seqs.third ≡ tally 2 0) × (seqs.fourth ≡ tally 3 0) }
     ensures { IfOk result (λ v. v.items ≡ all_new M.limits.clients) }
 {
-    let Tickets {
+    let ClientSeqs {
         first,
         second,
         third,
         fourth,
-    } = tickets;
+    } = seqs;
     let mut readers = readers;
-    let one = added(Vec::new(alloc), &mut readers, first)?;
-    let two = added(one, &mut readers, second)?;
-    let three = added(two, &mut readers, third)?;
-    added(three, &mut readers, fourth)
+    let one = with_client(Vec::new(alloc), &mut readers, first)?;
+    let two = with_client(one, &mut readers, second)?;
+    let three = with_client(two, &mut readers, third)?;
+    with_client(three, &mut readers, fourth)
 }

@@ -7,15 +7,15 @@ ghost use Rattle.comm_core.specs.Reads.{infos, state_of};
 ghost use Rattle.comm_core.specs.Ready.{HandsNothingIn};
 ghost use Rattle.comm_core.specs.Tables.{IdleWhere};
 ghost use Rattle.comm_core.specs.declared.call.Call.TheVariants as call;
-ghost use Rattle.comm_manager.specs.Kept.{counts};
+ghost use Rattle.comm_manager.specs.UnderLock.{counts};
 ghost use Rattle.comm_manager.specs.Mine.{IsAnswered, IsSettled, made};
 ghost use Rattle.comm_manager.specs.Who.{who};
 ghost use Rattle.comm_manager.specs.Why.{Because};
 ghost use Rattle.comm_versions.specs.declared.reads.ReadFault.TheVariants as fault;
 
 use crate::answered::Answered;
-use crate::change::Made;
-use crate::ledger::{Books, Ticket};
+use crate::change::MadeChange;
+use crate::ledger::{ClientSeq, SeqTotals};
 use crate::manager_id::ManagerId;
 use crate::shared::Manager;
 use comm_core::{Call, Unavailable};
@@ -32,7 +32,7 @@ use uuid::Uuid;
 #[derive(Drop)]
 pub struct Client<M: ManagerId> {
     pub(crate) reader: VersionReader<M>,
-    pub(crate) ticket: Ticket<M>,
+    pub(crate) seq: ClientSeq<M>,
 }
 
 impl<M: ManagerId> Model for Client<M> {
@@ -45,9 +45,9 @@ impl<M: ManagerId> Model for Client<M> {
 
     ghost coded = { who_code };
 
-    ghost view = { λ c. who c.ticket.client c.ticket.number c.reader };
+    ghost view = { λ c. who c.seq.client c.seq.number c.reader };
 
-    ghost invariant = { λ c. (c.ticket.client < M.limits.clients) × (c.ticket.number ≤ length (mine c.reader c.ticket.client)) };
+    ghost invariant = { λ c. (c.seq.client < M.limits.clients) × (c.seq.number ≤ length (mine c.reader c.seq.client)) };
 }
 
 // Ends a target that a change took out, if it did.
@@ -60,19 +60,19 @@ fn end<T: Target>(ended: Option<Held<T>>)
 }
 
 impl<M: ManagerId> Client<M> {
-    pub(crate) fn new(reader: VersionReader<M>, ticket: Ticket<M>) -> Client<M>
-        requires below { ticket.client < M.limits.clients }
-        requires none { ticket.number ≡ 0 }
-        ensures { result ≡ who ticket.client 0 reader }
+    pub(crate) fn new(reader: VersionReader<M>, seq: ClientSeq<M>) -> Client<M>
+        requires below { seq.client < M.limits.clients }
+        requires none { seq.number ≡ 0 }
+        ensures { result ≡ who seq.client 0 reader }
     {
-        Client { reader, ticket }
+        Client { reader, seq }
     }
 
     /// Its number, from 0.
     pub fn id(&self) -> u8
         ensures { result ≡ self.now.client }
     {
-        self.ticket.client()
+        self.seq.client()
     }
 
     /// How many entries it has seen.
@@ -94,14 +94,14 @@ impl<M: ManagerId> Client<M> {
     }
 
     // What it has seen begins the history that ended, which has of it just what it made.
-    pub(crate) fn settle(&mut self, books: &mut Books<M>, last: &Stamp<M>)
+    pub(crate) fn settle(&mut self, totals: &mut SeqTotals<M>, last: &Stamp<M>)
         requires ended { has_end last.now ≡ true }
-        requires books { books.old ≡ counts last.now }
-        ensures same { (self.new ≡ self.old) × (books.new ≡ books.old) }
+        requires totals { totals.old ≡ counts last.now }
+        ensures same { (self.new ≡ self.old) × (totals.new ≡ totals.old) }
         ensures settled { IsSettled last.now self.old }
     {
-        self.reader.within(last);
-        books.audit(&mut self.ticket);
+        self.reader.learn_ended(last);
+        totals.check(&mut self.seq);
     }
 
     /// Makes the change that a call asks for, where it hands no target in: what the functions below do with the parts of one.
@@ -119,7 +119,7 @@ impl<M: ManagerId> Client<M> {
         let made = manager.inner.lock(rt).ask(rt, manager.alloc, self, call);
         // Here the lock is let go: a target may take its time to end.
         match made {
-            Ok(Made { answered, ended }) => {
+            Ok(MadeChange { answered, ended }) => {
                 end(ended);
                 Ok(answered)
             }
@@ -147,7 +147,7 @@ impl<M: ManagerId> Client<M> {
             .lock(rt)
             .register(rt, manager.alloc, self, name, target);
         match made {
-            Ok(Made { answered, ended }) => {
+            Ok(MadeChange { answered, ended }) => {
                 end(ended);
                 Ok(answered)
             }

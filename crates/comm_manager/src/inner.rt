@@ -12,14 +12,14 @@ ghost use Rattle.comm_core.specs.declared.row.Row.TheVariants as row;
 ghost use Rattle.comm_targets.specs.Meaning.{IsIdle};
 ghost use Rattle.comm_manager.specs.Asked.{IsNext};
 ghost use Rattle.comm_outbox.specs.Sides.{entries_of, unfilled};
-ghost use Rattle.comm_manager.specs.Kept.{Puts, counts};
+ghost use Rattle.comm_manager.specs.UnderLock.{OutboxInvariant, counts};
 ghost use Rattle.comm_manager.specs.Mine.{IsAnswered, IsSettled};
 ghost use Rattle.comm_manager.specs.Why.{Because, IsHistoryFirst};
 
-use crate::change::{self, Made};
+use crate::change::{self, MadeChange};
 use crate::client::Client;
 use crate::journal::Journal;
-use crate::ledger::Books;
+use crate::ledger::SeqTotals;
 use crate::manager_id::ManagerId;
 use crate::publisher::Publisher;
 use comm_core::{
@@ -45,7 +45,7 @@ pub struct Inner<M: ManagerId, T: Target> {
     // the kit can't prove how a writer would be dropped; it never is: `end` alone ends it
     writer: ManuallyDrop<VersionWriter<M>>,
     outbox: Outbox,
-    books: Books<M>,
+    totals: SeqTotals<M>,
 }
 
 impl<M: ManagerId, T: Target> Model for Inner<M, T> {
@@ -53,7 +53,7 @@ impl<M: ManagerId, T: Target> Model for Inner<M, T> {
     ghost use Rattle.comm_core.specs.declared.entry.Entry.{Entry};
     ghost use Rattle.comm_versions.specs.Code.{entries_code};
     ghost use Rattle.std.specs.Mem.{manually_drop_value};
-    ghost use Rattle.comm_manager.specs.Kept.{IsKept, Puts};
+    ghost use Rattle.comm_manager.specs.UnderLock.{LockInvariant, OutboxInvariant};
 
     ghost Value = { List Entry };
 
@@ -61,7 +61,7 @@ impl<M: ManagerId, T: Target> Model for Inner<M, T> {
 
     ghost view = { λ s. s.journal.all };
 
-    ghost invariant = { λ s. IsKept M.limits s.journal.all s.core (manually_drop_value s.writer) s.books × Puts M.queue M.limits s.journal.all s.outbox × (s.limits ≡ M.limits) };
+    ghost invariant = { λ s. LockInvariant M.limits s.journal.all s.core (manually_drop_value s.writer) s.totals × OutboxInvariant M.queue M.limits s.journal.all s.outbox × (s.limits ≡ M.limits) };
 }
 
 impl<M: ManagerId, T: Target> Inner<M, T> {
@@ -72,22 +72,22 @@ impl<M: ManagerId, T: Target> Inner<M, T> {
         core: Core<T>,
         writer: VersionWriter<M>,
         outbox: Outbox,
-        books: Books<M>,
+        totals: SeqTotals<M>,
     ) -> Inner<M, T>
         requires limits { (limits ≡ M.limits) × AreAllowed limits }
         requires core { core ≡ record { limit = limits.comms; boxes = []; comms = []; settled = true } }
         requires writer { (writer.front ≡ []) × (writer.pending ≡ []) }
         requires outbox { outbox ≡ unfilled M.queue limits.clients limits.comms (limits.outbox + 1) }
-        requires books { books ≡ 0 ∷ 0 ∷ 0 ∷ 0 ∷ [] }
+        requires totals { totals ≡ 0 ∷ 0 ∷ 0 ∷ 0 ∷ [] }
         ensures { result ≡ [] }
     {
         Inner {
             limits,
             core,
             journal: Journal::new(alloc),
-            writer: kept(writer),
+            writer: wrap_writer(writer),
             outbox,
-            books,
+            totals,
         }
     }
 
@@ -106,7 +106,7 @@ impl<M: ManagerId, T: Target> Inner<M, T> {
         alloc: Global,
         client: &mut Client<M>,
         call: Call,
-    ) -> Result<Made<M, T>, Unavailable<Stamp<M>>>
+    ) -> Result<MadeChange<M, T>, Unavailable<Stamp<M>>>
         requires { HandsNothingIn call }
         ensures answered { IfOk result (λ m. IsAnswered M.limits client.old client.new call m.answered.number m.answered.reply m.answered.stamp) }
         ensures next { IfOk result (λ m. IsNext self.old self.new client.old.client (client.old.number + 1) call m.answered.reply) }
@@ -124,9 +124,9 @@ impl<M: ManagerId, T: Target> Inner<M, T> {
             &mut self.journal,
             &mut *self.writer,
             &mut self.outbox,
-            &mut self.books,
+            &mut self.totals,
             &mut client.reader,
-            &mut client.ticket,
+            &mut client.seq,
             call,
         )
     }
@@ -139,7 +139,7 @@ impl<M: ManagerId, T: Target> Inner<M, T> {
         client: &mut Client<M>,
         name: Text,
         boxed: T,
-    ) -> Result<Made<M, T>, (Unavailable<Stamp<M>>, T)>
+    ) -> Result<MadeChange<M, T>, (Unavailable<Stamp<M>>, T)>
         requires { IsIdle (T.means boxed) }
         ensures answered { IfOk result (λ m. IsAnswered M.limits client.old client.new (call.Register name (T.means boxed).kind (T.means boxed).notes) m.answered.number m.answered.reply m.answered.stamp) }
         ensures next { IfOk result (λ m. IsNext self.old self.new client.old.client (client.old.number + 1) (call.Register name (T.means boxed).kind (T.means boxed).notes) m.answered.reply) }
@@ -158,9 +158,9 @@ impl<M: ManagerId, T: Target> Inner<M, T> {
             &mut self.journal,
             &mut *self.writer,
             &mut self.outbox,
-            &mut self.books,
+            &mut self.totals,
             &mut client.reader,
-            &mut client.ticket,
+            &mut client.seq,
             name,
             boxed,
         )
@@ -188,10 +188,10 @@ impl<M: ManagerId, T: Target> Inner<M, T> {
             mut journal,
             writer,
             mut outbox,
-            mut books,
+            mut totals,
         } = self;
         let mut writer = ManuallyDrop::into_inner(writer);
-        match close(
+        match end_history(
             rt,
             alloc,
             &mut journal,
@@ -200,7 +200,7 @@ impl<M: ManagerId, T: Target> Inner<M, T> {
             &publisher,
         ) {
             Ok((last, room)) => {
-                gather(&mut books, clients, &last);
+                settle_clients(&mut totals, clients, &last);
                 writer.end(rt);
                 core.stop_all();
                 Ok(Farewell {
@@ -213,9 +213,9 @@ impl<M: ManagerId, T: Target> Inner<M, T> {
                     limits,
                     core,
                     journal,
-                    writer: kept(writer),
+                    writer: wrap_writer(writer),
                     outbox,
-                    books,
+                    totals,
                 },
                 clients,
                 publisher,
@@ -231,7 +231,7 @@ impl<M: ManagerId, T: Target> Inner<M, T> {
             journal: _journal,
             writer,
             outbox: _outbox,
-            books: _books,
+            totals: _books,
         } = self;
         ManuallyDrop::into_inner(writer).end(rt);
         core.stop_all();
@@ -239,7 +239,7 @@ impl<M: ManagerId, T: Target> Inner<M, T> {
 }
 
 // It isn't dropped from now on.
-fn kept<M: ManagerId>(writer: VersionWriter<M>) -> ManuallyDrop<VersionWriter<M>>
+fn wrap_writer<M: ManagerId>(writer: VersionWriter<M>) -> ManuallyDrop<VersionWriter<M>>
     ensures { manually_drop_value result ≡ writer }
 {
     unsafe { ManuallyDrop::new_unchecked(writer) }
@@ -253,7 +253,7 @@ pub struct Farewell {
 }
 
 // The entry of an end, three times, and an empty list with room for so many entries.
-fn grown(
+fn build_end(
     alloc: Global,
     count: usize,
 ) -> Result<
@@ -278,7 +278,7 @@ fn grown(
 }
 
 // Ends the history, publishes that, and lets it go out. There is room for all that the publisher hasn't taken.
-fn close<M: ManagerId, R: Wait>(
+fn end_history<M: ManagerId, R: Wait>(
     rt: &R,
     alloc: Global,
     journal: &mut Journal,
@@ -287,12 +287,12 @@ fn close<M: ManagerId, R: Wait>(
     publisher: &Publisher<M>,
 ) -> Result<(Stamp<M>, Vec<Arc<Entry, Global>>), AllocError>
     requires front { (writer.old.front ≡ journal.old.all) × (writer.old.pending ≡ []) }
-    requires puts { Puts M.queue M.limits journal.old.all outbox.old }
+    requires puts { OutboxInvariant M.queue M.limits journal.old.all outbox.old }
     requires legal { IsLegal M.limits.clients M.limits.comms journal.old.all × (has_end journal.old.all ≡ false) }
     requires few { length journal.old.all ≤ 4294967295 }
     ensures stamp { IfOk result (λ r. (r.0 ≡ journal.old.all ++ End ∷ []) × IsLegal M.limits.clients M.limits.comms r.0) }
     ensures history { IfOk result (λ r. journal.new.all ≡ r.0) }
-    ensures puts { IfOk result (λ r. (outbox.new.line ≡ M.queue) × (outbox.new.puts ≡ r.0)) }
+    ensures puts { IfOk result (λ r. (outbox.new.queue ≡ M.queue) × (outbox.new.puts ≡ r.0)) }
     ensures room { IfOk result (λ r. (r.1.items ≡ []) × (length journal.new.all ≤ length publisher.now + vec_capacity r.1)) }
     ensures err { OnErr result ((journal.new.all ≡ journal.old.all) × (writer.new ≡ writer.old) × (outbox.new ≡ outbox.old)) }
 {
@@ -301,7 +301,7 @@ fn close<M: ManagerId, R: Wait>(
     journal.reserve()?;
     let all = journal.len() as u64 + 1;
     let left = all.saturating_sub(publisher.taken());
-    let (change, kept, sent, room) = grown(alloc, left as usize)?;
+    let (change, kept, sent, room) = build_end(alloc, left as usize)?;
     writer.append(change)?;
     writer.publish(rt);
     journal.add(kept);
@@ -312,13 +312,13 @@ fn close<M: ManagerId, R: Wait>(
 }
 
 // What each client has seen begins the history that ended, and it made as many changes as the books say.
-fn gather<M: ManagerId>(books: &mut Books<M>, clients: Vec<Client<M>>, last: &Stamp<M>)
+fn settle_clients<M: ManagerId>(totals: &mut SeqTotals<M>, clients: Vec<Client<M>>, last: &Stamp<M>)
     requires ended { has_end last.now ≡ true }
-    requires books { books.old ≡ counts last.now }
+    requires totals { totals.old ≡ counts last.now }
     ensures { All (λ w. IsSettled last.now w) clients.items }
 {
     let mut clients = clients;
     while let Some(mut client) = clients.pop() {
-        client.settle(books, last);
+        client.settle(totals, last);
     }
 }

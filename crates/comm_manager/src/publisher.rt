@@ -3,7 +3,7 @@ ghost use Rattle.std.specs.Prelude.{◌≡◌, ◌++◌, ◌∷◌, [], length, 
 ghost use Rattle.std.specs.Arc.{arc_value};
 ghost use Rattle.comm_core.specs.History.{IsLegal};
 ghost use Rattle.comm_outbox.specs.Sides.{Taking};
-ghost use Rattle.comm_manager.specs.Kept.{taker};
+ghost use Rattle.comm_manager.specs.UnderLock.{taker};
 
 use crate::manager_id::ManagerId;
 use comm_core::Entry;
@@ -22,7 +22,7 @@ impl<M: ManagerId> Model for Publisher<M> {
     ghost use Rattle.std.specs.Prelude.{◌≡◌, List};
     ghost use Rattle.comm_core.specs.declared.entry.Entry.{Entry};
     ghost use Rattle.comm_versions.specs.Code.{entries_code};
-    ghost use Rattle.comm_manager.specs.Kept.{taker};
+    ghost use Rattle.comm_manager.specs.UnderLock.{taker};
 
     ghost Value = { List Entry };
 

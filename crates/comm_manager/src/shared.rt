@@ -12,7 +12,7 @@ ghost use Rattle.comm_manager.specs.Why.{IsMissing, all_here, is_here};
 use crate::builder::{ManagerBuilder, first_clients};
 use crate::client::Client;
 use crate::inner::{Farewell, Inner};
-use crate::ledger::Books;
+use crate::ledger::SeqTotals;
 use crate::manager_id::ManagerId;
 use crate::publisher::Publisher;
 use comm_core::Core;
@@ -86,14 +86,14 @@ impl<M: ManagerId, T: Target> Manager<M, T> {
             fourth,
         } = builder;
         let (writer, readers) = versions::<M, R>(rt, alloc, history, limits.clients, limits.comms)?;
-        let (books, tickets) = Books::open(first, second, third, fourth);
-        let Ok(clients) = first_clients(alloc, readers, tickets) else {
+        let (totals, seqs) = SeqTotals::open(first, second, third, fourth);
+        let Ok(clients) = first_clients(alloc, readers, seqs) else {
             writer.end(rt);
             return Err(OpeningFault::Memory);
         };
         match Core::new(alloc, limits) {
             Ok(core) => {
-                let inner = Inner::new(alloc, limits, core, writer, outbox, books);
+                let inner = Inner::new(alloc, limits, core, writer, outbox, totals);
                 let inner = Mutex::new(inner);
                 Ok((Manager { alloc, inner }, clients, Publisher::new(publisher)))
             }
@@ -121,12 +121,12 @@ impl<M: ManagerId, T: Target> Manager<M, T> {
         let Manager { alloc, inner } = self;
         let inner = inner.into_inner();
         if !are_here(clients.as_slice(), inner.clients()) {
-            return Err(refused(alloc, Cause::MissingClients, inner, clients, publisher));
+            return Err(hand_back(alloc, Cause::MissingClients, inner, clients, publisher));
         }
         match inner.finish(rt, alloc, clients, publisher) {
             Ok(farewell) => Ok(farewell),
             Err((inner, clients, publisher)) => {
-                Err(refused(alloc, Cause::Memory, inner, clients, publisher))
+                Err(hand_back(alloc, Cause::Memory, inner, clients, publisher))
             }
         }
     }
@@ -143,7 +143,7 @@ impl<M: ManagerId, T: Target> Manager<M, T> {
 }
 
 // All is handed back.
-fn refused<M: ManagerId, T: Target>(
+fn hand_back<M: ManagerId, T: Target>(
     alloc: Global,
     cause: Cause,
     inner: Inner<M, T>,

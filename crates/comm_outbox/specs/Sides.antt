@@ -11,7 +11,7 @@ entries_of entries = map arc_value entries
 -- The side that puts: which queue it is of, the limits by which what is put is legal, how many places there are, how many of them were found
 -- free and not filled since, and what was put.
 pub record Putting : Type 0 where
-  pub line : TableId
+  pub queue : TableId
   pub clients : ℕ
   pub comms : ℕ
   pub places : ℕ
@@ -20,15 +20,15 @@ pub record Putting : Type 0 where
 
 -- the side that takes: which queue it is of, the same limits, and what was taken
 pub record Taking : Type 0 where
-  pub line : TableId
+  pub queue : TableId
   pub clients : ℕ
   pub comms : ℕ
   pub taken : List Entry
 
 -- nothing was put, so all places are free
 abbrev pub unfilled : TableId → ℕ → ℕ → ℕ → Putting
-unfilled line clients comms places = record { line = line; clients = clients; comms = comms; places = places; room = places; puts = [] }
+unfilled queue clients comms places = record { queue = queue; clients = clients; comms = comms; places = places; room = places; puts = [] }
 
 -- nothing was taken
 abbrev pub untouched : TableId → ℕ → ℕ → Taking
-untouched line clients comms = record { line = line; clients = clients; comms = comms; taken = [] }
+untouched queue clients comms = record { queue = queue; clients = clients; comms = comms; taken = [] }

@@ -72,7 +72,7 @@
 //! by a type parameter, as `comm_manager`'s `ManagerId` does, so that `line` is known where lock and publisher come together again.
 #![tactic(auto)]
 
-mod line;
+mod entry_queue;
 mod opening;
 mod outgoing;
 mod publisher;

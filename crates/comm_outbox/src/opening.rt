@@ -2,7 +2,7 @@
 ghost use Rattle.std.specs.Prelude.{◌≡◌, ◌≤◌, IfOk};
 ghost use Rattle.comm_outbox.specs.Sides.{unfilled, untouched};
 
-use crate::line::{Line, split};
+use crate::entry_queue::{EntryQueue, split};
 use crate::outgoing::Outbox;
 use crate::publisher::Publisher;
 use std::alloc::{AllocError, Global};
@@ -17,22 +17,22 @@ pub fn outbox(
     comms: usize,
 ) -> Result<(Outbox, Publisher), AllocError>
     requires places { (1 ≤ places) × (places ≤ 65537) }
-    ensures puts { IfOk result (λ r. r.0 ≡ unfilled r.0.line clients comms places) }
-    ensures takes { IfOk result (λ r. r.1 ≡ untouched r.0.line clients comms) }
+    ensures puts { IfOk result (λ r. r.0 ≡ unfilled r.0.queue clients comms places) }
+    ensures takes { IfOk result (λ r. r.1 ≡ untouched r.0.queue clients comms) }
 {
-    let (line, mut pass) = Line::ruled(alloc, places)?;
-    let other = split::<Brand>(&line, &mut pass, clients, comms);
-    let line = Arc::new(alloc, line)?;
-    let theirs = Arc::try_clone(&line)?;
+    let (queue, mut pass) = EntryQueue::ruled(alloc, places)?;
+    let other = split::<Brand>(&queue, &mut pass, clients, comms);
+    let queue = Arc::new(alloc, queue)?;
+    let theirs = Arc::try_clone(&queue)?;
     Ok((
         Outbox {
-            line,
+            queue,
             pass,
             count: 0,
             room: places as u64,
         },
         Publisher {
-            line: theirs,
+            queue: theirs,
             pass: other,
             count: 0,
         },

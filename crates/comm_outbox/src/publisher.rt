@@ -4,7 +4,7 @@ ghost use Rattle.std.specs.Arc.{arc_value};
 ghost use Rattle.comm_core.specs.History.{IsLegal};
 ghost use Rattle.comm_outbox.specs.Sides.{Taking};
 
-use crate::line::{Line, Seat, Takes};
+use crate::entry_queue::{EntryQueue, QueuePass, TakeStep};
 use comm_core::{Entry, prefixes_of_legal_histories_are_legal};
 use std::alloc::Global;
 use std::marker::Model;
@@ -14,8 +14,8 @@ use std::sync::{Arc, Wait};
 /// legal, and what was taken.
 #[derive(Drop)]
 pub struct Publisher {
-    pub(crate) line: Arc<Line, Global>,
-    pub(crate) pass: Seat,
+    pub(crate) queue: Arc<EntryQueue, Global>,
+    pub(crate) pass: QueuePass,
     pub(crate) count: u64,
 }
 
@@ -31,9 +31,9 @@ impl Model for Publisher {
 
     ghost coded = { taking_code };
 
-    ghost view = { λ p. record { line = p.pass.table_id; clients = (known_at p.pass).bounds.clients; comms = (known_at p.pass).bounds.comms; taken = (known_at p.pass).got } };
+    ghost view = { λ p. record { queue = p.pass.table_id; clients = (known_at p.pass).bounds.clients; comms = (known_at p.pass).bounds.comms; taken = (known_at p.pass).got } };
 
-    ghost invariant = { λ p. IsPassOf (arc_value p.line) p.pass × ((known_at p.pass).takes ≡ true) × (p.count ≡ length (known_at p.pass).got) × IsLegal (known_at p.pass).bounds.clients (known_at p.pass).bounds.comms (known_at p.pass).got };
+    ghost invariant = { λ p. IsPassOf (arc_value p.queue) p.pass × ((known_at p.pass).takes ≡ true) × (p.count ≡ length (known_at p.pass).got) × IsLegal (known_at p.pass).bounds.clients (known_at p.pass).bounds.comms (known_at p.pass).got };
 }
 
 impl Publisher {
@@ -44,7 +44,7 @@ impl Publisher {
         ensures legal { IsLegal self.new.clients self.new.comms self.new.taken }
     {
         prefixes_of_legal_histories_are_legal();
-        let entry = self.line.pop_as::<Takes, R>(rt, &mut self.pass)?;
+        let entry = self.queue.pop_as::<TakeStep, R>(rt, &mut self.pass)?;
         self.count += 1;
         Some(entry)
     }

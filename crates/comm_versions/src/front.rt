@@ -6,7 +6,7 @@ ghost use Rattle.comm_core.specs.History.{has_end, IsLegal};
 ghost use Rattle.comm_versions.specs.Known.{known, origin_of};
 
 use crate::history::{Head, History};
-use crate::mark::Mark;
+use crate::raw_front::RawFront;
 use comm_core::Entry;
 use std::alloc::Global;
 use std::marker::{Model, PhantomData};
@@ -15,7 +15,7 @@ use std::sync::Arc;
 /// A mark of the one history. Contracts see it as its entries.
 #[derive(Drop)]
 pub struct Front<M: History> {
-    mark: Mark,
+    raw: RawFront,
     of: PhantomData<M>,
 }
 
@@ -29,26 +29,26 @@ impl<M: History> Model for Front<M> {
 
     ghost coded = { entries_code };
 
-    ghost view = { λ f. f.mark.front };
+    ghost view = { λ f. f.raw.entries };
 
-    ghost invariant = { λ f. f.mark.origin ≡ origin_of M.book M.limits };
+    ghost invariant = { λ f. f.raw.origin ≡ origin_of M.book M.limits };
 }
 
 impl<M: History> Front<M> {
-    pub fn of(mark: Mark) -> Front<M>
-        requires { mark.origin ≡ origin_of M.book M.limits }
-        ensures { result ≡ mark.front }
+    pub fn of(raw: RawFront) -> Front<M>
+        requires { raw.origin ≡ origin_of M.book M.limits }
+        ensures { result ≡ raw.entries }
     {
         Front {
-            mark,
+            raw,
             of: PhantomData,
         }
     }
 
-    pub fn mark(&self) -> &Mark
+    pub fn raw(&self) -> &RawFront
         ensures { result.now ≡ known (origin_of M.book M.limits) self.now }
     {
-        &self.mark
+        &self.raw
     }
 
     /// How many entries it has.
@@ -56,28 +56,28 @@ impl<M: History> Front<M> {
         ensures length { result ≡ length self.now }
         ensures legal { IsLegal M.limits.clients M.limits.comms self.now }
     {
-        self.mark.len()
+        self.raw.len()
     }
 
     /// The same once more. It takes no memory.
-    pub fn again(&self) -> Front<M>
+    pub fn copy(&self) -> Front<M>
         ensures { result ≡ self.now }
     {
-        Front::of(self.mark.again())
+        Front::of(self.raw.copy())
     }
 
     /// Whether the other begins with this one. Of two fronts the shorter begins the longer.
-    pub fn begins(&self, other: &Front<M>) -> bool
+    pub fn is_prefix_of(&self, other: &Front<M>) -> bool
         ensures begins { MatchBool result (IsPrefix self.now other.now) (IsPrefix other.now self.now × (length other.now < length self.now)) }
     {
-        self.mark.begins(&other.mark)
+        self.raw.is_prefix_of(&other.raw)
     }
 
     /// Nothing follows an end: where the other has one, it begins with this.
-    pub fn within(&self, other: &Front<M>)
+    pub fn learn_ended(&self, other: &Front<M>)
         ensures { has_end other.now ≡ true → IsPrefix self.now other.now }
     {
-        self.mark.within(&other.mark)
+        self.raw.learn_ended(&other.raw)
     }
 
     /// Adds an entry to all that was seen, and says whether it did. It did not where the history is longer.
@@ -86,6 +86,6 @@ impl<M: History> Front<M> {
         requires legal { IsLegal M.limits.clients M.limits.comms (self.old ++ arc_value entry.now ∷ []) }
         ensures { MatchBool result (self.new ≡ self.old ++ arc_value entry.now ∷ []) (self.new ≡ self.old) }
     {
-        self.mark.extend(head, entry)
+        self.raw.extend(head, entry)
     }
 }

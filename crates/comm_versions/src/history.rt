@@ -3,7 +3,7 @@ ghost use Rattle.std.specs.Prelude.{◌≡◌, []};
 ghost use Rattle.comm_versions.specs.Rules.{head_of};
 
 use crate::front::Front;
-use crate::mark::Mark;
+use crate::raw_front::RawFront;
 use comm_core::Entry;
 use logbook::{Gain, Plain, Play, Rule, Seen, Start, Word};
 use std::alloc::Global;
@@ -27,14 +27,14 @@ impl History for Brand {
 }
 
 /// The rule of the book: what stands in it is a legal history.
-pub struct Law;
+pub struct HistoryRule;
 
-impl Rule<Entry, u64> for Law {
+impl Rule<Entry, u64> for HistoryRule {
     ghost use Rattle.std.specs.Prelude.{[]};
     ghost use base.Fml.{ftrue};
-    ghost use Rattle.comm_versions.specs.Rules.{IsKept};
+    ghost use Rattle.comm_versions.specs.Rules.{IsHistoryBook};
 
-    ghost holds = { λ cells log. IsKept cells log };
+    ghost holds = { λ cells log. IsHistoryBook cells log };
 
     ghost first = { [] };
 
@@ -48,24 +48,24 @@ impl Rule<Entry, u64> for Law {
 }
 
 /// A step of the book trades nothing.
-pub struct Nothing;
+pub struct NoOffer;
 
-impl Gain<Entry, u64> for Nothing {
+impl Gain<Entry, u64> for NoOffer {
     ghost use base.Fml.{ftrue};
 
     ghost after = { λ names about answer. ftrue };
 }
 
 /// The step that adds an entry.
-pub struct Add;
+pub struct AppendStep;
 
-impl Play<Entry, u64> for Add {
+impl Play<Entry, u64> for AppendStep {
     ghost use Rattle.comm_versions.specs.Rules.{Adds};
 
     ghost then = { Adds };
 }
 
-impl Plain<Arc<Entry, Global>, Entry, u64> for Add {
+impl Plain<Arc<Entry, Global>, Entry, u64> for AppendStep {
     ghost use Rattle.std.specs.Prelude.{None};
     ghost use Rattle.std.specs.Arc.{arc_value};
 
@@ -77,8 +77,8 @@ impl Plain<Arc<Entry, Global>, Entry, u64> for Add {
 /// An empty history that has no name yet. Contracts see what it is to be named by.
 #[derive(Drop)]
 pub struct BlankHistory {
-    head: Word<Entry, u64, Law>,
-    seen: Seen<Entry, u64, Law>,
+    head: Word<Entry, u64, HistoryRule>,
+    seen: Seen<Entry, u64, HistoryRule>,
 }
 
 impl Model for BlankHistory {
@@ -105,7 +105,7 @@ impl BlankHistory {
     }
 
     /// The history's word under a name, and the front that has seen nothing.
-    pub(crate) fn named<M: History>(self, clients: u8, comms: usize) -> (Head<M>, Front<M>)
+    pub(crate) fn open<M: History>(self, clients: u8, comms: usize) -> (Head<M>, Front<M>)
         requires book { self ≡ M.book }
         requires limits { (clients ≡ M.limits.clients) × (comms ≡ M.limits.comms) }
         ensures { result.1 ≡ [] }
@@ -115,14 +115,14 @@ impl BlankHistory {
             head,
             of: PhantomData,
         };
-        (head, Front::of(Mark::first(clients, comms, seen)))
+        (head, Front::of(RawFront::first(clients, comms, seen)))
     }
 }
 
 /// The one word of the history that a program has: its length.
 #[derive(Drop)]
 pub struct Head<M: History> {
-    pub(crate) head: Word<Entry, u64, Law>,
+    pub(crate) head: Word<Entry, u64, HistoryRule>,
     of: PhantomData<M>,
     ghost head_is: { head ≡ head_of M.book },
 }

@@ -29,7 +29,7 @@ impl<M: History> Stamp<M> {
         ensures { result ≡ front.now }
     {
         Stamp {
-            front: front.again(),
+            front: front.copy(),
         }
     }
 

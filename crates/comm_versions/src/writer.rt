@@ -5,15 +5,15 @@ ghost use Rattle.comm_core.specs.History.{IsLegal, replay};
 ghost use Rattle.comm_core.specs.Row.{rows, with_row};
 ghost use Rattle.comm_versions.specs.Known.{known, origin_of};
 
-use crate::adding::{Step, add_all, prepare};
+use crate::adding::{PendingEntry, add_all, prepare};
 use crate::change::Change;
+use crate::comm_table::CommTable;
 use crate::front::Front;
 use crate::history::{Head, History};
-use crate::published::Published;
-use crate::rows::Rows;
+use crate::published_front::PublishedFront;
 use crate::stamp::Stamp;
-use crate::trail::Trail;
-use crate::version::Shelf;
+use crate::table_buffers::TableBuffers;
+use crate::version::SnapshotWriter;
 use std::alloc::{AllocError, Global};
 use std::collections::VecDeque;
 use std::marker::Model;
@@ -23,12 +23,12 @@ use std::sync::{Arc, Wait};
 /// dropped: `end` ends it.
 pub struct VersionWriter<M: History> {
     head: Head<M>,
-    front: Published<M>,
-    pending: VecDeque<Step>,
+    front: PublishedFront<M>,
+    pending: VecDeque<PendingEntry>,
     // The rows after all that is to follow.
-    next: Trail,
+    next: TableBuffers,
     alloc: Global,
-    shelf: Shelf,
+    snapshots: SnapshotWriter,
 }
 
 impl<M: History> Model for VersionWriter<M> {
@@ -36,17 +36,17 @@ impl<M: History> Model for VersionWriter<M> {
     ghost use Rattle.std.specs.Arc.{arc_value};
     ghost use Rattle.comm_core.specs.History.{IsLegal, replay};
     ghost use Rattle.comm_core.specs.Row.{rows};
-    ghost use Rattle.comm_versions.specs.Code.{written_code};
-    ghost use Rattle.comm_versions.specs.Known.{Written, known, origin_of};
-    ghost use Rattle.comm_versions.specs.Steps.{IsReady, entries};
+    ghost use Rattle.comm_versions.specs.Code.{writer_code};
+    ghost use Rattle.comm_versions.specs.Known.{WriterValue, known, origin_of};
+    ghost use Rattle.comm_versions.specs.Pending.{FollowInOrder, entries_in};
 
-    ghost Value = { Written };
+    ghost Value = { WriterValue };
 
-    ghost coded = { written_code };
+    ghost coded = { writer_code };
 
-    ghost view = { λ w. record { front = w.front; pending = entries w.pending.items } };
+    ghost view = { λ w. record { front = w.front; pending = entries_in w.pending.items } };
 
-    ghost invariant = { λ w. (w.shelf.desk.shown.value.mark ≡ known (origin_of M.book M.limits) w.front) × (drop w.shelf.behind w.shelf.log.items ≡ []) × IsLegal M.limits.clients M.limits.comms (w.front ++ entries w.pending.items) × IsReady M.limits.comms w.front w.pending.items × (w.next ≡ rows (replay M.limits.comms (w.front ++ entries w.pending.items))) };
+    ghost invariant = { λ w. (w.snapshots.desk.shown.value.front ≡ known (origin_of M.book M.limits) w.front) × (drop w.snapshots.behind w.snapshots.log.items ≡ []) × IsLegal M.limits.clients M.limits.comms (w.front ++ entries_in w.pending.items) × FollowInOrder M.limits.comms w.front w.pending.items × (w.next ≡ rows (replay M.limits.comms (w.front ++ entries_in w.pending.items))) };
 }
 
 impl<M: History> VersionWriter<M> {
@@ -54,23 +54,23 @@ impl<M: History> VersionWriter<M> {
         alloc: Global,
         head: Head<M>,
         front: Front<M>,
-        next: Arc<Rows, Global>,
-        shelf: Shelf,
+        next: Arc<CommTable, Global>,
+        snapshots: SnapshotWriter,
     ) -> VersionWriter<M>
         requires rows { arc_value next ≡ rows (replay M.limits.comms front) }
-        requires shown { shelf.desk.shown.value.mark ≡ known (origin_of M.book M.limits) front }
-        requires pending { drop shelf.behind shelf.log.items ≡ [] }
+        requires shown { snapshots.desk.shown.value.front ≡ known (origin_of M.book M.limits) front }
+        requires pending { drop snapshots.behind snapshots.log.items ≡ [] }
         ensures front { result.front ≡ front }
         ensures pending { result.pending ≡ [] }
     {
         let _legal = front.len();
         VersionWriter {
             head,
-            front: Published::new(front),
+            front: PublishedFront::new(front),
             pending: VecDeque::new(alloc),
-            next: Trail::of(next),
+            next: TableBuffers::of(next),
             alloc,
-            shelf,
+            snapshots,
         }
     }
 
@@ -84,8 +84,8 @@ impl<M: History> VersionWriter<M> {
         ensures err { OnErr result (self.new ≡ self.old) }
     {
         self.pending.reserve(1)?;
-        let step = prepare(self.alloc, &mut self.next, change)?;
-        self.pending.push_back_reserved(step);
+        let pending_entry = prepare(self.alloc, &mut self.next, change)?;
+        self.pending.push_back_reserved(pending_entry);
         Ok(())
     }
 
@@ -99,7 +99,7 @@ impl<M: History> VersionWriter<M> {
             rt,
             &self.head,
             &mut self.front,
-            &mut self.shelf,
+            &mut self.snapshots,
             &mut self.pending,
         );
     }
@@ -119,8 +119,8 @@ impl<M: History> VersionWriter<M> {
             pending: _pending,
             next: _next,
             alloc: _,
-            shelf,
+            snapshots,
         } = self;
-        drop(shelf.take(rt));
+        drop(snapshots.take(rt));
     }
 }

@@ -6,5 +6,5 @@ use Rattle.comm_versions.proofs.opening.seats.Given as goal
 
 abbrev pub invariant-loop-i : goal.invariant-loop-i
 invariant-loop-i g l =
-    (length l.readers.items ≡ l.i) × All (λ r. r ≡ l.front) l.readers.items × (view l.shelf.desk.place ≡ (true, known (origin_of g.M.History.book g.M.History.limits) l.front))
-    × (l.shelf.desk.shown.value ≡ l.fn.shelf.desk.shown.value) × (drop l.shelf.behind l.shelf.log.items ≡ drop l.fn.shelf.behind l.fn.shelf.log.items)
+    (length l.readers.items ≡ l.i) × All (λ r. r ≡ l.front) l.readers.items × (view l.snapshots.desk.place ≡ (true, known (origin_of g.M.History.book g.M.History.limits) l.front))
+    × (l.snapshots.desk.shown.value ≡ l.fn.snapshots.desk.shown.value) × (drop l.snapshots.behind l.snapshots.log.items ≡ drop l.fn.snapshots.behind l.fn.snapshots.log.items)

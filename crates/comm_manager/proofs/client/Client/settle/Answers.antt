@@ -9,8 +9,8 @@ use Rattle.std.proofs.Common.{ℕ, slice_index}
 pub returns-clause-settled : goal.returns-clause-settled
 returns-clause-settled g c =
     let i = c.self.inside in
-    let t = i.ticket in
+    let t = i.seq in
     let last = c.args.last.now in
-    let at = subst (λ (l : List ℕ). slice_index l t.client ≡ t.number) c.requires.books c.audit.ensures.known.1 in
+    let at = subst (λ (l : List ℕ). slice_index l t.client ≡ t.number) c.requires.totals c.check.ensures.known.1 in
     subst (λ (w : Who). IsSettled last w) c.self.view_is
-    (all_made last (who_of t i.reader) (c.within.ensures c.requires.ended) c.self.invariant.1 (known last t.client t.number c.audit.ensures.known.0 at))
+    (all_made last (who_of t i.reader) (c.learn_ended.ensures c.requires.ended) c.self.invariant.1 (known last t.client t.number c.check.ensures.known.0 at))

@@ -1,0 +1,106 @@
+//! What a reader has seen.
+ghost use Rattle.std.specs.Prelude.{◌≡◌, option_map, true, IfSome};
+ghost use mathlib.Core.List.{IsPrefix};
+ghost use Rattle.comm_core.specs.History.{replay};
+ghost use Rattle.comm_core.specs.Reads.{infos};
+ghost use Rattle.comm_versions.specs.Listing.{ListsAlikeSince};
+
+use crate::front::Front;
+use crate::history::History;
+use comm_messages::Infos;
+use comm_value::Text;
+use std::alloc::AllocError;
+use std::marker::Model;
+
+// A list of comms that was read after so many entries.
+#[derive(Drop)]
+struct Listing {
+    count: u64,
+    asked: Option<Text>,
+    comms: Infos,
+}
+
+/// The front that a reader has seen, and the list of comms that it read last. Contracts see the front.
+#[derive(Drop)]
+pub struct ReaderState<M: History> {
+    front: Front<M>,
+    last: Option<Listing>,
+}
+
+impl<M: History> Model for ReaderState<M> {
+    ghost use Rattle.std.specs.Prelude.{List, IfSome};
+    ghost use Rattle.comm_core.specs.declared.entry.Entry.{Entry};
+    ghost use Rattle.comm_versions.specs.Code.{entries_code};
+    ghost use Rattle.comm_versions.specs.Listing.{WasListed};
+
+    ghost Value = { List Entry };
+
+    ghost coded = { entries_code };
+
+    ghost view = { λ s. s.front };
+
+    ghost invariant = { λ s. IfSome s.last (λ l. WasListed M.limits.comms l.count l.asked l.comms s.front) };
+}
+
+// Whether both ask for the same comms.
+fn is_same(one: &Option<Text>, other: Option<&Text>) -> bool
+    ensures { result ≡ true → one.now ≡ option_map (λ t. t.now) other.entry }
+{
+    match (one, other) {
+        (None, None) => true,
+        (Some(one), Some(other)) => one == other,
+        _ => false,
+    }
+}
+
+impl<M: History> ReaderState<M> {
+    pub fn new(front: Front<M>) -> ReaderState<M>
+        ensures { result ≡ front }
+    {
+        ReaderState { front, last: None }
+    }
+
+    pub fn front(&self) -> &Front<M>
+        ensures { result.now ≡ self.now }
+    {
+        &self.front
+    }
+
+    /// Sees a front that begins with what was seen.
+    pub fn advance(&mut self, front: Front<M>)
+        requires { IsPrefix self.old front }
+        ensures { self.new ≡ front }
+    {
+        self.front = front;
+    }
+
+    /// The list that was read last, where it was of these comms and all beginnings after it list the same.
+    pub fn cached_infos(&self, listing_since: u64, asked: Option<&Text>) -> Option<&Infos>
+        requires { ListsAlikeSince M.limits.comms listing_since self.now }
+        ensures { IfSome result (λ i. i.now ≡ infos (replay M.limits.comms self.now) (option_map (λ t. t.now) asked.entry)) }
+    {
+        match &self.last {
+            Some(last) if listing_since < last.count && is_same(&last.asked, asked) => Some(
+                &last.comms,
+            ),
+            _ => None,
+        }
+    }
+
+    /// Keeps a list that was read after this front. Err: memory.
+    pub fn keep(&mut self, asked: Option<&Text>, comms: &Infos) -> Result<(), AllocError>
+        requires { comms.now ≡ infos (replay M.limits.comms self.old) (option_map (λ t. t.now) asked) }
+        ensures { self.new ≡ self.old }
+    {
+        let asked = match asked {
+            Some(name) => Some(name.copy()?),
+            None => None,
+        };
+        self.last = Some(Listing {
+            count: self.front.len(),
+            asked,
+            comms: comms.copy()?,
+        });
+        Ok(())
+    }
+}
