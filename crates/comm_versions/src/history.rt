@@ -2,8 +2,8 @@
 ghost use Rattle.std.specs.Prelude.{◌≡◌, []};
 ghost use Rattle.comm_versions.specs.Rules.{head_of};
 
-use crate::front::Front;
 use crate::raw_front::RawFront;
+use crate::stamp::Stamp;
 use comm_core::Entry;
 use logbook::{Gain, Plain, Play, Rule, Seen, Start, Word};
 use std::alloc::Global;
@@ -105,7 +105,7 @@ impl BlankHistory {
     }
 
     /// The history's word under a name, and the front that has seen nothing.
-    pub(crate) fn open<M: History>(self, clients: u8, comms: usize) -> (Head<M>, Front<M>)
+    pub(crate) fn open<M: History>(self, clients: u8, comms: usize) -> (Head<M>, Stamp<M>)
         requires book { self ≡ M.book }
         requires limits { (clients ≡ M.limits.clients) × (comms ≡ M.limits.comms) }
         ensures { result.1 ≡ [] }
@@ -115,7 +115,7 @@ impl BlankHistory {
             head,
             of: PhantomData,
         };
-        (head, Front::of(RawFront::first(clients, comms, seen)))
+        (head, Stamp::from_raw(RawFront::first(clients, comms, seen)))
     }
 }
 

@@ -13,7 +13,6 @@ mod change;
 mod changing;
 mod chunks;
 mod comm_table;
-mod front;
 mod history;
 mod opening;
 mod position;

@@ -7,11 +7,11 @@ ghost use Rattle.comm_core.specs.Row.{rows};
 ghost use Rattle.comm_versions.specs.Known.{known, origin_of};
 
 use crate::comm_table::CommTable;
-use crate::front::Front;
 use crate::history::{BlankHistory, History};
 use crate::raw_front::RawFront;
 use crate::reader::VersionReader;
 use crate::showing::show;
+use crate::stamp::Stamp;
 use crate::version::{JoinStep, SnapshotReader, SnapshotWriter, Version};
 use crate::writer::VersionWriter;
 use std::alloc::{AllocError, Global};
@@ -81,7 +81,7 @@ fn seat(snapshots: &mut SnapshotWriter) -> Result<SnapshotReader, AllocError>
 
 fn seats<M: History>(
     alloc: Global,
-    front: &Front<M>,
+    front: &Stamp<M>,
     snapshots: &mut SnapshotWriter,
     count: usize,
 ) -> Result<Vec<VersionReader<M>>, OpeningFault>
@@ -126,7 +126,7 @@ fn pair(
 fn open_readers<M: History, R: Wait>(
     rt: &R,
     alloc: Global,
-    front: &Front<M>,
+    front: &Stamp<M>,
     snapshots: &mut SnapshotWriter,
     root: &Arc<CommTable, Global>,
     count: usize,

@@ -7,8 +7,8 @@ ghost use Rattle.comm_versions.specs.Known.{known, origin_of};
 ghost use Rattle.comm_versions.specs.Listing.{ListAlike};
 
 use crate::comm_table::CommTable;
-use crate::front::Front;
 use crate::history::{Head, History};
+use crate::stamp::Stamp;
 use crate::version::Version;
 use comm_core::Entry;
 use std::alloc::Global;
@@ -18,7 +18,7 @@ use std::sync::Arc;
 /// The front that is published, and a number of entries: after each beginning of more the same comms are listed. Contracts see the front.
 #[derive(Drop)]
 pub struct PublishedFront<M: History> {
-    front: Front<M>,
+    front: Stamp<M>,
     listing_since: u64,
 }
 
@@ -38,17 +38,17 @@ impl<M: History> Model for PublishedFront<M> {
 }
 
 impl<M: History> PublishedFront<M> {
-    pub fn new(front: Front<M>) -> PublishedFront<M>
+    pub fn new(front: Stamp<M>) -> PublishedFront<M>
         ensures { result ≡ front }
     {
-        let listing_since = front.len();
+        let listing_since = front.number();
         PublishedFront {
             front,
             listing_since,
         }
     }
 
-    pub fn front(&self) -> &Front<M>
+    pub fn front(&self) -> &Stamp<M>
         ensures { result.now ≡ self.now }
     {
         &self.front
@@ -66,7 +66,7 @@ impl<M: History> PublishedFront<M> {
         requires lists { changes_listing ≡ false → ListAlike (rows (replay M.limits.comms self.old)) (rows (replay M.limits.comms (self.old ++ arc_value entry.now ∷ []))) }
         ensures { MatchBool result (self.new ≡ self.old ++ arc_value entry.now ∷ []) (self.new ≡ self.old) }
     {
-        let before = self.front.len();
+        let before = self.front.number();
         if !self.front.extend(head, entry) {
             return false;
         }

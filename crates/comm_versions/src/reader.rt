@@ -11,7 +11,6 @@ ghost use Rattle.comm_versions.specs.Listing.{ListsAlikeSince};
 ghost use Rattle.comm_versions.specs.declared.reads.ReadFault.TheVariants as fault;
 
 use crate::comm_table::CommTable;
-use crate::front::Front;
 use crate::history::History;
 use crate::raw_front::RawFront;
 use crate::reader_state::ReaderState;
@@ -95,11 +94,11 @@ fn see<M: History>(
     let Some((raw, version)) = found else {
         return Err(ReadFault::NoVersion);
     };
-    let shown: Front<M> = Front::of(raw);
+    let shown: Stamp<M> = Stamp::from_raw(raw);
     if !reader_state.front().is_prefix_of(&shown) {
         return Err(ReadFault::Memory);
     }
-    let front = shown.len();
+    let front = shown.number();
     reader_state.advance(shown);
     match version {
         Ok(version) => Ok(Shown {
@@ -112,7 +111,7 @@ fn see<M: History>(
 }
 
 impl<M: History> VersionReader<M> {
-    pub(crate) fn new(snapshots: SnapshotReader, front: Front<M>) -> VersionReader<M>
+    pub(crate) fn new(snapshots: SnapshotReader, front: Stamp<M>) -> VersionReader<M>
         requires { ((view snapshots.place).0 ≡ true) × ((view snapshots.place).1.origin ≡ origin_of M.book M.limits) }
         ensures { result ≡ front }
     {
@@ -200,8 +199,8 @@ impl<M: History> VersionReader<M> {
         ensures own { IsPrefix self.old self.new }
         ensures stamp { IsPrefix stamp.now self.new }
     {
-        if self.reader_state.front().is_prefix_of(&stamp.front) {
-            self.reader_state.advance(stamp.front.copy());
+        if self.reader_state.front().is_prefix_of(stamp) {
+            self.reader_state.advance(stamp.copy());
         }
     }
 
@@ -209,7 +208,7 @@ impl<M: History> VersionReader<M> {
     pub fn learn_ended(&self, stamp: &Stamp<M>)
         ensures { has_end stamp.now ≡ true → IsPrefix self.now stamp.now }
     {
-        self.reader_state.front().learn_ended(&stamp.front)
+        self.reader_state.front().learn_ended(stamp)
     }
 
     /// How many entries it has seen.
@@ -217,6 +216,6 @@ impl<M: History> VersionReader<M> {
         ensures length { result ≡ length self.now }
         ensures legal { IsLegal M.limits.clients M.limits.comms self.now }
     {
-        self.reader_state.front().len()
+        self.reader_state.front().number()
     }
 }

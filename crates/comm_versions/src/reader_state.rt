@@ -5,8 +5,8 @@ ghost use Rattle.comm_core.specs.History.{replay};
 ghost use Rattle.comm_core.specs.Reads.{infos};
 ghost use Rattle.comm_versions.specs.Listing.{ListsAlikeSince};
 
-use crate::front::Front;
 use crate::history::History;
+use crate::stamp::Stamp;
 use comm_messages::Infos;
 use comm_value::Text;
 use std::alloc::AllocError;
@@ -23,7 +23,7 @@ struct Listing {
 /// The front that a reader has seen, and the list of comms that it read last. Contracts see the front.
 #[derive(Drop)]
 pub struct ReaderState<M: History> {
-    front: Front<M>,
+    front: Stamp<M>,
     last: Option<Listing>,
 }
 
@@ -54,20 +54,20 @@ fn is_same(one: &Option<Text>, other: Option<&Text>) -> bool
 }
 
 impl<M: History> ReaderState<M> {
-    pub fn new(front: Front<M>) -> ReaderState<M>
+    pub fn new(front: Stamp<M>) -> ReaderState<M>
         ensures { result ≡ front }
     {
         ReaderState { front, last: None }
     }
 
-    pub fn front(&self) -> &Front<M>
+    pub fn front(&self) -> &Stamp<M>
         ensures { result.now ≡ self.now }
     {
         &self.front
     }
 
     /// Sees a front that begins with what was seen.
-    pub fn advance(&mut self, front: Front<M>)
+    pub fn advance(&mut self, front: Stamp<M>)
         requires { IsPrefix self.old front }
         ensures { self.new ≡ front }
     {
@@ -97,7 +97,7 @@ impl<M: History> ReaderState<M> {
             None => None,
         };
         self.last = Some(Listing {
-            count: self.front.len(),
+            count: self.front.number(),
             asked,
             comms: comms.copy()?,
         });

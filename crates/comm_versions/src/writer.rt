@@ -8,7 +8,6 @@ ghost use Rattle.comm_versions.specs.Known.{known, origin_of};
 use crate::adding::{PendingEntry, add_all, prepare};
 use crate::change::Change;
 use crate::comm_table::CommTable;
-use crate::front::Front;
 use crate::history::{Head, History};
 use crate::published_front::PublishedFront;
 use crate::stamp::Stamp;
@@ -53,7 +52,7 @@ impl<M: History> VersionWriter<M> {
     pub(crate) fn new(
         alloc: Global,
         head: Head<M>,
-        front: Front<M>,
+        front: Stamp<M>,
         next: Arc<CommTable, Global>,
         snapshots: SnapshotWriter,
     ) -> VersionWriter<M>
@@ -63,7 +62,7 @@ impl<M: History> VersionWriter<M> {
         ensures front { result.front ≡ front }
         ensures pending { result.pending ≡ [] }
     {
-        let _legal = front.len();
+        let _legal = front.number();
         VersionWriter {
             head,
             front: PublishedFront::new(front),
@@ -108,7 +107,7 @@ impl<M: History> VersionWriter<M> {
     pub fn stamp(&self) -> Stamp<M>
         ensures { result ≡ self.now.front }
     {
-        Stamp::of(self.front.front())
+        self.front.front().copy()
     }
 
     /// Readers take nothing from now on. What is pending is not published. It takes no memory, and waits for those who read.
