@@ -36,9 +36,21 @@ impl Model for ManagerBuilder {
 
     ghost Value = { Names };
 
-    ghost view = { λ o. record { book = o.history; first = o.first.name; second = o.second.name; third = o.third.name; fourth = o.fourth.name; queue = o.outbox.queue; limits = o.limits } };
+    ghost view = { λ o. record {
+      book = o.history;
+      first = o.first.name;
+      second = o.second.name;
+      third = o.third.name;
+      fourth = o.fourth.name;
+      queue = o.outbox.queue;
+      limits = o.limits;
+    } };
 
-    ghost invariant = { λ o. (o.first.parts ≡ 1) × (o.second.parts ≡ 1) × (o.third.parts ≡ 1) × (o.fourth.parts ≡ 1) × AreAllowed o.limits × (o.outbox ≡ unfilled o.outbox.queue o.limits.clients o.limits.comms (o.limits.outbox + 1)) × (o.publisher ≡ untouched o.outbox.queue o.limits.clients o.limits.comms) };
+    ghost invariant = { λ o.
+        (o.first.parts ≡ 1) × (o.second.parts ≡ 1) × (o.third.parts ≡ 1) × (o.fourth.parts ≡ 1)
+        × AreAllowed o.limits
+        × (o.outbox ≡ unfilled o.outbox.queue o.limits.clients o.limits.comms (o.limits.outbox + 1))
+        × (o.publisher ≡ untouched o.outbox.queue o.limits.clients o.limits.comms) };
 }
 
 impl ManagerBuilder {
@@ -76,7 +88,9 @@ fn with_client<M: ManagerId>(
     requires seq { (seq.client < 4) × (seq.number ≡ 0) }
     requires readers { vec_len readers.old ≡ M.limits.clients - seq.client }
     requires none { All (λ r. r ≡ []) readers.old.items }
-    ensures clients { IfOk result (λ v. v.items ≡ (if nat_lt seq.client M.limits.clients then clients.items ++ who seq.client 0 [] ∷ [] else clients.items)) }
+    ensures clients { IfOk result (λ v.
+        v.items ≡ (if nat_lt seq.client M.limits.clients
+        then clients.items ++ who seq.client 0 [] ∷ [] else clients.items)) }
     ensures readers { vec_len readers.new ≡ M.limits.clients - (seq.client + 1) }
     ensures none { All (λ r. r ≡ []) readers.new.items }
 {
@@ -95,7 +109,8 @@ pub fn first_clients<M: ManagerId>(
 ) -> Result<Vec<Client<M>>, AllocError>
     requires count { (1 ≤ M.limits.clients) × (M.limits.clients ≤ 4) }
     requires readers { (vec_len readers ≡ M.limits.clients) × All (λ r. r ≡ []) readers.items }
-    requires seqs { (seqs.first ≡ tally 0 0) × (seqs.second ≡ tally 1 0) × (seqs.third ≡ tally 2 0) × (seqs.fourth ≡ tally 3 0) }
+    requires seqs { (seqs.first ≡ tally 0 0) × (seqs.second ≡ tally 1 0) × (seqs.third ≡ tally 2 0)
+        × (seqs.fourth ≡ tally 3 0) }
     ensures { IfOk result (λ v. v.items ≡ all_new M.limits.clients) }
 {
     let ClientSeqs {

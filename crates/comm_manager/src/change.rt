@@ -43,12 +43,19 @@ fn build_entry<M: ManagerId, T: Target>(
 ) -> Result<(Arc<Entry, Global>, Arc<Entry, Global>), AllocError>
     requires call { call ≡ begun.now.call }
     requires number { seq.now.number < 2 ^ 62 }
-    requires legal { IsLegal M.limits.clients M.limits.comms ((writer.old.front ++ writer.old.pending) ++ ready_entry seq.now.client (seq.now.number + 1) begun.now ∷ []) }
-    requires ready { (core : CoreValue) × IsReady core begun.now × (machine core ≡ replay M.limits.comms (writer.old.front ++ writer.old.pending)) }
-    ensures kept { IfOk result (λ r. arc_value r.0 ≡ ready_entry seq.now.client (seq.now.number + 1) begun.now) }
+    requires legal { IsLegal M.limits.clients M.limits.comms
+        ((writer.old.front ++ writer.old.pending)
+        ++ ready_entry seq.now.client (seq.now.number + 1) begun.now ∷ []) }
+    requires ready { (core : CoreValue) × IsReady core begun.now
+        × (machine core ≡ replay M.limits.comms (writer.old.front ++ writer.old.pending)) }
+    ensures kept { IfOk result (λ r.
+        arc_value r.0 ≡ ready_entry seq.now.client (seq.now.number + 1) begun.now) }
     ensures sent { IfOk result (λ r. arc_value r.1 ≡ arc_value r.0) }
     ensures front { writer.new.front ≡ writer.old.front }
-    ensures pending { MatchResult result (λ _. writer.new.pending ≡ writer.old.pending ++ ready_entry seq.now.client (seq.now.number + 1) begun.now ∷ []) (λ _. writer.new.pending ≡ writer.old.pending) }
+    ensures pending { MatchResult result
+        (λ _. writer.new.pending
+        ≡ writer.old.pending ++ ready_entry seq.now.client (seq.now.number + 1) begun.now ∷ [])
+        (λ _. writer.new.pending ≡ writer.old.pending) }
 {
     rows_are_what_entries_change();
     let client = seq.client();
@@ -93,7 +100,8 @@ fn check_room<M: ManagerId, R: Wait>(
     requires made { made ≡ length writer.now.front }
     requires few { made ≤ M.limits.history }
     requires puts { OutboxInvariant M.queue M.limits writer.now.front outbox.old }
-    ensures why { MatchOption result ((length writer.now.front < M.limits.history) × (2 ≤ outbox.new.room)) (λ e. Because M.limits e) }
+    ensures why { MatchOption result ((length writer.now.front < M.limits.history)
+        × (2 ≤ outbox.new.room)) (λ e. Because M.limits e) }
     ensures first { IfSome result (λ e. IsHistoryFirst M.limits writer.now.front e) }
     ensures puts { OutboxInvariant M.queue M.limits writer.now.front outbox.new }
 {
@@ -138,8 +146,10 @@ fn reserve<M: ManagerId, R: Wait>(
     ensures history { journal.new.all ≡ journal.old.all }
     ensures puts { OutboxInvariant M.queue M.limits journal.old.all outbox.new }
     ensures same { (totals.new ≡ totals.old) × (seq.new ≡ seq.old) }
-    ensures room { OnOk result ((journal.new.room ≡ true) × (2 ≤ outbox.new.room) × (length journal.old.all < M.limits.history)) }
-    ensures known { OnOk result ((seq.old.client < 4) × (slice_index totals.old seq.old.client ≡ seq.old.number)) }
+    ensures room { OnOk result ((journal.new.room ≡ true) × (2 ≤ outbox.new.room)
+        × (length journal.old.all < M.limits.history)) }
+    ensures known { OnOk result ((seq.old.client < 4)
+        × (slice_index totals.old seq.old.client ≡ seq.old.number)) }
     ensures seen { OnOk result (length reader.now ≤ length journal.old.all) }
     ensures why { IfErr result (λ e. Because M.limits e) }
     ensures first { IfErr result (λ e. IsHistoryFirst M.limits journal.old.all e) }
@@ -172,7 +182,8 @@ fn complete<M: ManagerId, R: Wait>(
     requires room { (journal.old.room ≡ true) × (2 ≤ outbox.old.room) }
     requires puts { OutboxInvariant M.queue M.limits journal.old.all outbox.old }
     requires one { arc_value sent ≡ arc_value kept }
-    requires pending { (writer.old.front ≡ journal.old.all) × (writer.old.pending ≡ arc_value kept ∷ []) }
+    requires pending { (writer.old.front ≡ journal.old.all)
+        × (writer.old.pending ≡ arc_value kept ∷ []) }
     requires few { length journal.old.all < 4294967296 }
     requires number { seq.old.number < 2 ^ 62 }
     requires seen { length reader.old ≤ length journal.old.all }
@@ -214,12 +225,18 @@ pub fn ask<M: ManagerId, T: Target, R: Wait>(
     requires call { HandsNothingIn call }
     ensures kept { LockInvariant M.limits journal.new.all core.new writer.new totals.new }
     ensures puts { OutboxInvariant M.queue M.limits journal.new.all outbox.new }
-    ensures next { IfOk result (λ m. IsNext journal.old.all journal.new.all seq.old.client (seq.old.number + 1) call m.answered.reply) }
-    ensures stamp { IfOk result (λ m. (m.answered.stamp ≡ journal.new.all) × (m.answered.number ≡ length journal.new.all)) }
-    ensures seen { IfOk result (λ m. (reader.new ≡ journal.new.all) × IsPrefix reader.old journal.old.all) }
-    ensures seq { OnOk result ((seq.new ≡ tally seq.old.client (seq.old.number + 1)) × (length (mine journal.old.all seq.old.client) ≡ seq.old.number)) }
+    ensures next { IfOk result (λ m.
+        IsNext journal.old.all journal.new.all seq.old.client
+        (seq.old.number + 1) call m.answered.reply) }
+    ensures stamp { IfOk result (λ m.
+        (m.answered.stamp ≡ journal.new.all) × (m.answered.number ≡ length journal.new.all)) }
+    ensures seen { IfOk result (λ m.
+        (reader.new ≡ journal.new.all) × IsPrefix reader.old journal.old.all) }
+    ensures seq { OnOk result ((seq.new ≡ tally seq.old.client (seq.old.number + 1))
+        × (length (mine journal.old.all seq.old.client) ≡ seq.old.number)) }
     ensures idle { IfOk result (λ m. IdleWhere m.ended) }
-    ensures err { OnErr result ((seq.new ≡ seq.old) × (reader.new ≡ reader.old) × (journal.new.all ≡ journal.old.all)) }
+    ensures err { OnErr result ((seq.new ≡ seq.old) × (reader.new ≡ reader.old)
+        × (journal.new.all ≡ journal.old.all)) }
     ensures why { IfErr result (λ e. Because M.limits e) }
     ensures first { IfErr result (λ e. IsHistoryFirst M.limits journal.old.all e) }
 {
@@ -285,12 +302,18 @@ pub fn register<M: ManagerId, T: Target, R: Wait>(
     requires idle { IsIdle (T.means boxed) }
     ensures kept { LockInvariant M.limits journal.new.all core.new writer.new totals.new }
     ensures puts { OutboxInvariant M.queue M.limits journal.new.all outbox.new }
-    ensures next { IfOk result (λ m. IsNext journal.old.all journal.new.all seq.old.client (seq.old.number + 1) (call.Register name (T.means boxed).kind (T.means boxed).notes) m.answered.reply) }
-    ensures stamp { IfOk result (λ m. (m.answered.stamp ≡ journal.new.all) × (m.answered.number ≡ length journal.new.all)) }
-    ensures seen { IfOk result (λ m. (reader.new ≡ journal.new.all) × IsPrefix reader.old journal.old.all) }
-    ensures seq { OnOk result ((seq.new ≡ tally seq.old.client (seq.old.number + 1)) × (length (mine journal.old.all seq.old.client) ≡ seq.old.number)) }
+    ensures next { IfOk result (λ m.
+        IsNext journal.old.all journal.new.all seq.old.client (seq.old.number + 1)
+        (call.Register name (T.means boxed).kind (T.means boxed).notes) m.answered.reply) }
+    ensures stamp { IfOk result (λ m.
+        (m.answered.stamp ≡ journal.new.all) × (m.answered.number ≡ length journal.new.all)) }
+    ensures seen { IfOk result (λ m.
+        (reader.new ≡ journal.new.all) × IsPrefix reader.old journal.old.all) }
+    ensures seq { OnOk result ((seq.new ≡ tally seq.old.client (seq.old.number + 1))
+        × (length (mine journal.old.all seq.old.client) ≡ seq.old.number)) }
     ensures idle { IfOk result (λ m. IdleWhere m.ended) }
-    ensures err { OnErr result ((seq.new ≡ seq.old) × (reader.new ≡ reader.old) × (journal.new.all ≡ journal.old.all)) }
+    ensures err { OnErr result ((seq.new ≡ seq.old) × (reader.new ≡ reader.old)
+        × (journal.new.all ≡ journal.old.all)) }
     ensures why { IfErr result (λ e. Because M.limits e.0) }
     ensures first { IfErr result (λ e. IsHistoryFirst M.limits journal.old.all e.0) }
     ensures boxed { IfErr result (λ e. T.means e.1 ≡ T.means boxed) }

@@ -47,7 +47,8 @@ impl<M: ManagerId> Model for Client<M> {
 
     ghost view = { λ c. who c.seq.client c.seq.number c.reader };
 
-    ghost invariant = { λ c. (c.seq.client < M.limits.clients) × (c.seq.number ≤ length (mine c.reader c.seq.client)) };
+    ghost invariant = { λ c.
+        (c.seq.client < M.limits.clients) × (c.seq.number ≤ length (mine c.reader c.seq.client)) };
 }
 
 // Ends a target that a change took out, if it did.
@@ -88,7 +89,8 @@ impl<M: ManagerId> Client<M> {
         ensures one { (self.new.seen ≡ self.old.seen) ⊎ (self.new.seen ≡ stamp.now) }
         ensures own { IsPrefix self.old.seen self.new.seen }
         ensures stamp { IsPrefix stamp.now self.new.seen }
-        ensures made { (self.new.client ≡ self.old.client) × (self.new.number ≡ self.old.number) × (made self.new ≡ made self.old) }
+        ensures made { (self.new.client ≡ self.old.client) × (self.new.number ≡ self.old.number)
+            × (made self.new ≡ made self.old) }
     {
         self.reader.hear(stamp);
     }
@@ -112,7 +114,8 @@ impl<M: ManagerId> Client<M> {
         call: Call,
     ) -> Result<Answered<M>, Unavailable<Stamp<M>>>
         requires { HandsNothingIn call }
-        ensures answered { IfOk result (λ a. IsAnswered M.limits self.old self.new call a.number a.reply a.stamp) }
+        ensures answered { IfOk result (λ a.
+            IsAnswered M.limits self.old self.new call a.number a.reply a.stamp) }
         ensures err { OnErr result (self.new ≡ self.old) }
         ensures why { IfErr result (λ e. Because M.limits e) }
     {
@@ -137,7 +140,10 @@ impl<M: ManagerId> Client<M> {
         target: T,
     ) -> Result<Answered<M>, (Unavailable<Stamp<M>>, T)>
         requires { IsIdle (T.means target) }
-        ensures answered { IfOk result (λ a. IsAnswered M.limits self.old self.new (call.Register name (T.means target).kind (T.means target).notes) a.number a.reply a.stamp) }
+        ensures answered { IfOk result (λ a.
+            IsAnswered M.limits self.old self.new
+            (call.Register name (T.means target).kind (T.means target).notes)
+            a.number a.reply a.stamp) }
         ensures err { OnErr result (self.new ≡ self.old) }
         ensures why { IfErr result (λ e. Because M.limits e.0) }
         ensures boxed { IfErr result (λ e. T.means e.1 ≡ T.means target) }
@@ -165,7 +171,9 @@ impl<M: ManagerId> Client<M> {
         version: Option<Text>,
         body: Body,
     ) -> Result<Answered<M>, Unavailable<Stamp<M>>>
-        ensures answered { IfOk result (λ a. IsAnswered M.limits self.old self.new (call.Open id target version body) a.number a.reply a.stamp) }
+        ensures answered { IfOk result (λ a.
+            IsAnswered M.limits self.old self.new
+            (call.Open id target version body) a.number a.reply a.stamp) }
         ensures err { OnErr result (self.new ≡ self.old) }
         ensures why { IfErr result (λ e. Because M.limits e) }
     {
@@ -189,7 +197,8 @@ impl<M: ManagerId> Client<M> {
         id: Text,
         body: Body,
     ) -> Result<Answered<M>, Unavailable<Stamp<M>>>
-        ensures answered { IfOk result (λ a. IsAnswered M.limits self.old self.new (call.Msg id body) a.number a.reply a.stamp) }
+        ensures answered { IfOk result (λ a.
+            IsAnswered M.limits self.old self.new (call.Msg id body) a.number a.reply a.stamp) }
         ensures err { OnErr result (self.new ≡ self.old) }
         ensures why { IfErr result (λ e. Because M.limits e) }
     {
@@ -203,7 +212,8 @@ impl<M: ManagerId> Client<M> {
         manager: &Manager<M, T>,
         id: Text,
     ) -> Result<Answered<M>, Unavailable<Stamp<M>>>
-        ensures answered { IfOk result (λ a. IsAnswered M.limits self.old self.new (call.Close id) a.number a.reply a.stamp) }
+        ensures answered { IfOk result (λ a.
+            IsAnswered M.limits self.old self.new (call.Close id) a.number a.reply a.stamp) }
         ensures err { OnErr result (self.new ≡ self.old) }
         ensures why { IfErr result (λ e. Because M.limits e) }
     {
@@ -217,7 +227,8 @@ impl<M: ManagerId> Client<M> {
         manager: &Manager<M, T>,
         name: Text,
     ) -> Result<Answered<M>, Unavailable<Stamp<M>>>
-        ensures answered { IfOk result (λ a. IsAnswered M.limits self.old self.new (call.Unregister name) a.number a.reply a.stamp) }
+        ensures answered { IfOk result (λ a.
+            IsAnswered M.limits self.old self.new (call.Unregister name) a.number a.reply a.stamp) }
         ensures err { OnErr result (self.new ≡ self.old) }
         ensures why { IfErr result (λ e. Because M.limits e) }
     {
@@ -233,7 +244,9 @@ impl<M: ManagerId> Client<M> {
         target: Text,
         state: Dict,
     ) -> Result<Answered<M>, Unavailable<Stamp<M>>>
-        ensures answered { IfOk result (λ a. IsAnswered M.limits self.old self.new (call.Launch id target state) a.number a.reply a.stamp) }
+        ensures answered { IfOk result (λ a.
+            IsAnswered M.limits self.old self.new
+            (call.Launch id target state) a.number a.reply a.stamp) }
         ensures err { OnErr result (self.new ≡ self.old) }
         ensures why { IfErr result (λ e. Because M.limits e) }
     {
@@ -248,7 +261,8 @@ impl<M: ManagerId> Client<M> {
         id: Text,
         state: Dict,
     ) -> Result<Answered<M>, Unavailable<Stamp<M>>>
-        ensures answered { IfOk result (λ a. IsAnswered M.limits self.old self.new (call.Push id state) a.number a.reply a.stamp) }
+        ensures answered { IfOk result (λ a.
+            IsAnswered M.limits self.old self.new (call.Push id state) a.number a.reply a.stamp) }
         ensures err { OnErr result (self.new ≡ self.old) }
         ensures why { IfErr result (λ e. Because M.limits e) }
     {
@@ -263,7 +277,8 @@ impl<M: ManagerId> Client<M> {
         id: Text,
         body: Body,
     ) -> Result<Answered<M>, Unavailable<Stamp<M>>>
-        ensures answered { IfOk result (λ a. IsAnswered M.limits self.old self.new (call.Send id body) a.number a.reply a.stamp) }
+        ensures answered { IfOk result (λ a.
+            IsAnswered M.limits self.old self.new (call.Send id body) a.number a.reply a.stamp) }
         ensures err { OnErr result (self.new ≡ self.old) }
         ensures why { IfErr result (λ e. Because M.limits e) }
     {
@@ -277,7 +292,8 @@ impl<M: ManagerId> Client<M> {
         manager: &Manager<M, T>,
         id: Text,
     ) -> Result<Answered<M>, Unavailable<Stamp<M>>>
-        ensures answered { IfOk result (λ a. IsAnswered M.limits self.old self.new (call.HangUp id) a.number a.reply a.stamp) }
+        ensures answered { IfOk result (λ a.
+            IsAnswered M.limits self.old self.new (call.HangUp id) a.number a.reply a.stamp) }
         ensures err { OnErr result (self.new ≡ self.old) }
         ensures why { IfErr result (λ e. Because M.limits e) }
     {
@@ -288,10 +304,13 @@ impl<M: ManagerId> Client<M> {
     /// then. It enters no lock. NoVersion, as may come after the manager was discarded, leaves what was seen; Memory may have made it longer.
     pub fn comm_info(&mut self, alloc: Global, target: Option<&Text>) -> Result<InfoRead, ReadFault>
         ensures later { IsPrefix self.old.seen self.new.seen }
-        ensures made { (self.new.client ≡ self.old.client) × (self.new.number ≡ self.old.number) × (made self.new ≡ made self.old) }
+        ensures made { (self.new.client ≡ self.old.client) × (self.new.number ≡ self.old.number)
+            × (made self.new ≡ made self.old) }
         ensures legal { OnOk result (IsLegal M.limits.clients M.limits.comms self.new.seen) }
         ensures front { IfOk result (λ r. r.front ≡ length self.new.seen) }
-        ensures answer { IfOk result (λ r. r.comms ≡ infos (replay M.limits.comms self.new.seen) (option_map (λ t. t.now) target.entry)) }
+        ensures answer { IfOk result (λ r.
+            r.comms ≡ infos (replay M.limits.comms self.new.seen)
+            (option_map (λ t. t.now) target.entry)) }
         ensures none { IsErrOf result fault.NoVersion → self.new ≡ self.old }
     {
         self.reader.read_infos(alloc, target)
@@ -301,10 +320,12 @@ impl<M: ManagerId> Client<M> {
     /// made it longer.
     pub fn state(&mut self, id: &Text) -> Result<StateRead, ReadFault>
         ensures later { IsPrefix self.old.seen self.new.seen }
-        ensures made { (self.new.client ≡ self.old.client) × (self.new.number ≡ self.old.number) × (made self.new ≡ made self.old) }
+        ensures made { (self.new.client ≡ self.old.client) × (self.new.number ≡ self.old.number)
+            × (made self.new ≡ made self.old) }
         ensures legal { OnOk result (IsLegal M.limits.clients M.limits.comms self.new.seen) }
         ensures front { IfOk result (λ r. r.front ≡ length self.new.seen) }
-        ensures answer { IfOk result (λ r. r.answer ≡ state_of (replay M.limits.comms self.new.seen) id.now) }
+        ensures answer { IfOk result (λ r.
+            r.answer ≡ state_of (replay M.limits.comms self.new.seen) id.now) }
         ensures none { IsErrOf result fault.NoVersion → self.new ≡ self.old }
     {
         self.reader.read_state(id)

@@ -61,7 +61,9 @@ impl<M: ManagerId, T: Target> Model for Inner<M, T> {
 
     ghost view = { λ s. s.journal.all };
 
-    ghost invariant = { λ s. LockInvariant M.limits s.journal.all s.core (manually_drop_value s.writer) s.totals × OutboxInvariant M.queue M.limits s.journal.all s.outbox × (s.limits ≡ M.limits) };
+    ghost invariant = { λ s.
+        LockInvariant M.limits s.journal.all s.core (manually_drop_value s.writer) s.totals
+        × OutboxInvariant M.queue M.limits s.journal.all s.outbox × (s.limits ≡ M.limits) };
 }
 
 impl<M: ManagerId, T: Target> Inner<M, T> {
@@ -75,9 +77,15 @@ impl<M: ManagerId, T: Target> Inner<M, T> {
         totals: SeqTotals<M>,
     ) -> Inner<M, T>
         requires limits { (limits ≡ M.limits) × AreAllowed limits }
-        requires core { core ≡ record { limit = limits.comms; boxes = []; comms = []; settled = true } }
+        requires core { core ≡ record {
+          limit = limits.comms;
+          boxes = [];
+          comms = [];
+          settled = true;
+        } }
         requires writer { (writer.front ≡ []) × (writer.pending ≡ []) }
-        requires outbox { outbox ≡ unfilled M.queue limits.clients limits.comms (limits.outbox + 1) }
+        requires outbox { outbox
+            ≡ unfilled M.queue limits.clients limits.comms (limits.outbox + 1) }
         requires totals { totals ≡ 0 ∷ 0 ∷ 0 ∷ 0 ∷ [] }
         ensures { result ≡ [] }
     {
@@ -108,8 +116,12 @@ impl<M: ManagerId, T: Target> Inner<M, T> {
         call: Call,
     ) -> Result<MadeChange<M, T>, Unavailable<Stamp<M>>>
         requires { HandsNothingIn call }
-        ensures answered { IfOk result (λ m. IsAnswered M.limits client.old client.new call m.answered.number m.answered.reply m.answered.stamp) }
-        ensures next { IfOk result (λ m. IsNext self.old self.new client.old.client (client.old.number + 1) call m.answered.reply) }
+        ensures answered { IfOk result (λ m.
+            IsAnswered M.limits client.old client.new call
+            m.answered.number m.answered.reply m.answered.stamp) }
+        ensures next { IfOk result (λ m.
+            IsNext self.old self.new client.old.client
+            (client.old.number + 1) call m.answered.reply) }
         ensures history { IfOk result (λ m. self.new ≡ m.answered.stamp) }
         ensures idle { IfOk result (λ m. IdleWhere m.ended) }
         ensures err { OnErr result ((client.new ≡ client.old) × (self.new ≡ self.old)) }
@@ -141,8 +153,13 @@ impl<M: ManagerId, T: Target> Inner<M, T> {
         boxed: T,
     ) -> Result<MadeChange<M, T>, (Unavailable<Stamp<M>>, T)>
         requires { IsIdle (T.means boxed) }
-        ensures answered { IfOk result (λ m. IsAnswered M.limits client.old client.new (call.Register name (T.means boxed).kind (T.means boxed).notes) m.answered.number m.answered.reply m.answered.stamp) }
-        ensures next { IfOk result (λ m. IsNext self.old self.new client.old.client (client.old.number + 1) (call.Register name (T.means boxed).kind (T.means boxed).notes) m.answered.reply) }
+        ensures answered { IfOk result (λ m.
+            IsAnswered M.limits client.old client.new
+            (call.Register name (T.means boxed).kind (T.means boxed).notes)
+            m.answered.number m.answered.reply m.answered.stamp) }
+        ensures next { IfOk result (λ m.
+            IsNext self.old self.new client.old.client (client.old.number + 1)
+            (call.Register name (T.means boxed).kind (T.means boxed).notes) m.answered.reply) }
         ensures history { IfOk result (λ m. self.new ≡ m.answered.stamp) }
         ensures idle { IfOk result (λ m. IdleWhere m.ended) }
         ensures err { OnErr result ((client.new ≡ client.old) × (self.new ≡ self.old)) }
@@ -176,10 +193,13 @@ impl<M: ManagerId, T: Target> Inner<M, T> {
         publisher: Publisher<M>,
     ) -> Result<Farewell, (Inner<M, T>, Vec<Client<M>>, Publisher<M>)>
         ensures history { IfOk result (λ f. entries_of f.history.items ≡ self ++ End ∷ []) }
-        ensures legal { IfOk result (λ f. IsLegal M.limits.clients M.limits.comms (entries_of f.history.items)) }
+        ensures legal { IfOk result (λ f.
+            IsLegal M.limits.clients M.limits.comms (entries_of f.history.items)) }
         ensures few { length self ≤ M.limits.history }
-        ensures settled { IfOk result (λ f. All (λ w. IsSettled (entries_of f.history.items) w) clients.items) }
-        ensures untaken { IfOk result (λ f. publisher ++ entries_of f.untaken.items ≡ entries_of f.history.items) }
+        ensures settled { IfOk result (λ f.
+            All (λ w. IsSettled (entries_of f.history.items) w) clients.items) }
+        ensures untaken { IfOk result (λ f.
+            publisher ++ entries_of f.untaken.items ≡ entries_of f.history.items) }
         ensures err { IfErr result (λ e. (e.0 ≡ self) × (e.1 ≡ clients) × (e.2 ≡ publisher)) }
     {
         let Inner {
@@ -288,13 +308,17 @@ fn end_history<M: ManagerId, R: Wait>(
 ) -> Result<(Stamp<M>, Vec<Arc<Entry, Global>>), AllocError>
     requires front { (writer.old.front ≡ journal.old.all) × (writer.old.pending ≡ []) }
     requires puts { OutboxInvariant M.queue M.limits journal.old.all outbox.old }
-    requires legal { IsLegal M.limits.clients M.limits.comms journal.old.all × (has_end journal.old.all ≡ false) }
+    requires legal { IsLegal M.limits.clients M.limits.comms journal.old.all
+        × (has_end journal.old.all ≡ false) }
     requires few { length journal.old.all ≤ 4294967295 }
-    ensures stamp { IfOk result (λ r. (r.0 ≡ journal.old.all ++ End ∷ []) × IsLegal M.limits.clients M.limits.comms r.0) }
+    ensures stamp { IfOk result (λ r.
+        (r.0 ≡ journal.old.all ++ End ∷ []) × IsLegal M.limits.clients M.limits.comms r.0) }
     ensures history { IfOk result (λ r. journal.new.all ≡ r.0) }
     ensures puts { IfOk result (λ r. (outbox.new.queue ≡ M.queue) × (outbox.new.puts ≡ r.0)) }
-    ensures room { IfOk result (λ r. (r.1.items ≡ []) × (length journal.new.all ≤ length publisher.now + vec_capacity r.1)) }
-    ensures err { OnErr result ((journal.new.all ≡ journal.old.all) × (writer.new ≡ writer.old) × (outbox.new ≡ outbox.old)) }
+    ensures room { IfOk result (λ r.
+        (r.1.items ≡ []) × (length journal.new.all ≤ length publisher.now + vec_capacity r.1)) }
+    ensures err { OnErr result ((journal.new.all ≡ journal.old.all) × (writer.new ≡ writer.old)
+        × (outbox.new ≡ outbox.old)) }
 {
     legal_histories_grow();
     rows_are_what_entries_change();

@@ -23,7 +23,8 @@ impl Model for Journal {
 
     ghost coded = { pages_code };
 
-    ghost view = { λ j. pages (entries_of j.history.items) (nat_lt (vec_len j.history) (vec_capacity j.history)) };
+    ghost view = { λ j. pages (entries_of j.history.items)
+        (nat_lt (vec_len j.history) (vec_capacity j.history)) };
 }
 
 impl Journal {

@@ -46,7 +46,8 @@ impl<M: ManagerId> Publisher<M> {
 
     /// Takes the next entry. It takes no memory, and enters no lock of the changes. None says that none was there, at one moment of the call.
     pub fn take<R: Wait>(&mut self, rt: &R) -> Option<Arc<Entry, Global>>
-        ensures next { MatchOption result (self.new ≡ self.old) (λ e. self.new ≡ self.old ++ arc_value e ∷ []) }
+        ensures next { MatchOption result (self.new ≡ self.old) (λ e.
+            self.new ≡ self.old ++ arc_value e ∷ []) }
         ensures legal { IsLegal M.limits.clients M.limits.comms self.new }
     {
         self.side.take(rt)

@@ -111,11 +111,18 @@ impl<M: ManagerId, T: Target> Manager<M, T> {
         clients: Vec<Client<M>>,
         publisher: Publisher<M>,
     ) -> Result<Farewell, ShutdownRefused<M, T>>
-        ensures legal { IfOk result (λ f. IsLegal M.limits.clients M.limits.comms (entries_of f.history.items)) }
-        ensures ended { IfOk result (λ f. (before : List Entry) × (entries_of f.history.items ≡ before ++ End ∷ []) × (length before ≤ M.limits.history)) }
-        ensures settled { IfOk result (λ f. All (λ w. IsSettled (entries_of f.history.items) w) clients.items) }
-        ensures untaken { IfOk result (λ f. publisher ++ entries_of f.untaken.items ≡ entries_of f.history.items) }
-        ensures missing { MatchResult result (λ _. all_here M.limits.clients clients.items ≡ true) (λ e. IsMissing M.limits.clients clients.items e.cause) }
+        ensures legal { IfOk result (λ f.
+            IsLegal M.limits.clients M.limits.comms (entries_of f.history.items)) }
+        ensures ended { IfOk result (λ f.
+            (before : List Entry) × (entries_of f.history.items ≡ before ++ End ∷ [])
+            × (length before ≤ M.limits.history)) }
+        ensures settled { IfOk result (λ f.
+            All (λ w. IsSettled (entries_of f.history.items) w) clients.items) }
+        ensures untaken { IfOk result (λ f.
+            publisher ++ entries_of f.untaken.items ≡ entries_of f.history.items) }
+        ensures missing { MatchResult result
+            (λ _. all_here M.limits.clients clients.items ≡ true)
+            (λ e. IsMissing M.limits.clients clients.items e.cause) }
         ensures err { IfErr result (λ e. (e.clients ≡ clients) × (e.publisher ≡ publisher)) }
     {
         let Manager { alloc, inner } = self;

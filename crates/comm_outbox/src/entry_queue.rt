@@ -145,8 +145,10 @@ pub(crate) fn split<L: Limited>(
     requires queue { IsPassOf queue.now pass.old }
     requires first { view pass.old ≡ pass_view true true (bounds 0 0) [] [] }
     requires limits { L.bounds ≡ bounds clients comms }
-    ensures puts { IsSamePass pass.old pass.new × (view pass.new ≡ pass_view true false (bounds clients comms) [] []) }
-    ensures takes { IsPassOf queue.now result × (view result ≡ pass_view false true (bounds clients comms) [] []) }
+    ensures puts { IsSamePass pass.old pass.new
+        × (view pass.new ≡ pass_view true false (bounds clients comms) [] []) }
+    ensures takes { IsPassOf queue.now result
+        × (view result ≡ pass_view false true (bounds clients comms) [] []) }
 {
     queue.another::<Roles<L>>(pass)
 }

@@ -40,9 +40,21 @@ impl Model for Outbox {
 
     ghost coded = { putting_code };
 
-    ghost view = { λ o. record { queue = o.pass.table_id; clients = (known_at o.pass).bounds.clients; comms = (known_at o.pass).bounds.comms; places = ruled_capacity (arc_value o.queue); room = o.room; puts = (known_at o.pass).sent } };
+    ghost view = { λ o. record {
+      queue = o.pass.table_id;
+      clients = (known_at o.pass).bounds.clients;
+      comms = (known_at o.pass).bounds.comms;
+      places = ruled_capacity (arc_value o.queue);
+      room = o.room;
+      puts = (known_at o.pass).sent;
+    } };
 
-    ghost invariant = { λ o. IsPassOf (arc_value o.queue) o.pass × ((known_at o.pass).puts ≡ true) × (o.count ≡ length (known_at o.pass).sent) × (o.count + o.room ≤ 2 ^ 62) × (ruled_capacity (arc_value o.queue) ≤ 65537) × IsLegal (known_at o.pass).bounds.clients (known_at o.pass).bounds.comms (known_at o.pass).sent };
+    ghost invariant = { λ o.
+        IsPassOf (arc_value o.queue) o.pass × ((known_at o.pass).puts ≡ true)
+        × (o.count ≡ length (known_at o.pass).sent) × (o.count + o.room ≤ 2 ^ 62)
+        × (ruled_capacity (arc_value o.queue) ≤ 65537)
+        × IsLegal (known_at o.pass).bounds.clients (known_at o.pass).bounds.comms
+        (known_at o.pass).sent };
 }
 
 // Puts an entry.
@@ -50,7 +62,8 @@ fn put_on<R: Wait>(rt: &R, queue: &EntryQueue, pass: &mut QueuePass, entry: Arc<
     requires queue { IsPassOf queue.now pass.old }
     requires puts { (view pass.old).puts ≡ true }
     requires few { length (view pass.old).sent < 2 ^ 62 }
-    requires legal { IsLegal (view pass.old).bounds.clients (view pass.old).bounds.comms ((view pass.old).sent ++ arc_value entry ∷ []) }
+    requires legal { IsLegal (view pass.old).bounds.clients (view pass.old).bounds.comms
+        ((view pass.old).sent ++ arc_value entry ∷ []) }
     ensures same { IsSamePass pass.old pass.new }
     ensures put { HasPut (view pass.old) entry (view pass.new) }
 {
@@ -100,7 +113,8 @@ impl Outbox {
     /// How many entries wait to be taken, at one moment of the call. So the other places are free, and stay so until they are filled here:
     /// that is the room. After 2^62 - 65,537 puts it says that all places are taken.
     pub fn waiting<R: Wait>(&mut self, rt: &R) -> u64
-        ensures room { self.new ≡ record self.old { room = max self.old.room (self.old.places - result) } }
+        ensures room { self.new
+            ≡ record self.old { room = max self.old.room (self.old.places - result) } }
         ensures places { result ≤ self.old.places }
         ensures puts { result ≤ length self.old.puts }
         ensures legal { IsLegal self.old.clients self.old.comms self.old.puts }
@@ -117,8 +131,12 @@ impl Outbox {
     /// Puts an entry into a place that was found free. It takes no memory and can't fail.
     pub fn put<R: Wait>(&mut self, rt: &R, entry: Arc<Entry, Global>)
         requires room { 1 ≤ self.old.room }
-        requires legal { IsLegal self.old.clients self.old.comms (self.old.puts ++ arc_value entry ∷ []) }
-        ensures { self.new ≡ record self.old { room = self.old.room - 1; puts = self.old.puts ++ arc_value entry ∷ [] } }
+        requires legal { IsLegal self.old.clients self.old.comms
+            (self.old.puts ++ arc_value entry ∷ []) }
+        ensures { self.new ≡ record self.old {
+          room = self.old.room - 1;
+          puts = self.old.puts ++ arc_value entry ∷ [];
+        } }
     {
         put_on(rt, &self.queue, &mut self.pass, entry);
         self.count += 1;
@@ -158,7 +176,8 @@ impl Outbox {
         ensures queue { IsPassOf (arc_value result.0) result.1 }
         ensures places { ruled_capacity (arc_value result.0) ≡ self.places }
         ensures both { ((view result.1).puts ≡ true) × ((view result.1).takes ≡ true) }
-        ensures lists { ((view result.1).sent ≡ self.puts) × ((view result.1).got ≡ publisher.taken) }
+        ensures lists { ((view result.1).sent ≡ self.puts)
+            × ((view result.1).got ≡ publisher.taken) }
     {
         let Outbox {
             queue,

@@ -31,16 +31,26 @@ impl Model for Publisher {
 
     ghost coded = { taking_code };
 
-    ghost view = { λ p. record { queue = p.pass.table_id; clients = (known_at p.pass).bounds.clients; comms = (known_at p.pass).bounds.comms; taken = (known_at p.pass).got } };
+    ghost view = { λ p. record {
+      queue = p.pass.table_id;
+      clients = (known_at p.pass).bounds.clients;
+      comms = (known_at p.pass).bounds.comms;
+      taken = (known_at p.pass).got;
+    } };
 
-    ghost invariant = { λ p. IsPassOf (arc_value p.queue) p.pass × ((known_at p.pass).takes ≡ true) × (p.count ≡ length (known_at p.pass).got) × IsLegal (known_at p.pass).bounds.clients (known_at p.pass).bounds.comms (known_at p.pass).got };
+    ghost invariant = { λ p.
+        IsPassOf (arc_value p.queue) p.pass × ((known_at p.pass).takes ≡ true)
+        × (p.count ≡ length (known_at p.pass).got)
+        × IsLegal (known_at p.pass).bounds.clients (known_at p.pass).bounds.comms
+        (known_at p.pass).got };
 }
 
 impl Publisher {
     /// Takes the next entry. It takes no memory, and enters no lock. None says that none was there at one moment of the call, which no
     /// clause says.
     pub fn take<R: Wait>(&mut self, rt: &R) -> Option<Arc<Entry, Global>>
-        ensures next { MatchOption result (self.new ≡ self.old) (λ e. self.new ≡ record self.old { taken = self.old.taken ++ arc_value e ∷ [] }) }
+        ensures next { MatchOption result (self.new ≡ self.old) (λ e.
+            self.new ≡ record self.old { taken = self.old.taken ++ arc_value e ∷ [] }) }
         ensures legal { IsLegal self.new.clients self.new.comms self.new.taken }
     {
         prefixes_of_legal_histories_are_legal();

@@ -36,7 +36,9 @@ pub fn prepare(
 ) -> Result<PendingEntry, AllocError>
     ensures entry { IfOk result (λ s. arc_value s.entry ≡ arc_value change.entry) }
     ensures rows { IfOk result (λ s. arc_value s.root ≡ with_row change.row table_buffers.old) }
-    ensures lists { IfOk result (λ s. s.changes_listing ≡ false → ListAlike table_buffers.old (with_row change.row table_buffers.old)) }
+    ensures lists { IfOk result (λ s.
+        s.changes_listing ≡ false
+        → ListAlike table_buffers.old (with_row change.row table_buffers.old)) }
     ensures next { OnOk result (table_buffers.new ≡ with_row change.row table_buffers.old) }
     ensures err { OnErr result (table_buffers.new ≡ table_buffers.old) }
 {
@@ -62,8 +64,11 @@ fn extend<M: History, R: Wait>(
     changes_listing: bool,
 )
     requires room { length front.old < 2 ^ 62 }
-    requires legal { IsLegal M.limits.clients M.limits.comms (front.old ++ arc_value entry.now ∷ []) }
-    requires lists { changes_listing ≡ false → ListAlike (rows (replay M.limits.comms front.old)) (rows (replay M.limits.comms (front.old ++ arc_value entry.now ∷ []))) }
+    requires legal { IsLegal M.limits.clients M.limits.comms
+        (front.old ++ arc_value entry.now ∷ []) }
+    requires lists { changes_listing ≡ false
+        → ListAlike (rows (replay M.limits.comms front.old))
+        (rows (replay M.limits.comms (front.old ++ arc_value entry.now ∷ []))) }
     ensures { front.new ≡ front.old ++ arc_value entry.now ∷ [] }
 {
     if !front.extend(head, entry, changes_listing) {
@@ -81,11 +86,14 @@ fn add<M: History, R: Wait>(
 )
     requires next { FollowsFront M.limits.comms front.old pending_entry }
     requires room { length front.old < 2 ^ 62 }
-    requires legal { IsLegal M.limits.clients M.limits.comms (front.old ++ arc_value pending_entry.entry ∷ []) }
-    requires shown { snapshots.old.desk.shown.value.front ≡ known (origin_of M.book M.limits) front.old }
+    requires legal { IsLegal M.limits.clients M.limits.comms
+        (front.old ++ arc_value pending_entry.entry ∷ []) }
+    requires shown { snapshots.old.desk.shown.value.front
+        ≡ known (origin_of M.book M.limits) front.old }
     requires pending { drop snapshots.old.behind snapshots.old.log.items ≡ [] }
     ensures front { front.new ≡ front.old ++ arc_value pending_entry.entry ∷ [] }
-    ensures shown { snapshots.new.desk.shown.value.front ≡ known (origin_of M.book M.limits) front.new }
+    ensures shown { snapshots.new.desk.shown.value.front
+        ≡ known (origin_of M.book M.limits) front.new }
     ensures pending { drop snapshots.new.behind snapshots.new.log.items ≡ [] }
 {
     let PendingEntry {
@@ -108,11 +116,14 @@ pub fn add_all<M: History, R: Wait>(
 )
     requires ready { FollowInOrder M.limits.comms front.old pending.old.items }
     requires room { length front.old + length pending.old.items < 2 ^ 62 }
-    requires legal { IsLegal M.limits.clients M.limits.comms (front.old ++ entries_in pending.old.items) }
-    requires shown { snapshots.old.desk.shown.value.front ≡ known (origin_of M.book M.limits) front.old }
+    requires legal { IsLegal M.limits.clients M.limits.comms
+        (front.old ++ entries_in pending.old.items) }
+    requires shown { snapshots.old.desk.shown.value.front
+        ≡ known (origin_of M.book M.limits) front.old }
     requires waits { drop snapshots.old.behind snapshots.old.log.items ≡ [] }
     ensures front { front.new ≡ front.old ++ entries_in pending.old.items }
-    ensures shown { snapshots.new.desk.shown.value.front ≡ known (origin_of M.book M.limits) front.new }
+    ensures shown { snapshots.new.desk.shown.value.front
+        ≡ known (origin_of M.book M.limits) front.new }
     ensures waits { drop snapshots.new.behind snapshots.new.log.items ≡ [] }
     ensures done { pending.new.items ≡ [] }
 {

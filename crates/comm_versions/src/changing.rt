@@ -99,7 +99,9 @@ fn put_in(
 // This piece without the comm at i, or a copy without it where others have the piece too.
 fn take_from(alloc: Global, chunk: &mut CommChunk, i: usize) -> Result<(), AllocError>
     requires { i < length (arc_value chunk.old).items }
-    ensures { OnOk result ((arc_value chunk.new).items ≡ take i (arc_value chunk.old).items ++ drop (i + 1) (arc_value chunk.old).items) }
+    ensures { OnOk result
+        ((arc_value chunk.new).items
+        ≡ take i (arc_value chunk.old).items ++ drop (i + 1) (arc_value chunk.old).items) }
 {
     match Arc::get_mut(chunk) {
         Some(comms) => {
@@ -171,7 +173,8 @@ fn take_all(
 ) -> Result<Vec<CommChunk>, AllocError>
     requires filled { AllChunksFilled chunks.items }
     requires ordered { IsInOrder (comms_in chunks.items) }
-    ensures out { IfOk result (λ all. comms_in all.items ≡ without_all ids.now (comms_in chunks.items)) }
+    ensures out { IfOk result (λ all.
+        comms_in all.items ≡ without_all ids.now (comms_in chunks.items)) }
     ensures filled { IfOk result (λ all. AllChunksFilled all.items) }
 {
     let mut all = chunks;
@@ -190,7 +193,8 @@ pub fn after_row(
 ) -> Result<Vec<CommChunk>, AllocError>
     requires filled { AllChunksFilled chunks.items }
     requires ordered { IsInOrder (comms_in chunks.items) }
-    ensures comms_in { IfOk result (λ all. comms_in all.items ≡ with_row row.now (comms_in chunks.items)) }
+    ensures comms_in { IfOk result (λ all.
+        comms_in all.items ≡ with_row row.now (comms_in chunks.items)) }
     ensures filled { IfOk result (λ all. AllChunksFilled all.items) }
 {
     match row {

@@ -51,7 +51,8 @@ fn splice(
 ) -> Result<Vec<PrefixedComm>, AllocError>
     requires ordered { from ≤ to }
     requires within { to ≤ length comms.now }
-    ensures spliced { IfOk result (λ all. all.items ≡ take from comms.now ++ comm ∷ drop to comms.now) }
+    ensures spliced { IfOk result (λ all.
+        all.items ≡ take from comms.now ++ comm ∷ drop to comms.now) }
     ensures some { IfOk result (λ all. 0 < length all.items) }
 {
     let mut all = Vec::with_capacity(alloc, comms.len() + 1)?;
@@ -102,7 +103,10 @@ pub fn set_chunk(
 ) -> Result<Vec<CommChunk>, AllocError>
     requires within { place < length chunks.items }
     requires filled { AllChunksFilled chunks.items }
-    ensures comms_in { IfOk result (λ all. comms_in all.items ≡ comms_in (take place chunks.items) ++ (comms.items ++ comms_in (drop (place + 1) chunks.items))) }
+    ensures comms_in { IfOk result (λ all.
+        comms_in all.items
+        ≡ comms_in (take place chunks.items)
+        ++ (comms.items ++ comms_in (drop (place + 1) chunks.items))) }
     ensures filled { IfOk result (λ all. AllChunksFilled all.items) }
 {
     let mut all = chunks;

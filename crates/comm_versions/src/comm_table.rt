@@ -65,7 +65,9 @@ fn list_all(
     asked: Option<&Text>,
     all: &mut Vec<Info>,
 ) -> Result<(), AllocError>
-    ensures { OnOk result (all.new.items ≡ all.old.items ++ map info_of (filter (λ e. passes (option_map (λ t. t.now) asked.entry) e.1.target) comms.now)) }
+    ensures { OnOk result
+        (all.new.items ≡ all.old.items ++ map info_of (filter
+        (λ e. passes (option_map (λ t. t.now) asked.entry) e.1.target) comms.now)) }
 {
     for prefixed_comm in comms {
         let open = prefixed_comm.comm();
@@ -84,7 +86,9 @@ fn list_chunks(
     asked: Option<&Text>,
     all: &mut Vec<Info>,
 ) -> Result<(), AllocError>
-    ensures { OnOk result (all.new.items ≡ all.old.items ++ map info_of (filter (λ e. passes (option_map (λ t. t.now) asked.entry) e.1.target) (comms_in chunks.now))) }
+    ensures { OnOk result
+        (all.new.items ≡ all.old.items ++ map info_of (filter
+        (λ e. passes (option_map (λ t. t.now) asked.entry) e.1.target) (comms_in chunks.now))) }
 {
     for chunk in chunks {
         list_all(chunk.as_slice(), asked, all)?;
@@ -163,7 +167,9 @@ impl CommTable {
 
     /// The open comms with the names of their targets, those of one target where a name is given. The texts are shared.
     pub fn infos(&self, alloc: Global, asked: Option<&Text>) -> Result<Infos, AllocError>
-        ensures { IfOk result (λ v. v ≡ map info_of (filter (λ e. passes (option_map (λ t. t.now) asked.entry) e.1.target) self.now)) }
+        ensures { IfOk result (λ v.
+            v ≡ map info_of (filter
+            (λ e. passes (option_map (λ t. t.now) asked.entry) e.1.target) self.now)) }
     {
         let mut all = Vec::new(alloc);
         list_chunks(self.chunks.as_slice(), asked, &mut all)?;

@@ -72,7 +72,8 @@ fn seat(snapshots: &mut SnapshotWriter) -> Result<SnapshotReader, AllocError>
     ensures knows { IfOk result (λ l. view l.place ≡ view snapshots.old.desk.place) }
     ensures shown { snapshots.new.desk.shown.value ≡ snapshots.old.desk.shown.value }
     ensures same { view snapshots.new.desk.place ≡ view snapshots.old.desk.place }
-    ensures pending { drop snapshots.new.behind snapshots.new.log.items ≡ drop snapshots.old.behind snapshots.old.log.items }
+    ensures pending { drop snapshots.new.behind snapshots.new.log.items
+        ≡ drop snapshots.old.behind snapshots.old.log.items }
 {
     let mut reader = snapshots.factory().reader()?;
     reader.learn::<JoinStep>(snapshots.tell::<JoinStep>());
@@ -89,7 +90,8 @@ fn seats<M: History>(
     ensures count { IfOk result (λ v. vec_len v ≡ count) }
     ensures readers { IfOk result (λ v. All (λ r. r ≡ front.now) v.items) }
     ensures shown { snapshots.new.desk.shown.value ≡ snapshots.old.desk.shown.value }
-    ensures pending { drop snapshots.new.behind snapshots.new.log.items ≡ drop snapshots.old.behind snapshots.old.log.items }
+    ensures pending { drop snapshots.new.behind snapshots.new.log.items
+        ≡ drop snapshots.old.behind snapshots.old.log.items }
 {
     let mut readers = Vec::new(alloc);
     for i in 0..count {
@@ -132,11 +134,13 @@ fn open_readers<M: History, R: Wait>(
     count: usize,
 ) -> Result<Vec<VersionReader<M>>, OpeningFault>
     requires root { arc_value root.now ≡ rows (replay M.limits.comms front.now) }
-    requires shown { snapshots.old.desk.shown.value.front ≡ known (origin_of M.book M.limits) front.now }
+    requires shown { snapshots.old.desk.shown.value.front
+        ≡ known (origin_of M.book M.limits) front.now }
     requires waits { drop snapshots.old.behind snapshots.old.log.items ≡ [] }
     ensures count { IfOk result (λ v. vec_len v ≡ count) }
     ensures readers { IfOk result (λ v. All (λ r. r ≡ front.now) v.items) }
-    ensures shown { OnOk result (snapshots.new.desk.shown.value.front ≡ known (origin_of M.book M.limits) front.now) }
+    ensures shown { OnOk result
+        (snapshots.new.desk.shown.value.front ≡ known (origin_of M.book M.limits) front.now) }
     ensures waits { OnOk result (drop snapshots.new.behind snapshots.new.log.items ≡ []) }
 {
     if warm_up(rt, snapshots, root, front.raw()).is_err() {

@@ -62,9 +62,13 @@ impl<M: History> PublishedFront<M> {
         changes_listing: bool,
     ) -> bool
         requires room { length self.old < 2 ^ 62 }
-        requires legal { IsLegal M.limits.clients M.limits.comms (self.old ++ arc_value entry.now ∷ []) }
-        requires lists { changes_listing ≡ false → ListAlike (rows (replay M.limits.comms self.old)) (rows (replay M.limits.comms (self.old ++ arc_value entry.now ∷ []))) }
-        ensures { MatchBool result (self.new ≡ self.old ++ arc_value entry.now ∷ []) (self.new ≡ self.old) }
+        requires legal { IsLegal M.limits.clients M.limits.comms
+            (self.old ++ arc_value entry.now ∷ []) }
+        requires lists { changes_listing ≡ false
+            → ListAlike (rows (replay M.limits.comms self.old))
+            (rows (replay M.limits.comms (self.old ++ arc_value entry.now ∷ []))) }
+        ensures { MatchBool result (self.new ≡ self.old ++ arc_value entry.now ∷ [])
+            (self.new ≡ self.old) }
     {
         let before = self.front.number();
         if !self.front.extend(head, entry) {

@@ -72,7 +72,9 @@ impl RawFront {
     /// Whether the other begins with this one. Of two beginnings of one history the shorter begins the longer.
     pub fn is_prefix_of(&self, other: &RawFront) -> bool
         requires { other.now.origin.book ≡ self.now.origin.book }
-        ensures begins { MatchBool result (IsPrefix self.now.entries other.now.entries) (IsPrefix other.now.entries self.now.entries × (length other.now.entries < length self.now.entries)) }
+        ensures begins { MatchBool result (IsPrefix self.now.entries other.now.entries)
+            (IsPrefix other.now.entries self.now.entries
+            × (length other.now.entries < length self.now.entries)) }
     {
         let mut both = self.seen.again();
         both.learn(&other.seen);
@@ -93,8 +95,11 @@ impl RawFront {
     pub fn extend<M: History>(&mut self, head: &Head<M>, entry: &Arc<Entry, Global>) -> bool
         requires book { self.old.origin.book ≡ M.book }
         requires room { length self.old.entries < 2 ^ 62 }
-        requires legal { IsLegal self.old.origin.clients self.old.origin.limit (self.old.entries ++ arc_value entry.now ∷ []) }
-        ensures { MatchBool result (self.new ≡ known self.old.origin (self.old.entries ++ arc_value entry.now ∷ [])) (self.new ≡ self.old) }
+        requires legal { IsLegal self.old.origin.clients self.old.origin.limit
+            (self.old.entries ++ arc_value entry.now ∷ []) }
+        ensures { MatchBool result
+            (self.new ≡ known self.old.origin (self.old.entries ++ arc_value entry.now ∷ []))
+            (self.new ≡ self.old) }
     {
         let mut seen = self.seen.again();
         let mut offer: Offer<Entry, u64, HistoryRule, NoOffer> = seen.plain::<

@@ -53,7 +53,9 @@ impl<M: History> Model for VersionReader<M> {
 
     ghost view = { λ r. r.reader_state };
 
-    ghost invariant = { λ r. ((known_at r.snapshots.place).0 ≡ true) × ((known_at r.snapshots.place).1.origin ≡ origin_of M.book M.limits) };
+    ghost invariant = { λ r.
+        ((known_at r.snapshots.place).0 ≡ true)
+        × ((known_at r.snapshots.place).1.origin ≡ origin_of M.book M.limits) };
 }
 
 type Found = (RawFront, Result<Version, AllocError>);
@@ -64,8 +66,11 @@ type Found = (RawFront, Result<Version, AllocError>);
 // no memory is taken, no text compared, nothing else counted. No contract says that.
 fn current_version(snapshots: SnapshotReader) -> (SnapshotReader, Option<Found>)
     requires { (view snapshots.place).0 ≡ true }
-    ensures knows { ((view result.0.place).0 ≡ true) × ((view result.0.place).1.origin ≡ (view snapshots.place).1.origin) }
-    ensures found { IfSome result.1 (λ r. (r.0.origin ≡ (view snapshots.place).1.origin) × IsPrefix (view snapshots.place).1.entries r.0.entries × IfOk r.1 (λ v. v.front ≡ r.0)) }
+    ensures knows { ((view result.0.place).0 ≡ true)
+        × ((view result.0.place).1.origin ≡ (view snapshots.place).1.origin) }
+    ensures found { IfSome result.1 (λ r.
+        (r.0.origin ≡ (view snapshots.place).1.origin)
+        × IsPrefix (view snapshots.place).1.entries r.0.entries × IfOk r.1 (λ v. v.front ≡ r.0)) }
 {
     match snapshots.enter_as::<SeeStep>() {
         Ok(reading) => {
@@ -87,7 +92,11 @@ fn see<M: History>(
     requires origin { IfSome found (λ r. r.0.origin ≡ origin_of M.book M.limits) }
     requires version { IfSome found (λ r. IfOk r.1 (λ v. v.front ≡ r.0)) }
     ensures later { IsPrefix reader_state.old reader_state.new }
-    ensures shown { IfOk result (λ r. (r.front ≡ length reader_state.new) × IsLegal M.limits.clients M.limits.comms reader_state.new × (arc_value r.root ≡ rows (replay M.limits.comms reader_state.new)) × ListsAlikeSince M.limits.comms r.listing_since reader_state.new) }
+    ensures shown { IfOk result (λ r.
+        (r.front ≡ length reader_state.new)
+        × IsLegal M.limits.clients M.limits.comms reader_state.new
+        × (arc_value r.root ≡ rows (replay M.limits.comms reader_state.new))
+        × ListsAlikeSince M.limits.comms r.listing_since reader_state.new) }
     ensures nothing { IsErrOf result fault.NoVersion → found ≡ None }
     ensures none { IsErrOf result fault.NoVersion → reader_state.new ≡ reader_state.old }
 {
@@ -112,7 +121,8 @@ fn see<M: History>(
 
 impl<M: History> VersionReader<M> {
     pub(crate) fn new(snapshots: SnapshotReader, front: Stamp<M>) -> VersionReader<M>
-        requires { ((view snapshots.place).0 ≡ true) × ((view snapshots.place).1.origin ≡ origin_of M.book M.limits) }
+        requires { ((view snapshots.place).0 ≡ true)
+            × ((view snapshots.place).1.origin ≡ origin_of M.book M.limits) }
         ensures { result ≡ front }
     {
         VersionReader {
@@ -124,7 +134,10 @@ impl<M: History> VersionReader<M> {
     // What is shown now. Its front begins with all that was seen before.
     fn enter(&mut self) -> Result<Shown, ReadFault>
         ensures later { IsPrefix self.old self.new }
-        ensures shown { IfOk result (λ r. (r.front ≡ length self.new) × IsLegal M.limits.clients M.limits.comms self.new × (arc_value r.root ≡ rows (replay M.limits.comms self.new)) × ListsAlikeSince M.limits.comms r.listing_since self.new) }
+        ensures shown { IfOk result (λ r.
+            (r.front ≡ length self.new) × IsLegal M.limits.clients M.limits.comms self.new
+            × (arc_value r.root ≡ rows (replay M.limits.comms self.new))
+            × ListsAlikeSince M.limits.comms r.listing_since self.new) }
         ensures none { IsErrOf result fault.NoVersion → self.new ≡ self.old }
     {
         let found = replace_with(
@@ -145,7 +158,8 @@ impl<M: History> VersionReader<M> {
         requires root { arc_value shown.now.root ≡ rows (replay M.limits.comms self.old) }
         requires settled { ListsAlikeSince M.limits.comms shown.now.listing_since self.old }
         ensures seen { self.new ≡ self.old }
-        ensures comms { IfOk result (λ i. i ≡ infos (replay M.limits.comms self.old) (option_map (λ t. t.now) asked.entry)) }
+        ensures comms { IfOk result (λ i.
+            i ≡ infos (replay M.limits.comms self.old) (option_map (λ t. t.now) asked.entry)) }
     {
         if let Some(comms) = self.reader_state.cached_infos(shown.listing_since, asked) {
             return comms.copy();
@@ -162,7 +176,9 @@ impl<M: History> VersionReader<M> {
         ensures later { IsPrefix self.old self.new }
         ensures legal { OnOk result (IsLegal M.limits.clients M.limits.comms self.new) }
         ensures front { IfOk result (λ r. r.front ≡ length self.new) }
-        ensures answer { IfOk result (λ r. r.comms ≡ infos (replay M.limits.comms self.new) (option_map (λ t. t.now) asked.entry)) }
+        ensures answer { IfOk result (λ r.
+            r.comms ≡ infos (replay M.limits.comms self.new)
+            (option_map (λ t. t.now) asked.entry)) }
         ensures none { IsErrOf result fault.NoVersion → self.new ≡ self.old }
     {
         let shown = self.enter()?;
@@ -181,7 +197,8 @@ impl<M: History> VersionReader<M> {
         ensures later { IsPrefix self.old self.new }
         ensures legal { OnOk result (IsLegal M.limits.clients M.limits.comms self.new) }
         ensures front { IfOk result (λ r. r.front ≡ length self.new) }
-        ensures answer { IfOk result (λ r. r.answer ≡ state_of (replay M.limits.comms self.new) id.now) }
+        ensures answer { IfOk result (λ r.
+            r.answer ≡ state_of (replay M.limits.comms self.new) id.now) }
         ensures none { IsErrOf result fault.NoVersion → self.new ≡ self.old }
     {
         replays_are_consistent();

@@ -39,7 +39,8 @@ impl<M: History> Model for ReaderState<M> {
 
     ghost view = { λ s. s.front };
 
-    ghost invariant = { λ s. IfSome s.last (λ l. WasListed M.limits.comms l.count l.asked l.comms s.front) };
+    ghost invariant = { λ s.
+        IfSome s.last (λ l. WasListed M.limits.comms l.count l.asked l.comms s.front) };
 }
 
 // Whether both ask for the same comms.
@@ -77,7 +78,8 @@ impl<M: History> ReaderState<M> {
     /// The list that was read last, where it was of these comms and all beginnings after it list the same.
     pub fn cached_infos(&self, listing_since: u64, asked: Option<&Text>) -> Option<&Infos>
         requires { ListsAlikeSince M.limits.comms listing_since self.now }
-        ensures { IfSome result (λ i. i.now ≡ infos (replay M.limits.comms self.now) (option_map (λ t. t.now) asked.entry)) }
+        ensures { IfSome result (λ i.
+            i.now ≡ infos (replay M.limits.comms self.now) (option_map (λ t. t.now) asked.entry)) }
     {
         match &self.last {
             Some(last) if listing_since < last.count && is_same(&last.asked, asked) => Some(
@@ -89,7 +91,8 @@ impl<M: History> ReaderState<M> {
 
     /// Keeps a list that was read after this front. Err: memory.
     pub fn keep(&mut self, asked: Option<&Text>, comms: &Infos) -> Result<(), AllocError>
-        requires { comms.now ≡ infos (replay M.limits.comms self.old) (option_map (λ t. t.now) asked) }
+        requires { comms.now
+            ≡ infos (replay M.limits.comms self.old) (option_map (λ t. t.now) asked) }
         ensures { self.new ≡ self.old }
     {
         let asked = match asked {

@@ -31,7 +31,8 @@ impl RowEffect {
 fn has(chunks: &[CommChunk], id: &Text, position: Position, target: &Text) -> bool
     requires ordered { IsInOrder (comms_in chunks.now) }
     requires position { IsPosition chunks.now id.now position }
-    ensures { result ≡ true → option_map (λ c. c.target) (at (comms_in chunks.now) id.now) ≡ Some target.now }
+    ensures { result ≡ true
+        → option_map (λ c. c.target) (at (comms_in chunks.now) id.now) ≡ Some target.now }
 {
     match position.at {
         Ok(i) => chunks[position.chunk][i].comm().target() == target,
@@ -43,7 +44,8 @@ fn has(chunks: &[CommChunk], id: &Text, position: Position, target: &Text) -> bo
 pub fn put_effect(chunks: &[CommChunk], comm: &OpenComm) -> RowEffect
     requires filled { AllChunksFilled chunks.now }
     requires ordered { IsInOrder (comms_in chunks.now) }
-    ensures { result.changes_listing ≡ false → ListAlike (comms_in chunks.now) (upsert (comms_in chunks.now) comm.now) }
+    ensures { result.changes_listing ≡ false
+        → ListAlike (comms_in chunks.now) (upsert (comms_in chunks.now) comm.now) }
 {
     match position_of(chunks, comm.id(), None) {
         Some(position) => RowEffect {

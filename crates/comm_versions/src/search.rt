@@ -14,8 +14,12 @@ pub type CommChunk = Arc<Vec<PrefixedComm, Global>, Global>;
 /// Where the comm of this id stands, or where it would.
 pub fn place_of(comms: &[PrefixedComm], id: &Text) -> Result<usize, usize>
     requires { IsInOrder comms.now }
-    ensures found { IfOk result (λ i. (i < length comms.now) × AllIdsBelow id.now (take i comms.now) × StartsWithId id.now (drop i comms.now)) }
-    ensures absent { IfErr result (λ i. (i ≤ length comms.now) × AllIdsBelow id.now (take i comms.now) × IsBelowFirst id.now (drop i comms.now)) }
+    ensures found { IfOk result (λ i.
+        (i < length comms.now) × AllIdsBelow id.now (take i comms.now)
+        × StartsWithId id.now (drop i comms.now)) }
+    ensures absent { IfErr result (λ i.
+        (i ≤ length comms.now) × AllIdsBelow id.now (take i comms.now)
+        × IsBelowFirst id.now (drop i comms.now)) }
 {
     let prefix = id_prefix(id);
     let mut low = 0;

@@ -9,10 +9,16 @@ use std::sync::Wait;
 
 // Shows what waits, unless its root can't be shared.
 fn try_show<R: Wait>(snapshots: SnapshotWriter, rt: &R) -> (SnapshotWriter, bool)
-    requires { CanShow snapshots.desk.shown.value.front (drop snapshots.behind snapshots.log.items) }
-    ensures shown { MatchBool result.1 (result.0.desk.shown.value.front ≡ last_front snapshots.desk.shown.value.front (drop snapshots.behind snapshots.log.items)) (result.0.desk.shown.value ≡ snapshots.desk.shown.value) }
-    ensures knows { MatchBool result.1 (view result.0.desk.place ≡ (true, result.0.desk.shown.value.front)) (Unit {0}) }
-    ensures pending { MatchBool result.1 (drop result.0.behind result.0.log.items ≡ []) (drop result.0.behind result.0.log.items ≡ drop snapshots.behind snapshots.log.items) }
+    requires { CanShow snapshots.desk.shown.value.front
+        (drop snapshots.behind snapshots.log.items) }
+    ensures shown { MatchBool result.1
+        (result.0.desk.shown.value.front
+        ≡ last_front snapshots.desk.shown.value.front (drop snapshots.behind snapshots.log.items))
+        (result.0.desk.shown.value ≡ snapshots.desk.shown.value) }
+    ensures knows { MatchBool result.1
+        (view result.0.desk.place ≡ (true, result.0.desk.shown.value.front)) (Unit {0}) }
+    ensures pending { MatchBool result.1 (drop result.0.behind result.0.log.items ≡ [])
+        (drop result.0.behind result.0.log.items ≡ drop snapshots.behind snapshots.log.items) }
 {
     let (snapshots, done) = snapshots.publish_as::<SeeStep, R>(rt);
     (snapshots, done.is_ok())
@@ -20,8 +26,11 @@ fn try_show<R: Wait>(snapshots: SnapshotWriter, rt: &R) -> (SnapshotWriter, bool
 
 /// Shows what waits, by which the writer's seat knows it. It tries again where its root can't be shared.
 pub fn show<R: Wait>(rt: &R, snapshots: &mut SnapshotWriter)
-    requires { CanShow snapshots.old.desk.shown.value.front (drop snapshots.old.behind snapshots.old.log.items) }
-    ensures shown { snapshots.new.desk.shown.value.front ≡ last_front snapshots.old.desk.shown.value.front (drop snapshots.old.behind snapshots.old.log.items) }
+    requires { CanShow snapshots.old.desk.shown.value.front
+        (drop snapshots.old.behind snapshots.old.log.items) }
+    ensures shown { snapshots.new.desk.shown.value.front
+        ≡ last_front snapshots.old.desk.shown.value.front
+        (drop snapshots.old.behind snapshots.old.log.items) }
     ensures knows { view snapshots.new.desk.place ≡ (true, snapshots.new.desk.shown.value.front) }
     ensures pending { drop snapshots.new.behind snapshots.new.log.items ≡ [] }
 {
@@ -36,7 +45,8 @@ pub fn show<R: Wait>(rt: &R, snapshots: &mut SnapshotWriter)
 /// Lets a version wait to be shown. It tries again where there is no memory; there is, once as many have waited as wait at any time.
 pub fn enqueue<R: Wait>(rt: &R, snapshots: &mut SnapshotWriter, version: Version)
     ensures shown { snapshots.new.desk.shown.value ≡ snapshots.old.desk.shown.value }
-    ensures pending { drop snapshots.new.behind snapshots.new.log.items ≡ drop snapshots.old.behind snapshots.old.log.items ++ version ∷ [] }
+    ensures pending { drop snapshots.new.behind snapshots.new.log.items
+        ≡ drop snapshots.old.behind snapshots.old.log.items ++ version ∷ [] }
 {
     let mut version = version;
     for _ in rt.forever() {

@@ -69,7 +69,8 @@ impl<M: History> Stamp<M> {
 
     /// Whether the other begins with this one. Of two fronts the shorter begins the longer.
     pub(crate) fn is_prefix_of(&self, other: &Stamp<M>) -> bool
-        ensures begins { MatchBool result (IsPrefix self.now other.now) (IsPrefix other.now self.now × (length other.now < length self.now)) }
+        ensures begins { MatchBool result (IsPrefix self.now other.now)
+            (IsPrefix other.now self.now × (length other.now < length self.now)) }
     {
         self.raw.is_prefix_of(&other.raw)
     }
@@ -84,8 +85,10 @@ impl<M: History> Stamp<M> {
     /// Adds an entry to all that was seen, and says whether it did. It did not where the history is longer.
     pub(crate) fn extend(&mut self, head: &Head<M>, entry: &Arc<Entry, Global>) -> bool
         requires room { length self.old < 2 ^ 62 }
-        requires legal { IsLegal M.limits.clients M.limits.comms (self.old ++ arc_value entry.now ∷ []) }
-        ensures { MatchBool result (self.new ≡ self.old ++ arc_value entry.now ∷ []) (self.new ≡ self.old) }
+        requires legal { IsLegal M.limits.clients M.limits.comms
+            (self.old ++ arc_value entry.now ∷ []) }
+        ensures { MatchBool result (self.new ≡ self.old ++ arc_value entry.now ∷ [])
+            (self.new ≡ self.old) }
     {
         self.raw.extend(head, entry)
     }

@@ -55,7 +55,10 @@ fn catch_up(
     position: Option<Position>,
 ) -> Result<Option<Arc<CommTable, Global>>, AllocError>
     requires { StaleLeadsTo free before.now }
-    ensures { IfOk result (λ o. IfSome o (λ r. MatchOption before.now ⊥ (λ b. arc_value r ≡ with_row row.now (with_row b.row (arc_value b.root))))) }
+    ensures { IfOk result (λ o.
+        IfSome o (λ r.
+        MatchOption before.now ⊥ (λ b.
+        arc_value r ≡ with_row row.now (with_row b.row (arc_value b.root))))) }
 {
     let Some(mut free) = free else {
         return Ok(None);

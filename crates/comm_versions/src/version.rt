@@ -22,7 +22,8 @@ pub struct Version {
     pub root: Arc<CommTable, Global>,
     pub listing_since: u64,
     pub front: RawFront,
-    pub ghost kept: { (arc_value root ≡ rows (replay front.origin.limit front.entries)) × ListsAlikeSince front.origin.limit listing_since front.entries },
+    pub ghost kept: { (arc_value root ≡ rows (replay front.origin.limit front.entries))
+        × ListsAlikeSince front.origin.limit listing_since front.entries },
 }
 
 impl Version {

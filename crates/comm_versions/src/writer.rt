@@ -45,7 +45,12 @@ impl<M: History> Model for VersionWriter<M> {
 
     ghost view = { λ w. record { front = w.front; pending = entries_in w.pending.items } };
 
-    ghost invariant = { λ w. (w.snapshots.desk.shown.value.front ≡ known (origin_of M.book M.limits) w.front) × (drop w.snapshots.behind w.snapshots.log.items ≡ []) × IsLegal M.limits.clients M.limits.comms (w.front ++ entries_in w.pending.items) × FollowInOrder M.limits.comms w.front w.pending.items × (w.next ≡ rows (replay M.limits.comms (w.front ++ entries_in w.pending.items))) };
+    ghost invariant = { λ w.
+        (w.snapshots.desk.shown.value.front ≡ known (origin_of M.book M.limits) w.front)
+        × (drop w.snapshots.behind w.snapshots.log.items ≡ [])
+        × IsLegal M.limits.clients M.limits.comms (w.front ++ entries_in w.pending.items)
+        × FollowInOrder M.limits.comms w.front w.pending.items
+        × (w.next ≡ rows (replay M.limits.comms (w.front ++ entries_in w.pending.items))) };
 }
 
 impl<M: History> VersionWriter<M> {
@@ -57,7 +62,8 @@ impl<M: History> VersionWriter<M> {
         snapshots: SnapshotWriter,
     ) -> VersionWriter<M>
         requires rows { arc_value next ≡ rows (replay M.limits.comms front) }
-        requires shown { snapshots.desk.shown.value.front ≡ known (origin_of M.book M.limits) front }
+        requires shown { snapshots.desk.shown.value.front
+            ≡ known (origin_of M.book M.limits) front }
         requires pending { drop snapshots.behind snapshots.log.items ≡ [] }
         ensures front { result.front ≡ front }
         ensures pending { result.pending ≡ [] }
@@ -76,10 +82,15 @@ impl<M: History> VersionWriter<M> {
     /// Makes a change pending, of which the caller knows that it may come next, and that its row is what it changes. An error says that memory
     /// ran out; of what has to be done for a change to be published this is the last that can fail.
     pub fn append(&mut self, change: Change) -> Result<(), AllocError>
-        requires legal { IsLegal M.limits.clients M.limits.comms ((self.old.front ++ self.old.pending) ++ arc_value change.entry ∷ []) }
-        requires row { with_row change.row (rows (replay M.limits.comms (self.old.front ++ self.old.pending))) ≡ rows (replay M.limits.comms ((self.old.front ++ self.old.pending) ++ arc_value change.entry ∷ [])) }
+        requires legal { IsLegal M.limits.clients M.limits.comms
+            ((self.old.front ++ self.old.pending) ++ arc_value change.entry ∷ []) }
+        requires row { with_row change.row
+            (rows (replay M.limits.comms (self.old.front ++ self.old.pending)))
+            ≡ rows (replay M.limits.comms
+            ((self.old.front ++ self.old.pending) ++ arc_value change.entry ∷ [])) }
         ensures front { self.new.front ≡ self.old.front }
-        ensures pending { OnOk result (self.new.pending ≡ self.old.pending ++ arc_value change.entry ∷ []) }
+        ensures pending { OnOk result
+            (self.new.pending ≡ self.old.pending ++ arc_value change.entry ∷ []) }
         ensures err { OnErr result (self.new ≡ self.old) }
     {
         self.pending.reserve(1)?;
