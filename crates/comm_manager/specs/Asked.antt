@@ -10,7 +10,8 @@ use Rattle.comm_core.specs.declared.reply.Reply.{Reply}
 
 -- the entry is this call of the client, by this number, answered so
 abbrev pub IsCall : Entry → (client number : ℕ) → Call → Reply → Type 0
-IsCall e client number asked reply = (outcome : Option Outcome) × (outgoing : List Outgoing) × (e ≡ Change client number asked outcome reply outgoing)
+IsCall e client number asked reply =
+    (outcome : Option Outcome) × (outgoing : List Outgoing) × (e ≡ Change client number asked outcome reply outgoing)
 
 -- the entry of what stands ready
 abbrev pub ready_entry : (client number : ℕ) → Readied → Entry

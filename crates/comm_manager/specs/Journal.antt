@@ -13,4 +13,6 @@ abbrev pub pages : List Entry → Bool → Pages
 pages all room = record { all = all; room = room }
 
 abbrev pub pages_code : Coded Pages
-pages_code = code_by (List Entry × Bool) (coded× entries_code coded_bool) (λ j. (j.all, j.room)) (λ p. record { all = p.0; room = p.1 }) (λ _. refl)
+pages_code =
+    code_by (List Entry × Bool) (coded× entries_code coded_bool) (λ j. (j.all, j.room))
+    (λ p. record { all = p.0; room = p.1 }) (λ _. refl)

@@ -1,4 +1,4 @@
--- Which share of which ledger a ticket has.
+-- Which share of which ledger a client's sequence has.
 use Rattle.std.specs.Prelude.{ℕ, ◌≡◌}
 use Rattle.comm_manager.specs.declared.ledger.SeqShare.{SeqShare}
 use Rattle.comm_manager.specs.declared.ledger.SeqShare.TheVariants.{First, Second, Third, Fourth}

@@ -11,16 +11,18 @@ use Rattle.comm_versions.specs.Known.{WriterValue}
 
 -- how many entries of each client there are, of the clients 0 to 3
 abbrev pub counts : List Entry → List ℕ
-counts history = length (mine history 0) ∷ length (mine history 1) ∷ length (mine history 2) ∷ length (mine history 3) ∷ []
+counts history =
+    length (mine history 0) ∷ length (mine history 1) ∷ length (mine history 2) ∷ length (mine history 3) ∷ []
 
--- No change stands ready, so the targets mean the machine and nothing is staged (`Core::settled`), and the machine is that after the history.
+-- No change stands ready, so the targets mean the machine and nothing is staged (`Core::settled`), and the machine is
+-- that after the history.
 pub record Rests (limit : ℕ) (history : List Entry) (core : CoreValue) : Type 0 where
   pub settled : core.settled ≡ true
   pub limit_is : core.limit ≡ limit
   pub machine_is : machine core ≡ replay limit history
 
--- The side of the queue that puts, once it has put the history: one place more than entries may wait is there, and one at least was found free, for
--- an end.
+-- The side of the queue that puts, once it has put the history: one place more than entries may wait is there, and
+-- one at least was found free, for an end.
 pub record OutboxInvariant (queue : TableId) (limits : Limits) (history : List Entry) (outbox : Putting) : Type 0 where
   pub queue_is : outbox.queue ≡ queue
   pub clients_are : outbox.clients ≡ limits.clients
@@ -33,8 +35,10 @@ pub record OutboxInvariant (queue : TableId) (limits : Limits) (history : List E
 abbrev pub taker : TableId → Limits → List Entry → Taking
 taker queue limits taken = record { queue = queue; clients = limits.clients; comms = limits.comms; taken = taken }
 
--- The history is legal and not ended, within the limits, and it is what is published; the tables rest after it; the totals are those of its clients.
-pub record LockInvariant (limits : Limits) (history : List Entry) (core : CoreValue) (writer : WriterValue) (totals : List ℕ) : Type 0 where
+-- The history is legal and not ended, within the limits, and it is what is published; the tables rest after it; the
+-- totals are those of its clients.
+pub record LockInvariant (limits : Limits) (history : List Entry) (core : CoreValue) (writer : WriterValue)
+    (totals : List ℕ) : Type 0 where
   pub legal : IsLegal limits.clients limits.comms history
   pub going : has_end history ≡ false
   pub front_is : writer.front ≡ history

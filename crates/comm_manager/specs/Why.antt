@@ -19,8 +19,8 @@ Because limits (HistoryFull stamp) = (length stamp ≡ limits.history) × IsLega
 Because limits (OutboxFull waiting) = limits.outbox ≤ waiting
 Because limits Memory = Unit {0}
 
--- After so many entries: the history is full, and the stamp is of all of it. Each other reason comes only where there is room for one
--- more, so that a full history is told first.
+-- After so many entries: the history is full, and the stamp is of all of it. Each other reason comes only where there
+-- is room for one more, so that a full history is told first.
 abbrev pub IsHistoryFirst : Limits → List Entry → Unavailable (List Entry) → Type 0
 IsHistoryFirst limits history (HistoryFull stamp) = (stamp ≡ history) × (length history ≡ limits.history)
 IsHistoryFirst limits history why = length history < limits.history

@@ -54,7 +54,7 @@ impl Model for ManagerBuilder {
 }
 
 impl ManagerBuilder {
-    /// BadLimits exactly where a limit is out of its bounds, and Memory for want of it.
+    /// Makes the parts of a manager. Err: BadLimits exactly where a limit is out of its bounds, else Memory.
     pub fn new(alloc: Global, limits: Limits) -> Result<ManagerBuilder, NewFault>
         ensures limits { IfOk result (λ o. (o.limits ≡ limits) × AreAllowed limits) }
         ensures err { IfErr result (λ e. Barred limits e) }
@@ -79,7 +79,7 @@ impl ManagerBuilder {
     }
 }
 
-// The clients and one more, if a reader is left for it.
+// Adds a client with this number, if a reader is left for it.
 fn with_client<M: ManagerId>(
     clients: Vec<Client<M>>,
     readers: &mut Vec<VersionReader<M>>,
@@ -101,7 +101,7 @@ fn with_client<M: ManagerId>(
     Ok(clients)
 }
 
-/// The clients that a manager begins with, one for each reader.
+/// The clients that a manager begins with, one for each reader, in the order of their numbers. Err: memory.
 pub fn first_clients<M: ManagerId>(
     alloc: Global,
     readers: Vec<VersionReader<M>>,

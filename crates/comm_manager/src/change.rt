@@ -27,13 +27,14 @@ use comm_versions::{Change, Stamp, VersionReader, VersionWriter};
 use std::alloc::{AllocError, Global};
 use std::sync::{Arc, Wait};
 
-/// A change that was made: what it came to, and a target that has to be ended.
+/// A change that was made: its answer, and a target that has to be ended.
 pub struct MadeChange<M: ManagerId, T: Target> {
     pub answered: Answered<M>,
     pub ended: Option<Held<T>>,
 }
 
-// The entry of what stands ready, by the client's next number, twice; and once more, with its row, among what is to be published.
+// Builds the entry of the prepared change, by the client's next number: twice for the history and the queue, and
+// once, with its row, as what is to be published. Err: memory; nothing is pending.
 fn build_entry<M: ManagerId, T: Target>(
     alloc: Global,
     call: Call,
@@ -115,8 +116,9 @@ fn check_room<M: ManagerId, R: Wait>(
     None
 }
 
-// Goes on where the reader has seen no more than so many entries, as each has. It doesn't return otherwise: by no contract of the versions
-// could a reader have seen more than is published, but none says so before the history has ended.
+// Goes on where the reader has seen no more than so many entries, as each has. It doesn't return otherwise: by no
+// contract of the versions could a reader have seen more than is published, but none says so before the history has
+// ended.
 fn check_seen<M: ManagerId, R: Wait>(rt: &R, reader: &VersionReader<M>, made: usize)
     ensures { length reader.now ≤ made }
 {
@@ -127,8 +129,8 @@ fn check_seen<M: ManagerId, R: Wait>(rt: &R, reader: &VersionReader<M>, made: us
     unreachable!()
 }
 
-// Whether a change may be made: there is room for it in the history and in the queue, and in the latter for an end besides. The client made as many as
-// the books say, and has seen no more than there is.
+// Whether a change may be made: there is room for it in the history and in the queue, and in the latter for an end
+// besides. The client made as many changes as the totals say, and has seen no more than there is.
 fn reserve<M: ManagerId, R: Wait>(
     rt: &R,
     limits: &Limits,
@@ -166,8 +168,8 @@ fn reserve<M: ManagerId, R: Wait>(
     Ok(())
 }
 
-// The entry of a change that was made, which is to be published: it is added to the history, it is published, its client hears of it, and it goes
-// out. It says which place the entry has, from 1. Nothing here takes memory or can fail.
+// Completes a change whose entry is pending: the entry is appended to the history, it is published, its client hears
+// of it, and it goes out. Gives the place of the entry, from 1, and the stamp. Nothing here takes memory or can fail.
 fn complete<M: ManagerId, R: Wait>(
     rt: &R,
     journal: &mut Journal,
@@ -202,9 +204,9 @@ fn complete<M: ManagerId, R: Wait>(
     (stamp.number(), stamp)
 }
 
-/// One change of a client that hands no target in, in its order: room in the history and in the queue; what is asked is readied; the entry is made, and
-/// is to be published; the change is made, and its entry added; it is published, its client hears of it, and it goes out. A refusal comes before
-/// the change is made, and takes everything back.
+/// Makes one change of a client that hands no target in, in this order: room in the history and in the queue; the
+/// call is prepared; its entry is built and made pending; the change is made; its entry is appended, published, heard
+/// by its client, and put into the queue. Err: the change wasn't made, and all is as it was.
 pub fn ask<M: ManagerId, T: Target, R: Wait>(
     rt: &R,
     alloc: Global,
@@ -280,7 +282,7 @@ pub fn ask<M: ManagerId, T: Target, R: Wait>(
     }
 }
 
-/// The same of a change that hands a target in, which takes a name. A refusal hands it back.
+/// Registers a target, in the same order. Err: the change wasn't made, all is as it was, and the target comes back.
 pub fn register<M: ManagerId, T: Target, R: Wait>(
     rt: &R,
     alloc: Global,

@@ -1,4 +1,4 @@
-//! A client: its reader and its ticket, and what it may ask.
+//! A client: its reader, its sequence of changes, and what it may ask.
 ghost use Rattle.std.specs.Prelude.{◌≡◌, ◌+◌, ◌<◌, ◌⊎◌, length, true, IfOk, IfErr, OnErr, OnOk, IsErrOf, option_map};
 ghost use mathlib.Core.List.{IsPrefix};
 ghost use Rattle.comm_targets.specs.Meaning.{IsIdle};
@@ -28,7 +28,8 @@ use std::marker::Model;
 use std::sync::Wait;
 use uuid::Uuid;
 
-/// A client of a manager. Contracts see its number, from 0, how many of its changes were answered, and what it has seen.
+/// A caller's handle on a manager. Contracts see its number, from 0, how many of its changes were answered, and what
+/// it has seen.
 #[derive(Drop)]
 pub struct Client<M: ManagerId> {
     pub(crate) reader: VersionReader<M>,
@@ -61,6 +62,7 @@ fn end<T: Target>(ended: Option<Held<T>>)
 }
 
 impl<M: ManagerId> Client<M> {
+    /// A client that has made no change.
     pub(crate) fn new(reader: VersionReader<M>, seq: ClientSeq<M>) -> Client<M>
         requires below { seq.client < M.limits.clients }
         requires none { seq.number ≡ 0 }
@@ -76,7 +78,7 @@ impl<M: ManagerId> Client<M> {
         self.seq.client()
     }
 
-    /// How many entries it has seen.
+    /// How many entries it has seen. It takes no memory.
     pub fn seen(&self) -> u64
         ensures length { result ≡ length self.now.seen }
         ensures legal { IsLegal M.limits.clients M.limits.comms self.now.seen }
@@ -84,7 +86,7 @@ impl<M: ManagerId> Client<M> {
         self.reader.seen()
     }
 
-    /// From now on it has seen no less than the stamp's front.
+    /// From now on it has seen no less than the stamp's front. It takes no memory.
     pub fn hear(&mut self, stamp: &Stamp<M>)
         ensures one { (self.new.seen ≡ self.old.seen) ⊎ (self.new.seen ≡ stamp.now) }
         ensures own { IsPrefix self.old.seen self.new.seen }
@@ -95,7 +97,8 @@ impl<M: ManagerId> Client<M> {
         self.reader.hear(stamp);
     }
 
-    // What it has seen begins the history that ended, which has of it just what it made.
+    /// A proof step at the end: what the client has seen is a prefix of the history that ended, which has of it just
+    /// what it made.
     pub(crate) fn settle(&mut self, totals: &mut SeqTotals<M>, last: &Stamp<M>)
         requires ended { has_end last.now ≡ true }
         requires totals { totals.old ≡ counts last.now }
@@ -106,7 +109,8 @@ impl<M: ManagerId> Client<M> {
         totals.check(&mut self.seq);
     }
 
-    /// Makes the change that a call asks for, where it hands no target in: what the functions below do with the parts of one.
+    /// Makes the change of a call that hands no target in; the functions below put that call together. Err: the
+    /// change wasn't made, and why.
     pub fn ask<T: Target, R: Wait>(
         &mut self,
         rt: &R,
@@ -130,8 +134,8 @@ impl<M: ManagerId> Client<M> {
         }
     }
 
-    /// Registers a target under a name, in the place of the one that has it, if there is one: that one ends. Where the change isn't made, the
-    /// target comes back as it was.
+    /// Registers a target under a name, in the place of the one that has it, if there is one: that one ends. Err: the
+    /// change wasn't made, and the target comes back as it was.
     pub fn register<T: Target, R: Wait>(
         &mut self,
         rt: &R,
@@ -161,7 +165,8 @@ impl<M: ManagerId> Client<M> {
         }
     }
 
-    /// Opens a comm towards a target, as the frontend asks.
+    /// Opens a comm towards a target, as the frontend asks by `comm_open`. `version` is the widget protocol's, of the
+    /// message's metadata.
     pub fn open_comm<T: Target, R: Wait>(
         &mut self,
         rt: &R,
@@ -189,7 +194,7 @@ impl<M: ManagerId> Client<M> {
         )
     }
 
-    /// Hands a message of the frontend to a comm's target.
+    /// Hands a `comm_msg` of the frontend to the comm's target.
     pub fn message<T: Target, R: Wait>(
         &mut self,
         rt: &R,
@@ -205,7 +210,7 @@ impl<M: ManagerId> Client<M> {
         self.ask(rt, manager, Call::Msg { id, body })
     }
 
-    /// Closes a comm, as the frontend asks.
+    /// Closes a comm, as the frontend asks by `comm_close`.
     pub fn close_comm<T: Target, R: Wait>(
         &mut self,
         rt: &R,
@@ -220,7 +225,7 @@ impl<M: ManagerId> Client<M> {
         self.ask(rt, manager, Call::Close { id })
     }
 
-    /// Takes a target out, closing its comms.
+    /// Takes a target out: closes its comms, with a `comm_close` for each, and ends it.
     pub fn unregister<T: Target, R: Wait>(
         &mut self,
         rt: &R,
@@ -235,7 +240,7 @@ impl<M: ManagerId> Client<M> {
         self.ask(rt, manager, Call::Unregister { name })
     }
 
-    /// Opens a widget's comm for the kernel, with this state.
+    /// Opens a widget's comm for the kernel, with this state; sends `comm_open`.
     pub fn launch<T: Target, R: Wait>(
         &mut self,
         rt: &R,
@@ -253,7 +258,7 @@ impl<M: ManagerId> Client<M> {
         self.ask(rt, manager, Call::Launch { id, target, state })
     }
 
-    /// Changes these keys of a widget's state for the kernel.
+    /// Changes these keys of a widget's state for the kernel; sends an `update` with just them.
     pub fn push<T: Target, R: Wait>(
         &mut self,
         rt: &R,
@@ -269,7 +274,7 @@ impl<M: ManagerId> Client<M> {
         self.ask(rt, manager, Call::Push { id, state })
     }
 
-    /// Sends a message of the kernel on a comm.
+    /// Sends a `comm_msg` of the kernel on a comm, past its target.
     pub fn send<T: Target, R: Wait>(
         &mut self,
         rt: &R,
@@ -285,7 +290,7 @@ impl<M: ManagerId> Client<M> {
         self.ask(rt, manager, Call::Send { id, body })
     }
 
-    /// Closes a comm for the kernel.
+    /// Closes a comm for the kernel; sends `comm_close`.
     pub fn hang_up<T: Target, R: Wait>(
         &mut self,
         rt: &R,
@@ -300,8 +305,9 @@ impl<M: ManagerId> Client<M> {
         self.ask(rt, manager, Call::HangUp { id })
     }
 
-    /// The open comms with the names of their targets, those of one target where a name is given, as they are after the changes that it has seen
-    /// then. It enters no lock. NoVersion, as may come after the manager was discarded, leaves what was seen; Memory may have made it longer.
+    /// The open comms with the names of their targets, all or those of one target, after the changes that the client
+    /// has then seen. It enters no lock. Err: NoVersion, as may come after the manager was discarded, leaves what was
+    /// seen; Memory may have made it longer.
     pub fn comm_info(&mut self, alloc: Global, target: Option<&Text>) -> Result<InfoRead, ReadFault>
         ensures later { IsPrefix self.old.seen self.new.seen }
         ensures made { (self.new.client ≡ self.old.client) × (self.new.number ≡ self.old.number)
@@ -316,8 +322,8 @@ impl<M: ManagerId> Client<M> {
         self.reader.read_infos(alloc, target)
     }
 
-    /// The state of a comm, as it is after the changes that it has seen then. It enters no lock. NoVersion leaves what was seen; Memory may have
-    /// made it longer.
+    /// The state of a comm, after the changes that the client has then seen. It enters no lock. Err: NoVersion leaves
+    /// what was seen; Memory may have made it longer.
     pub fn state(&mut self, id: &Text) -> Result<StateRead, ReadFault>
         ensures later { IsPrefix self.old.seen self.new.seen }
         ensures made { (self.new.client ≡ self.old.client) × (self.new.number ≡ self.old.number)

@@ -34,15 +34,17 @@ use std::marker::Model;
 use std::mem::ManuallyDrop;
 use std::sync::{Arc, Wait};
 
-/// A one-thread manager with its history, which is published to the readers and goes out through the queue, and how many changes each client made.
+/// A one-thread manager with its history, which is published to the readers and goes out through the queue, and how
+/// many changes each client made.
 ///
-/// The history is legal, is what is published and what was put into the queue, its replay is the machine of the tables and the targets, and nothing
-/// is staged: that is true whenever the lock is got, and is proved again of each call that is made under it.
+/// The history is legal, is what is published and what was put into the queue; its replay is the machine of the
+/// tables and the targets, and nothing is staged. That is true whenever the lock is got, and is proved again of each
+/// call that is made under it.
 pub struct Inner<M: ManagerId, T: Target> {
     limits: Limits,
     core: Core<T>,
     journal: Journal,
-    // the kit can't prove how a writer would be dropped; it never is: `end` alone ends it
+    // The kit can't prove how a writer would be dropped. It never is: `end` alone ends it.
     writer: ManuallyDrop<VersionWriter<M>>,
     outbox: Outbox,
     totals: SeqTotals<M>,
@@ -106,8 +108,8 @@ impl<M: ManagerId, T: Target> Inner<M, T> {
         self.limits.clients
     }
 
-    /// One change of a client that hands no target in: one entry more, at the end of the history, which stays legal, is published and goes out. Or
-    /// nothing changes.
+    /// Makes one change of a client that hands no target in: one entry more, at the end of the history, which stays
+    /// legal, is published and goes out. Err: nothing changed.
     pub fn ask<R: Wait>(
         &mut self,
         rt: &R,
@@ -143,7 +145,7 @@ impl<M: ManagerId, T: Target> Inner<M, T> {
         )
     }
 
-    /// The same of a target that is registered. It is handed back where nothing changes.
+    /// Makes the change that registers a target. Err: nothing changed, and the target comes back.
     pub fn register<R: Wait>(
         &mut self,
         rt: &R,
@@ -183,8 +185,9 @@ impl<M: ManagerId, T: Target> Inner<M, T> {
         )
     }
 
-    /// Ends the history, and each target after its comms. All that the clients have seen begins it, it has of each just what it made, and what the
-    /// publisher took and what it left are all of it. Where there is no memory for an end, all is handed back.
+    /// Ends the history, and each target after its comms. All that the clients have seen is a prefix of it, it has of
+    /// each just what it made, and what the publisher took followed by what it left is all of it. Err: there is no
+    /// memory for an end; all is handed back.
     pub fn finish<R: Wait>(
         self,
         rt: &R,
@@ -243,7 +246,7 @@ impl<M: ManagerId, T: Target> Inner<M, T> {
         }
     }
 
-    /// Ends each target after its comms, and gives nothing back.
+    /// Ends each target after its comms, and gives nothing back. It takes no memory.
     pub fn discard<R: Wait>(self, rt: &R) {
         let Inner {
             limits: _limits,
@@ -258,7 +261,7 @@ impl<M: ManagerId, T: Target> Inner<M, T> {
     }
 }
 
-// It isn't dropped from now on.
+// The writer isn't dropped from now on. It is the one `unsafe` of this crate.
 fn wrap_writer<M: ManagerId>(writer: VersionWriter<M>) -> ManuallyDrop<VersionWriter<M>>
     ensures { manually_drop_value result ≡ writer }
 {
@@ -272,7 +275,7 @@ pub struct Farewell {
     pub untaken: Vec<Arc<Entry, Global>>,
 }
 
-// The entry of an end, three times, and an empty list with room for so many entries.
+// The change of an end, its entry twice more, and an empty list with room for so many entries. Err: memory.
 fn build_end(
     alloc: Global,
     count: usize,
@@ -297,7 +300,8 @@ fn build_end(
     Ok((Change::new(entry, Row::Clear), kept, sent, room))
 }
 
-// Ends the history, publishes that, and lets it go out. There is room for all that the publisher hasn't taken.
+// Ends the history, publishes that, and lets it go out. Gives the stamp of the end, and a list with room for all that
+// the publisher hasn't taken. Err: memory; nothing changed.
 fn end_history<M: ManagerId, R: Wait>(
     rt: &R,
     alloc: Global,
@@ -335,7 +339,7 @@ fn end_history<M: ManagerId, R: Wait>(
     Ok((stamp, room))
 }
 
-// What each client has seen begins the history that ended, and it made as many changes as the books say.
+// What each client has seen is a prefix of the history that ended, and it made as many changes as the totals say.
 fn settle_clients<M: ManagerId>(totals: &mut SeqTotals<M>, clients: Vec<Client<M>>, last: &Stamp<M>)
     requires ended { has_end last.now ≡ true }
     requires totals { totals.old ≡ counts last.now }

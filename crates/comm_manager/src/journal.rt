@@ -1,4 +1,4 @@
-//! The history.
+//! The history, as a list.
 ghost use Rattle.std.specs.Prelude.{◌≡◌, ◌++◌, ◌∷◌, [], length, true, OnOk};
 ghost use Rattle.std.specs.Arc.{arc_value};
 ghost use Rattle.comm_outbox.specs.Sides.{entries_of};
@@ -28,7 +28,7 @@ impl Model for Journal {
 }
 
 impl Journal {
-    /// No entry.
+    /// The empty history. It takes no memory.
     pub fn new(alloc: Global) -> Journal
         ensures { result.all ≡ [] }
     {
@@ -44,7 +44,7 @@ impl Journal {
         self.history.len()
     }
 
-    /// Makes room for one more entry.
+    /// Makes room for one more entry. Err: memory.
     pub fn reserve(&mut self) -> Result<(), AllocError>
         ensures all { self.new.all ≡ self.old.all }
         ensures room { OnOk result (self.new.room ≡ true) }
@@ -52,7 +52,7 @@ impl Journal {
         self.history.reserve(1)
     }
 
-    /// Adds an entry. It takes no memory.
+    /// Appends an entry. It takes no memory.
     pub fn add(&mut self, entry: Arc<Entry, Global>)
         requires room { self.old.room ≡ true }
         ensures { self.new.all ≡ self.old.all ++ arc_value entry ∷ [] }
@@ -60,7 +60,7 @@ impl Journal {
         self.history.push_reserved(entry);
     }
 
-    /// Its list.
+    /// The entries, oldest first.
     pub fn into_list(self) -> Vec<Arc<Entry, Global>>
         ensures { entries_of result.items ≡ self.all }
     {

@@ -11,7 +11,8 @@ use std::alloc::Global;
 use std::marker::{Model, PhantomData};
 use std::sync::{Arc, Wait};
 
-/// Takes what goes out, for the thread that sends it: each entry of the history once, and in its order. Contracts see what it has taken.
+/// Takes the outgoing entries, for the thread that sends them: each entry of the history once, in order. Contracts
+/// see what it has taken.
 #[derive(Drop)]
 pub struct Publisher<M: ManagerId> {
     side: comm_outbox::Publisher,
@@ -34,6 +35,7 @@ impl<M: ManagerId> Model for Publisher<M> {
 }
 
 impl<M: ManagerId> Publisher<M> {
+    /// Says by its type which manager the side is of.
     pub(crate) fn new(side: comm_outbox::Publisher) -> Publisher<M>
         requires { side ≡ taker M.queue M.limits side.taken }
         ensures { result ≡ side.taken }
@@ -44,7 +46,8 @@ impl<M: ManagerId> Publisher<M> {
         }
     }
 
-    /// Takes the next entry. It takes no memory, and enters no lock of the changes. None says that none was there, at one moment of the call.
+    /// Takes the next entry, or gives None where none was there at one moment of the call. It takes no memory, and
+    /// enters no lock of the changes.
     pub fn take<R: Wait>(&mut self, rt: &R) -> Option<Arc<Entry, Global>>
         ensures next { MatchOption result (self.new ≡ self.old) (λ e.
             self.new ≡ self.old ++ arc_value e ∷ []) }
@@ -60,6 +63,7 @@ impl<M: ManagerId> Publisher<M> {
         self.side.taken()
     }
 
+    /// The side of the queue, without the type parameter.
     pub(crate) fn into_side(self) -> comm_outbox::Publisher
         ensures { result ≡ taker M.queue M.limits self }
     {

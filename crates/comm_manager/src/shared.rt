@@ -20,23 +20,26 @@ use comm_targets::Target;
 use comm_versions::{OpeningFault, versions};
 use std::alloc::Global;
 use std::sync::{Mutex, Wait};
+use thiserror::Error;
 
-/// The manager, which threads share by reference. `shutdown` or `discard` alone ends it.
+/// The manager, which threads share by reference. It can't be dropped: `shutdown` or `discard` ends it.
 pub struct Manager<M: ManagerId, T: Target> {
     pub(crate) alloc: Global,
     pub(crate) inner: Mutex<Inner<M, T>>,
 }
 
 /// Why a manager isn't shut down.
-#[derive(Clone, Copy, PartialEq, Eq, Debug)]
+#[derive(Clone, Copy, Debug, PartialEq, Eq, Error)]
 pub enum Cause {
     /// There is no memory for the end of the history.
+    #[error("out of memory")]
     Memory,
     /// A client of the manager isn't among those that were handed in.
+    #[error("a client is missing")]
     MissingClients,
 }
 
-/// A shutdown that is refused. All is handed back.
+/// A shutdown that is refused: all that was handed in.
 pub struct ShutdownRefused<M: ManagerId, T: Target> {
     pub cause: Cause,
     pub manager: Manager<M, T>,
@@ -44,7 +47,7 @@ pub struct ShutdownRefused<M: ManagerId, T: Target> {
     pub publisher: Publisher<M>,
 }
 
-// Whether a client is among these.
+// Whether a client of this number is among these.
 fn is_here<M: ManagerId>(clients: &[Client<M>], id: u8) -> bool
     ensures { result ≡ is_here id clients.now }
 {
@@ -64,8 +67,9 @@ fn are_here<M: ManagerId>(clients: &[Client<M>], count: u8) -> bool
 }
 
 impl<M: ManagerId, T: Target> Manager<M, T> {
-    /// A manager that goes by the builder's names; its clients, in the order of their numbers, who have made no change and seen nothing; and its
-    /// publisher, who has taken nothing. It isn't opened where memory ran out, or where the versions had no place for a reader (NoReader).
+    /// Opens the manager that was built: gives it, its clients in the order of their numbers, who have made no change
+    /// and seen nothing, and its publisher, which has taken nothing. Err: memory, or the versions had no place for a
+    /// reader (NoReader).
     pub fn open<R: Wait>(
         rt: &R,
         alloc: Global,
@@ -102,9 +106,10 @@ impl<M: ManagerId, T: Target> Manager<M, T> {
         }
     }
 
-    /// Ends the history, and each target after its comms, and gives the one history, in which an end stands last. What each client has seen
-    /// begins it, it has of each client just the changes that were answered to it, and what the publisher took and what it left are all of it. Where a
-    /// client is missing, or else where there is no memory for the end, all is handed back as it was, and another shutdown may follow.
+    /// Ends the history, and each target after its comms, and gives the one history, in which an end stands last.
+    /// What each client has seen is a prefix of it, it has of each client just the changes that were answered to it,
+    /// and what the publisher took followed by what it left is all of it. Err: a client is missing, or else there is
+    /// no memory for the end; all is handed back as it was, and another shutdown may follow.
     pub fn shutdown<R: Wait>(
         self,
         rt: &R,
@@ -138,8 +143,8 @@ impl<M: ManagerId, T: Target> Manager<M, T> {
         }
     }
 
-    /// Ends each target, after its comms, and gives nothing back. It takes no memory. Clients may outlive it, and read what was published last, or
-    /// nothing.
+    /// Ends each target, after its comms, and gives nothing back. It takes no memory. Clients may outlive it, and
+    /// read what was published last, or nothing.
     pub fn discard<R: Wait>(self, rt: &R) {
         let Manager {
             alloc: _alloc,
@@ -149,7 +154,7 @@ impl<M: ManagerId, T: Target> Manager<M, T> {
     }
 }
 
-// All is handed back.
+// The refusal of a shutdown, with all that was handed in.
 fn hand_back<M: ManagerId, T: Target>(
     alloc: Global,
     cause: Cause,

@@ -8,11 +8,23 @@ use Rattle.comm_outbox.specs.Sides.{Putting, Taking}
 
 abbrev pub taking_code : Coded Taking
 taking_code =
-    code_by (TableId × (ℕ × (ℕ × List Entry))) (coded× table_id_coded (coded× coded_ℕ (coded× coded_ℕ (coded_list entry.the_row.coded))))
-    (λ t. (t.queue, (t.clients, (t.comms, t.taken)))) (λ p. record { queue = p.0; clients = p.1.0; comms = p.1.1.0; taken = p.1.1.1 }) (λ _. refl)
+    code_by (TableId × (ℕ × (ℕ × List Entry)))
+    (coded× table_id_coded (coded× coded_ℕ (coded× coded_ℕ (coded_list entry.the_row.coded))))
+    (λ t. (t.queue, (t.clients, (t.comms, t.taken))))
+    (λ p. record { queue = p.0; clients = p.1.0; comms = p.1.1.0; taken = p.1.1.1 }) (λ _. refl)
 
 abbrev pub putting_code : Coded Putting
 putting_code =
-    code_by (TableId × (ℕ × (ℕ × (ℕ × (ℕ × List Entry))))) (coded× table_id_coded (coded× coded_ℕ (coded× coded_ℕ (coded× coded_ℕ (coded× coded_ℕ (coded_list entry.the_row.coded))))))
+    code_by (TableId × (ℕ × (ℕ × (ℕ × (ℕ × List Entry)))))
+    (coded× table_id_coded
+    (coded× coded_ℕ (coded× coded_ℕ (coded× coded_ℕ (coded× coded_ℕ (coded_list entry.the_row.coded))))))
     (λ o. (o.queue, (o.clients, (o.comms, (o.places, (o.room, o.puts))))))
-    (λ p. record { queue = p.0; clients = p.1.0; comms = p.1.1.0; places = p.1.1.1.0; room = p.1.1.1.1.0; puts = p.1.1.1.1.1 }) (λ _. refl)
+    (λ p. record {
+      queue = p.0;
+      clients = p.1.0;
+      comms = p.1.1.0;
+      places = p.1.1.1.0;
+      room = p.1.1.1.1.0;
+      puts = p.1.1.1.1.1;
+    })
+    (λ _. refl)

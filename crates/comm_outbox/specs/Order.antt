@@ -1,5 +1,5 @@
--- The rule of the queue. At most one pass may put, and it has the list of what was put; at most one may take, and it has the list of what was
--- taken.
+-- The rule of the queue. At most one pass may put, and it has the list of what was put; at most one may take, and it
+-- has the list of what was taken.
 use Rattle.std.specs.Prelude.{ℕ, ◌≡◌, ◌≤◌, ◌^◌, Bool, true, List, [], ◌∷◌, ◌++◌, length}
 use mathlib.Core.List.{IsPrefix}
 use mathlib.Core.Option.{some}
@@ -25,7 +25,8 @@ Item = Arc Entry Global
 -- what a pass knows is so, where it may put or take
 abbrev pub Fits : ℕ → ℕ → Bounds → List Entry → List Entry → ℕ → PassView → Type 0
 Fits writer reader by sent got port v =
-    (v.puts ≡ true → (port ≡ writer) × (v.bounds ≡ by) × (v.sent ≡ sent)) × (v.takes ≡ true → (port ≡ reader) × (v.bounds ≡ by) × (v.got ≡ got))
+    (v.puts ≡ true → (port ≡ writer) × (v.bounds ≡ by) × (v.sent ≡ sent))
+    × (v.takes ≡ true → (port ≡ reader) × (v.bounds ≡ by) × (v.got ≡ got))
 
 -- what was put is legal, and is what was taken and then what the queue holds
 pub record KeepsOrder (items : List Item) (views : List PassView) : Type 0 where
@@ -52,11 +53,15 @@ pub record BeginsPuts (by : Bounds) (taken : List Entry) : Type 0 where
 
 -- the entry was taken
 abbrev pub HasTaken : PassView → Item → PassView → Type 0
-HasTaken v x w = (w ≡ pass_view v.puts v.takes v.bounds v.sent (v.got ++ arc_value x ∷ [])) × BeginsPuts v.bounds (v.got ++ arc_value x ∷ [])
+HasTaken v x w =
+    (w ≡ pass_view v.puts v.takes v.bounds v.sent (v.got ++ arc_value x ∷ []))
+    × BeginsPuts v.bounds (v.got ++ arc_value x ∷ [])
 
 -- the entry was taken by a pass that knows what was put
 abbrev pub HasDrained : PassView → Item → PassView → Type 0
-HasDrained v x w = (w ≡ pass_view v.puts v.takes v.bounds v.sent (v.got ++ arc_value x ∷ [])) × IsPrefix (v.got ++ arc_value x ∷ []) v.sent
+HasDrained v x w =
+    (w ≡ pass_view v.puts v.takes v.bounds v.sent (v.got ++ arc_value x ∷ []))
+    × IsPrefix (v.got ++ arc_value x ∷ []) v.sent
 
 -- what the queue holds was put last
 abbrev pub Leaves : List Entry → List Item → Type 0

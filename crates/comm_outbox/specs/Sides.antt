@@ -8,8 +8,8 @@ use Rattle.comm_core.specs.declared.entry.Entry.{Entry}
 abbrev pub entries_of : {Z : Type 0} → List (Arc Entry Z) → List Entry
 entries_of entries = map arc_value entries
 
--- The side that puts: which queue it is of, the limits by which what is put is legal, how many places there are, how many of them were found
--- free and not filled since, and what was put.
+-- The side that puts: which queue it is of, the limits by which what is put is legal, how many places there are, how
+-- many of them were found free and not filled since, and what was put.
 pub record Putting : Type 0 where
   pub queue : TableId
   pub clients : ℕ
@@ -27,7 +27,8 @@ pub record Taking : Type 0 where
 
 -- nothing was put, so all places are free
 abbrev pub unfilled : TableId → ℕ → ℕ → ℕ → Putting
-unfilled queue clients comms places = record { queue = queue; clients = clients; comms = comms; places = places; room = places; puts = [] }
+unfilled queue clients comms places =
+    record { queue = queue; clients = clients; comms = comms; places = places; room = places; puts = [] }
 
 -- nothing was taken
 abbrev pub untouched : TableId → ℕ → ℕ → Taking

@@ -17,7 +17,8 @@ pub struct Bounds {
     pub comms: usize,
 }
 
-/// What a pass may do (put, take), by which limits entries are legal, what it has put, and what it has taken. No value of it is made.
+/// What the rule knows of a pass: whether it may put and take, by which limits entries are legal, what it has put,
+/// and what it has taken. No value of it is made.
 pub struct PassView {
     pub puts: bool,
     pub takes: bool,
@@ -26,7 +27,7 @@ pub struct PassView {
     pub got: LinkedList<Entry>,
 }
 
-/// What was put is legal. It is what was taken, and then what the queue holds.
+/// The rule of the queue: what was put is legal, and is what was taken followed by what the queue holds.
 pub struct QueueRule;
 
 impl Protocol<Arc<Entry, Global>, PassView> for QueueRule {
@@ -38,11 +39,13 @@ impl Protocol<Arc<Entry, Global>, PassView> for QueueRule {
     ghost first = { pass_view true true (bounds 0 0) [] [] };
 }
 
+/// The bounded queue of `crossbeam_queue`, under the rule.
 pub type EntryQueue = RuledArrayQueue<Arc<Entry, Global>, PassView, QueueRule>;
 
+/// What a side has to use the queue.
 pub(crate) type QueuePass = Pass<Arc<Entry, Global>, PassView>;
 
-/// By which limits entries are legal. Each call of `outbox` picks them.
+/// By which limits entries are legal. Each call of `outbox` picks them, in its proof.
 pub(crate) trait Limited {
     ghost use Rattle.comm_outbox.specs.declared.entry_queue.Bounds.{Bounds};
 
@@ -55,7 +58,7 @@ impl Limited for Brand {
     ghost bounds = { by 0 0 };
 }
 
-// One pass may put and the other take. From now on the limits are known.
+/// The step that parts one pass into two: one may put, and the other take. From now on the limits are known.
 pub struct Roles<L> {
     limit: PhantomData<L>,
 }
@@ -69,7 +72,7 @@ impl<L: Limited> Split<PassView> for Roles<L> {
     ghost right = { λ v. pass_view false true L.bounds [] v.got };
 }
 
-// Both may be done again by one.
+/// The step that makes both passes one again, which may put and take.
 pub struct Rejoin;
 
 impl Join<PassView> for Rejoin {
@@ -81,7 +84,7 @@ impl Join<PassView> for Rejoin {
     ghost spent = { pass_view false false (bounds 0 0) [] [] };
 }
 
-/// A step that puts an entry.
+/// The step that puts an entry.
 pub struct PutStep;
 
 impl Outcome<Arc<Entry, Global>, PassView> for PutStep {
@@ -96,7 +99,7 @@ impl Lesson<Arc<Entry, Global>, PassView> for PutStep {
     ghost fact = { λ v items. ⊤ };
 }
 
-/// A step that takes an entry.
+/// The step that takes an entry.
 pub struct TakeStep;
 
 impl Outcome<Arc<Entry, Global>, PassView> for TakeStep {
@@ -111,7 +114,7 @@ impl Lesson<Arc<Entry, Global>, PassView> for TakeStep {
     ghost fact = { λ v items. ⊤ };
 }
 
-/// How many wait is how many were put and not taken.
+/// What a count of the waiting entries tells: they are the last that were put.
 pub struct CountWaiting;
 
 impl Lesson<Arc<Entry, Global>, PassView> for CountWaiting {
@@ -120,7 +123,7 @@ impl Lesson<Arc<Entry, Global>, PassView> for CountWaiting {
     ghost fact = { λ v items. Leaves v.sent items };
 }
 
-/// A step of the pass that knows what was put and what was taken: the queue holds the rest.
+/// The step of the rejoined pass, which knows what was put and what was taken: the queue holds the rest.
 pub struct DrainStep;
 
 impl Outcome<Arc<Entry, Global>, PassView> for DrainStep {
@@ -135,7 +138,7 @@ impl Lesson<Arc<Entry, Global>, PassView> for DrainStep {
     ghost fact = { λ v items. Divides v items };
 }
 
-// The pass of the side that takes. The limits are fixed.
+/// Parts the pass in two, and gives the one of the side that takes. The limits are fixed from now on.
 pub(crate) fn split<L: Limited>(
     queue: &EntryQueue,
     pass: &mut QueuePass,

@@ -9,7 +9,8 @@ use std::alloc::{AllocError, Global};
 use std::marker::Brand;
 use std::sync::Arc;
 
-/// A queue with so many places, and its two sides. An error says that memory ran out; nothing after this call takes any.
+/// A bounded queue with so many places, and its two sides. `clients` and `comms` are the limits by which its entries
+/// are legal. Err: memory; nothing after this call takes any.
 pub fn outbox(
     alloc: Global,
     places: usize,

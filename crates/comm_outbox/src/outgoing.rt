@@ -15,11 +15,11 @@ use std::marker::Model;
 use std::sync::{Arc, Wait};
 use std::thread;
 
-// So many entries a queue serves, with as many more as it has places.
+// How many entries a queue serves, with as many more as it has places: its words don't wrap.
 const MAX_PUTS: u64 = (1 << 62) - 65_537;
 
-/// The side that puts entries. Contracts see which queue it is of, the limits by which entries are legal, how many places there are, how
-/// many of them were found free and not filled since (the room), and what was put.
+/// The side that puts entries. Contracts see which queue it is of, the limits by which entries are legal, how many
+/// places there are, how many of them were found free and not filled since (the room), and what was put.
 #[derive(Drop)]
 pub struct Outbox {
     pub(crate) queue: Arc<EntryQueue, Global>,
@@ -68,9 +68,10 @@ fn put_on<R: Wait>(rt: &R, queue: &EntryQueue, pass: &mut QueuePass, entry: Arc<
     ensures put { HasPut (view pass.old) entry (view pass.new) }
 {
     let mut entry = entry;
-    // It ends at its first turn: `push_as` gives the entry back only where the queue was full at one moment, and nothing but a put fills a
-    // place that was found free; `put` asks for one. The queue's rule has no word for what another call found, so this isn't proved; if it
-    // weren't so, the loop would wait for the publisher to take, and no entry would be lost.
+    // It ends at its first turn: `push_as` gives the entry back only where the queue was full at one moment, and
+    // nothing but a put fills a place that was found free; `put` asks for one. The queue's rule has no word for what
+    // another call found, so this isn't proved; if it weren't so, the loop would wait for the publisher to take, and
+    // no entry would be lost.
     for _ in rt.forever() {
         match queue.push_as::<PutStep, R>(rt, pass, entry) {
             Ok(()) => return,
@@ -81,7 +82,7 @@ fn put_on<R: Wait>(rt: &R, queue: &EntryQueue, pass: &mut QueuePass, entry: Arc<
     unreachable!()
 }
 
-// Takes so many entries as the queue holds.
+// Takes as many entries as the queue holds.
 fn drain<R: Wait>(
     rt: &R,
     queue: &EntryQueue,
@@ -110,8 +111,8 @@ fn drain<R: Wait>(
 }
 
 impl Outbox {
-    /// How many entries wait to be taken, at one moment of the call. So the other places are free, and stay so until they are filled here:
-    /// that is the room. After 2^62 - 65,537 puts it says that all places are taken.
+    /// How many entries wait to be taken, at one moment of the call. The other places are free, and stay so until
+    /// this side fills them: that is the room. After 2^62 - 65,537 puts it says that all places are taken.
     pub fn waiting<R: Wait>(&mut self, rt: &R) -> u64
         ensures room { self.new
             ≡ record self.old { room = max self.old.room (self.old.places - result) } }
@@ -143,7 +144,7 @@ impl Outbox {
         self.room -= 1;
     }
 
-    /// Gives up both sides. What was taken begins what was put.
+    /// Gives up both sides. What was taken is a prefix of what was put.
     pub fn give_up(self, publisher: Publisher)
         requires { publisher.queue ≡ self.queue }
         ensures { IsPrefix publisher.taken self.puts }
@@ -152,7 +153,8 @@ impl Outbox {
         queue.learn_as::<DrainStep>(&mut pass);
     }
 
-    /// Gives up both sides, for what was put and not taken. It takes no memory: it is handed a list with room for it.
+    /// Gives up both sides, for the entries that were put and not taken, in order. It takes no memory: the caller
+    /// hands in a list with room for them.
     pub fn take_rest<R: Wait>(
         self,
         rt: &R,
@@ -170,7 +172,7 @@ impl Outbox {
         drain(rt, &queue, &mut pass, left, into)
     }
 
-    // The queue, with the one pass that may do all.
+    // The queue, with one pass that may put and take.
     fn rejoin(self, publisher: Publisher) -> (Arc<EntryQueue, Global>, QueuePass)
         requires { publisher.queue ≡ self.queue }
         ensures queue { IsPassOf (arc_value result.0) result.1 }

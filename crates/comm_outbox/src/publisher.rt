@@ -10,8 +10,8 @@ use std::alloc::Global;
 use std::marker::Model;
 use std::sync::{Arc, Wait};
 
-/// The side that takes entries, in the order in which they were put. Contracts see which queue it is of, the limits by which entries are
-/// legal, and what was taken.
+/// The side that takes entries, in the order in which they were put. Contracts see which queue it is of, the limits
+/// by which entries are legal, and what was taken.
 #[derive(Drop)]
 pub struct Publisher {
     pub(crate) queue: Arc<EntryQueue, Global>,
@@ -46,8 +46,8 @@ impl Model for Publisher {
 }
 
 impl Publisher {
-    /// Takes the next entry. It takes no memory, and enters no lock. None says that none was there at one moment of the call, which no
-    /// clause says.
+    /// Takes the next entry, or gives None where none was there at one moment of the call (no clause says when). It
+    /// takes no memory, and enters no lock.
     pub fn take<R: Wait>(&mut self, rt: &R) -> Option<Arc<Entry, Global>>
         ensures next { MatchOption result (self.new ≡ self.old) (λ e.
             self.new ≡ record self.old { taken = self.old.taken ++ arc_value e ∷ [] }) }

@@ -1,4 +1,4 @@
--- A piece among others, and the id that is sought in it.
+-- A chunk among others, and the id that is sought in it.
 use Rattle.std.proofs.Common.{◌≡◌, ℕ, ◌<◌, ◌≤◌, ◌+◌, true, List, [], ◌∷◌, ◌++◌, length, get_or, take, drop, Global, Vec, Less, refl, sym, ap, ◌∙◌, arith, subst, add-one}
 use Rattle.std.specs.Prelude.{◌==◌, vec_len, Result, Ok, Err, IfOk}
 use Rattle.std.proofs.lemmas.Bool.Decides.{nat_tests}
@@ -16,7 +16,7 @@ first_of : (xs : Opens) (x : Name × Comm) → 0 < length xs → x ≡ get_or xs
 first_of [] x h is = absurd (omega arith)
 first_of (y ∷ ys) x h is = ap (λ (z : Name × Comm). z ∷ ys) (sym is)
 
--- the comms from piece i on, the first of which is x
+-- the comms from chunk i on, the first of which is x
 from_first : (ps : List CommChunk) (i : ℕ) (p : CommChunk) (v : Vec (Name × Comm) Global) (xs : Opens) (x : Name × Comm) → i < length ps → p ≡ get_or ps i p → v ≡ arc_value p → xs ≡ v.items → 0 < length xs → x ≡ get_or xs 0 x
     → comms_in (drop i ps) ≡ x ∷ (drop 1 xs ++ comms_in (drop (i + 1) ps))
 from_first ps i p v xs x h is deref items some here = opened ps i p v xs h is deref items ∙ ap (λ l. l ++ comms_in (drop (i + 1) ps)) (first_of xs x some here)
@@ -46,13 +46,13 @@ pub nothing : AllChunksFilled [] × IsInOrder (comms_in [])
 unfolding IsStrictlySortedBy
 nothing = (tt, tt)
 
--- ---- a piece that is changed
+-- ---- a chunk that is changed
 
 pub if_ok : {T E : Type 0} (P Q : T → Type 0) (r : Result T E) → ((x : T) → P x → Q x) → IfOk r P → IfOk r Q
 if_ok P Q (Ok x) f h = f x h
 if_ok P Q (Err e) f h = tt
 
--- the id stands in this piece, or would
+-- the id stands in this chunk, or would
 pub record Stands (ps : List CommChunk) (i : ℕ) (xs : Opens) (k : Name) : Type 0 where
   pub around_it : comms_in ps ≡ comms_in (take i ps) ++ (xs ++ comms_in (drop (i + 1) ps))
   pub below : AllIdsBelow k (comms_in (take i ps))

@@ -1,4 +1,5 @@
--- The writer of versions and their readers may cross threads. (A struct that stands in a struct goes by its fact for fields.)
+-- The writer of versions and their readers may cross threads. (A struct that stands in a struct goes by its fact for
+-- fields.)
 use denote.RattleType.{RattleType}
 use denote.Struct.Declared.{shape}
 use denote.Param.Send.{IsSend, IsSync, recorded_send, sendable, struct_send, view_send}

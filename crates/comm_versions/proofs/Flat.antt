@@ -1,4 +1,4 @@
--- Comms in pieces.
+-- Comms in chunks.
 use Rattle.std.proofs.Common.{◌≡◌, ℕ, zero, suc, ◌<◌, ◌≤◌, ◌+◌, List, [], ◌∷◌, ◌++◌, length, get_or, take, drop, set, Global, Vec, refl, sym, ap, ◌∙◌, arith, append_assoc, append-nil, length-append, length-drop, length-take-le, take-append-drop, subst, add-one}
 use Rattle.std.proofs.Math.Seq.{drop-cons}
 use Rattle.std.proofs.lemmas.List.{take_more, take-set, drop-set}
@@ -19,17 +19,17 @@ flat_append (p ∷ ps) qs = ap (λ l. (arc_value p).items ++ l) (flat_append ps 
 pub flat_cut : (ps : List CommChunk) (i : ℕ) → comms_in ps ≡ comms_in (take i ps) ++ comms_in (drop i ps)
 flat_cut ps i = ap comms_in (sym (take-append-drop i ps)) ∙ flat_append (take i ps) (drop i ps)
 
--- one more piece, of these comms
+-- one more chunk, of these comms
 pub flat_push : (ps new : List CommChunk) (p : CommChunk) (xs : Opens) → new ≡ ps ++ p ∷ [] → (arc_value p).items ≡ xs → comms_in new ≡ comms_in ps ++ xs
 flat_push ps new p xs pushed is = ap comms_in pushed ∙ flat_append ps (p ∷ []) ∙ ap (λ l. comms_in ps ++ l) (append-nil (arc_value p).items ∙ is)
 
--- ---- at the loops over pieces, and over the comms of one
+-- ---- at the loops over chunks, and over the comms of one
 
 pub opened : (ps : List CommChunk) (i : ℕ) (p : CommChunk) (v : Vec (Name × Comm) Global) (xs : Opens) → i < length ps → p ≡ get_or ps i p → v ≡ arc_value p → xs ≡ v.items → comms_in (drop i ps) ≡ xs ++ comms_in (drop (i + 1) ps)
 opened ps i p v xs h is deref items =
     ap comms_in (first_is ps i p h is) ∙ ap (λ l. l ++ comms_in (drop (i + 1) ps)) (sym (items ∙ ap (λ (w : Vec (Name × Comm) Global). w.items) deref))
 
--- ---- pieces that have comms
+-- ---- chunks that have comms
 
 pub filled_append : (ps qs : List CommChunk) → AllChunksFilled ps → AllChunksFilled qs → AllChunksFilled (ps ++ qs)
 filled_append [] qs f g = g
@@ -73,7 +73,7 @@ filled_items ps i p v xs h is deref items f =
     let same : xs ≡ (arc_value (get_or ps i p)).items = items ∙ ap (λ (w : Vec (Name × Comm) Global). w.items) deref ∙ ap (λ (q : CommChunk). (arc_value q).items) is in
     omega (arith, filled_at ps i p h f, ap length same)
 
--- ---- a piece that was cut in two
+-- ---- a chunk that was cut in two
 
 take_put : (ps : List CommChunk) (i : ℕ) (q : CommChunk) → i ≤ length ps → take i (take i ps ++ q ∷ drop i ps) ≡ take i ps
 take_put [] zero q h = refl
@@ -87,7 +87,7 @@ drop_put [] (suc i) q h = absurd (omega arith)
 drop_put (p ∷ ps) zero q h = refl
 drop_put (p ∷ ps) (suc i) q h = drop_put ps i q (omega arith)
 
--- the comms of the pieces behind the place, once these are let in
+-- the comms of the chunks behind the place, once these are let in
 pub one_behind : (ps new : List CommChunk) (i : ℕ) (p : CommChunk) (xs : Opens) → i ≤ length ps → new ≡ take i ps ++ p ∷ drop i ps → (arc_value p).items ≡ xs → comms_in (drop i new) ≡ xs ++ comms_in (drop i ps)
 one_behind ps new i p xs h upsert is = ap (λ l. comms_in (drop i l)) upsert ∙ ap comms_in (drop_put ps i p h) ∙ ap (λ l. l ++ comms_in (drop i ps)) is
 
@@ -109,7 +109,7 @@ pub filled_two : (ps mid new : List CommChunk) (i n : ℕ) (q p : CommChunk) (xs
 filled_two ps mid new i n q p xs first second tail head some more f =
     filled_let_in mid new i p (take n xs) second head (omega (arith, length-take-le n xs (omega arith))) (filled_let_in ps mid i q (drop n xs) first tail (omega (arith, length-drop n xs)) f)
 
--- ---- a piece that is taken out
+-- ---- a chunk that is taken out
 
 pub take_rest : (ps : List CommChunk) (i : ℕ) → i < length ps → take i (take i ps ++ drop (suc i) ps) ≡ take i ps
 take_rest [] i h = absurd (omega arith)
@@ -129,9 +129,9 @@ shared_more ps found new i p q h is same pushed so =
     flat_push found new q (arc_value p).items pushed (ap (λ (w : Vec (Name × Comm) Global). w.items) same) ∙ ap (λ l. l ++ (arc_value p).items) so
     ∙ sym (flat_push (take i ps) (take (i + 1) ps) p (arc_value p).items (take_more ps i p h ∙ ap (λ (r : CommChunk). take i ps ++ r ∷ []) (sym is)) refl)
 
--- ---- a piece that is replaced
+-- ---- a chunk that is replaced
 
--- the pieces before the place and behind it, once the one there is out
+-- the chunks before the place and behind it, once the one there is out
 rest_flat : (ps rest : List CommChunk) (i : ℕ) (new xs : Opens) → i < length ps → rest ≡ take i ps ++ drop (suc i) ps → new ≡ comms_in (take i rest) ++ (xs ++ comms_in (drop i rest))
     → new ≡ comms_in (take i ps) ++ (xs ++ comms_in (drop (i + 1) ps))
 rest_flat ps rest i new xs h out is =
@@ -158,7 +158,7 @@ two_set ps rest mid new i n q p xs h out first second tail head =
     rest_flat ps rest i (comms_in new) xs h out
     (let_in_flat rest new i xs (ap (take i) second ∙ take_put mid i p longer ∙ (ap (take i) first ∙ take_put rest i q within)) (two_behind rest mid new i n q p xs within first second tail head))
 
--- ---- two pieces that become one
+-- ---- two chunks that become one
 
 drop_behind : (ps : List CommChunk) (i : ℕ) → i < length ps → drop (suc i) (take i ps ++ drop (suc i) ps) ≡ drop (suc (suc i)) ps
 drop_behind [] i h = absurd (omega arith)
@@ -179,7 +179,7 @@ both_flat slice ps rest i p q v w xs ys both new same h is deref items is' deref
     made ∙ ap (λ l. comms_in l ++ (both ++ comms_in (drop (i + 1) rest))) before ∙ ap (λ l. comms_in (take i ps) ++ (l ++ comms_in (drop (i + 1) rest))) joined
     ∙ ap (λ l. comms_in (take i ps) ++ ((xs ++ ys) ++ comms_in l)) after ∙ sym (subst (λ l. comms_in l ≡ comms_in (take i l) ++ ((xs ++ ys) ++ comms_in (drop (i + 1 + 1) l))) same whole)
 
--- ---- a piece that is changed in its place
+-- ---- a chunk that is changed in its place
 
 pub set_flat : (ps : List CommChunk) (i : ℕ) (q : CommChunk) → i < length ps → comms_in (set ps i q) ≡ comms_in (take i ps) ++ ((arc_value q).items ++ comms_in (drop (i + 1) ps))
 set_flat ps i q h = flat_cut (set ps i q) i ∙ ap (λ l. comms_in l ++ comms_in (drop i (set ps i q))) (take-set ps i q) ∙ ap (λ l. comms_in (take i ps) ++ comms_in l) (drop-set ps i q h)

@@ -132,7 +132,7 @@ pub absent_of : (k : Name) (es : Opens) → IsBelow k es → IsBelowFirst k es
 absent_of k [] b = tt
 absent_of k (e ∷ es) b = b.0
 
--- ---- in one piece
+-- ---- in one chunk
 
 pub put_found : (es : Opens) (i : ℕ) (c : Name × Comm) → i < length es → AllIdsBelow c.0 (take i es) → StartsWithId c.0 (drop i es) → upsert es c ≡ take i es ++ c ∷ drop (suc i) es
 put_found [] i c h b f = absurd (omega arith)
@@ -177,7 +177,7 @@ at_absent [] i k o b a = refl
 at_absent (e ∷ es) zero k o b a = at_below (e ∷ es) k (absent_below k (e ∷ es) o a)
 at_absent (e ∷ es) (suc i) k o b a = ap (λ t. cond t (Some e.1) (at es k)) (differs k e.0 Greater b.0 refl) ∙ at_absent es i k o.1 b.1 a
 
--- ---- a piece among others
+-- ---- a chunk among others
 
 put_past : (xs ys : Opens) (c : Name × Comm) → AllIdsBelow c.0 xs → upsert (xs ++ ys) c ≡ xs ++ upsert ys c
 put_past [] ys c b = refl

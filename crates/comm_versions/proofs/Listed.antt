@@ -1,4 +1,4 @@
--- What is listed of comms in pieces.
+-- What is listed of comms in chunks.
 use Rattle.std.proofs.Common.{◌≡◌, ℕ, ◌<◌, ◌+◌, Bool, true, false, cond, List, [], ◌∷◌, ◌++◌, length, get_or, take, map, filter, Global, Vec, Less, sym, ap, ◌∙◌, append_assoc, subst}
 use Rattle.std.specs.Arc.{arc_value}
 use Rattle.std.specs.List.{AllByRecursion}
@@ -22,7 +22,7 @@ module _ (p : Name × Comm → Bool) where
   listed-append : (xs ys : Opens) → listed (xs ++ ys) ≡ listed xs ++ listed ys
   listed-append xs ys = ap (map info_of) (filter-append p xs ys) ∙ map-append info_of (filter p xs) (filter p ys)
 
-  -- the comms of one more piece
+  -- the comms of one more chunk
   pub chunk_listed : (ps : List CommChunk) (i : ℕ) (q : CommChunk) (v : Vec (Name × Comm) Global) (xs : Opens) (start all new : List Info) → i < length ps → q ≡ get_or ps i q → v ≡ arc_value q → xs ≡ v.items
       → all ≡ start ++ listed (comms_in (take i ps)) → new ≡ all ++ listed xs → new ≡ start ++ listed (comms_in (take (i + 1) ps))
   chunk_listed ps i q v xs start all new h is deref items before added =

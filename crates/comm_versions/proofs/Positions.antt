@@ -1,4 +1,4 @@
--- Where an id stands among comms in pieces.
+-- Where an id stands among comms in chunks.
 use Rattle.std.proofs.Common.{◌≡◌, ℕ, zero, suc, ◌<◌, ◌≤◌, ◌+◌, ◌-◌, true, List, [], ◌∷◌, ◌++◌, length, get_or, take, drop, set, Global, Vec, Ordering, Less, Equal, Greater, refl, sym, ap, ◌∙◌, arith, subst, append_assoc, take-append-drop, length-append, length-drop, length-take-le}
 use Rattle.std.proofs.lemmas.List.{take-set, drop-set}
 use Rattle.std.specs.Prelude.{Result, Ok, Err, IfOk, IfErr}
@@ -13,7 +13,7 @@ use Rattle.comm_versions.proofs.Flat.{first_is, flat_cut, set_flat}
 use Rattle.comm_versions.proofs.Ids.{above_back, absent_at, absent_of, below_at, below_found, below_front, below_part, below_right, found_at, ordered_chunk}
 use Rattle.comm_versions.proofs.Around.{Stands, absent_put, around, found_out, found_put, out_set, put_set}
 
--- ---- what a spot tells
+-- ---- what a position tells
 
 pub position_within : (ps : List CommChunk) (k : Name) (s : Position) → IsPosition ps k s → s.chunk < length ps
 position_within ps k s h = omega (arith, ap length h.here, length-drop s.chunk ps)
@@ -21,7 +21,7 @@ position_within ps k s h = omega (arith, ap length h.here, length-drop s.chunk p
 pub position_stands : (ps : List CommChunk) (k : Name) (s : Position) (h : IsPosition ps k s) → Stands ps s.chunk (arc_value h.one).items k
 position_stands ps k s h = record { around_it = flat_cut ps s.chunk ∙ ap (λ l. comms_in (take s.chunk ps) ++ comms_in l) h.here; below = h.below; above = h.above }
 
--- the piece that is looked up there
+-- the chunk that is looked up there
 pub position_one : (ps : List CommChunk) (k : Name) (s : Position) (h : IsPosition ps k s) (p : CommChunk) → p ≡ get_or ps s.chunk p → p ≡ h.one
 position_one ps k s h p is = ap (λ l. get_or l 0 p) (sym (first_is ps s.chunk p (position_within ps k s h) is) ∙ h.here)
 
@@ -33,7 +33,7 @@ pub searched_there : (k : Name) (es : Opens) (at : Result ℕ ℕ) → IfOk at (
 searched_there k es (Ok i) f a = f
 searched_there k es (Err i) f a = a
 
--- ---- a piece that is changed there
+-- ---- a chunk that is changed there
 
 set_cut : (es : Opens) (i : ℕ) (c : Name × Comm) → i < length es → set es i c ≡ take i es ++ c ∷ drop (i + 1) es
 set_cut es i c h = sym (take-append-drop i (set es i c)) ∙ ap (λ l. l ++ drop i (set es i c)) (take-set es i c) ∙ ap (λ l. take i es ++ l) (drop-set es i c h)
@@ -50,7 +50,7 @@ insert_there es new at i c h is made = absent_put es i c.0 c new refl (subst (St
 pub replaced_there : (es new : Opens) (at : Result ℕ ℕ) (i : ℕ) (c : Name × Comm) → StandsAt c.0 es at → at ≡ Ok i → new ≡ take i es ++ c ∷ drop (i + 1) es → new ≡ upsert es c
 replaced_there es new at i c h is made = found_put es i c.0 c new refl (subst (StandsAt c.0 es) is h) made
 
--- the pieces, one of which was changed in its place
+-- the chunks, one of which was changed in its place
 pub put_position : (ps : List CommChunk) (c : Name × Comm) (s : Position) (h : IsPosition ps c.0 s) (p q : CommChunk) → p ≡ get_or ps s.chunk p → (arc_value q).items ≡ upsert (arc_value p).items c → comms_in (set ps s.chunk q) ≡ upsert (comms_in ps) c
 put_position ps c s h p q is changed =
     put_set ps s.chunk (arc_value h.one).items (arc_value q).items (comms_in (set ps s.chunk q)) c (position_stands ps c.0 s h)
@@ -131,7 +131,7 @@ module _ (k : Name) (ps : List CommChunk) (n : ℕ) (p : CommChunk) (v : Vec (Na
         there = subst (λ es. StandsAt k es (Ok i)) these (h, below_found k xs i x ordered h there, found_at k xs i x h there);
       }
 
-  -- behind one, and before another of this piece or of those behind it
+  -- behind one, and before another of this chunk or of those behind it
   pub gap_position : (i : ℕ) (x : Name × Comm) → 0 < i → i ≤ length xs → x ≡ get_or xs (i - 1) x → is_gt (id_cmp k x.0) ≡ true → IsBelowFirst k (drop i xs) → IsBelowFirst k (comms_in (drop (n + 1) ps)) → IsPosition ps k (record { chunk = n; at = Err i })
   gap_position i x some h here above absent behind =
       let more : id_cmp k x.0 ≡ Greater = is_greater (id_cmp k x.0) above in

@@ -64,7 +64,7 @@ put_alike (e ∷ es) c o h = put_first e es c o h (put_alike es c) (id_cmp c.0 e
 -- ---- since when the same comms are listed
 
 module _ (limit listing_since : ℕ) (front next : List Entry) (e : Entry) (is : next ≡ front ++ e ∷ []) where
-  -- a beginning is one of those before the last entry, or the whole
+  -- a prefix is one of those before the last entry, or the whole
   settled_by : ListsAlikeSince limit listing_since front → ListAlike (rows (replay limit front)) (rows (replay limit next)) → (before : List Entry) → IsPrefix before next → listing_since < length before → (b : Bool)
       → leb (length before) (length front) ≡ b → ListAlike (rows (replay limit before)) (rows (replay limit next))
   settled_by settled same before p more true le =

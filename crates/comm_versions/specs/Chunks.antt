@@ -1,4 +1,4 @@
--- The open comms in pieces; for private clauses.
+-- The open comms in chunks; for private clauses.
 use Rattle.std.specs.Prelude.{ℕ, ◌+◌, ◌<◌, ◌≤◌, ◌≡◌, List, [], ◌∷◌, ◌++◌, length, take, drop, Vec, Result, Ok, Err}
 use Rattle.std.specs.Arc.{arc_value}
 use Rattle.std.specs.Ordering.{nat_cmp}
@@ -27,18 +27,18 @@ IsInOrder es = IsStrictlySortedBy id_cmp (keys_of es)
 abbrev pub upsert : Opens → Name × Comm → Opens
 upsert es c = insert_entry (slice_cmp nat_cmp) es c.0 c.1
 
--- ---- pieces
+-- ---- chunks
 
 -- some comms that follow one another
 abbrev pub CommChunk : Type 0
 CommChunk = Arc (Vec (Name × Comm) Global) Global
 
--- the comms of the pieces, one piece after the other
+-- the comms of the chunks, one chunk after the other
 abbrev pub comms_in : List CommChunk → Opens
 comms_in [] = []
 comms_in (p ∷ ps) = (arc_value p).items ++ comms_in ps
 
--- each piece has a comm
+-- each chunk has a comm
 abbrev pub AllChunksFilled : List CommChunk → Type 0
 AllChunksFilled [] = Unit {0}
 AllChunksFilled (p ∷ ps) = (0 < length (arc_value p).items) × AllChunksFilled ps
@@ -65,7 +65,7 @@ abbrev pub StandsAt : Name → Opens → Result ℕ ℕ → Type 0
 StandsAt k es (Ok i) = (i < length es) × AllIdsBelow k (take i es) × StartsWithId k (drop i es)
 StandsAt k es (Err i) = (i ≤ length es) × AllIdsBelow k (take i es) × IsBelowFirst k (drop i es)
 
--- in this piece the id stands, or would
+-- in this chunk the id stands, or would
 pub record IsPosition (ps : List CommChunk) (k : Name) (s : Position) : Type 0 where
   pub one : CommChunk
   pub here : drop s.chunk ps ≡ one ∷ drop (s.chunk + 1) ps

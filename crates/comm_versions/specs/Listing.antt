@@ -17,13 +17,14 @@ listed_infos es asked = map info_of (filter (λ e. passes asked e.1.target) es)
 abbrev pub ListAlike : Opens → Opens → Type 0
 ListAlike es fs = (asked : Option Name) → listed_infos es asked ≡ listed_infos fs asked
 
--- all beginnings of more than so many entries list the same
+-- all prefixes of more than so many entries list the same
 abbrev pub ListsAlikeSince : ℕ → ℕ → List Entry → Type 0
 ListsAlikeSince limit listing_since front =
-    (before : List Entry) → IsPrefix before front → listing_since < length before → ListAlike (rows (replay limit before)) (rows (replay limit front))
+    (before : List Entry) → IsPrefix before front → listing_since < length before
+    → ListAlike (rows (replay limit before)) (rows (replay limit front))
 
--- this was listed after a beginning of so many entries
-pub record WasListed (limit : ℕ) (count : ℕ) (asked : Option Name) (comms : List Info) (front : List Entry) : Type 0 where
+-- this was listed after a prefix of so many entries
+pub record WasListed (limit count : ℕ) (asked : Option Name) (comms : List Info) (front : List Entry) : Type 0 where
   pub before : List Entry
   pub begins : IsPrefix before front
   pub counted : count ≡ length before

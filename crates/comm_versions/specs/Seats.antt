@@ -1,4 +1,4 @@
--- The rule over the versions: each seat has seen a beginning of the front that is shown.
+-- The rule over the versions: each seat has seen a prefix of the front that is shown.
 use Rattle.std.specs.Prelude.{ℕ, ◌≡◌, Bool, true, false, List, []}
 use mathlib.Core.List.{IsPrefix}
 use mathlib.Core.Option.{some}
@@ -12,7 +12,7 @@ SeatView = Bool × Known
 abbrev pub stranger : SeatView
 stranger = (false, known (origin (record { number = 0; log_name = 0; cells_name = 0 }) 0 0) [])
 
--- a seat that knows something has seen a beginning of this
+-- a seat that knows something has seen a prefix of this
 abbrev pub Knows : Known → SeatView → Type 0
 Knows x v = v.0 ≡ true → (v.1.origin ≡ x.origin) × IsPrefix v.1.entries x.entries
 

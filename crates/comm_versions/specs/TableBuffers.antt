@@ -1,4 +1,4 @@
--- Rows and those that followed them; for private clauses.
+-- Tables and those that followed them; for private clauses.
 use Rattle.std.specs.Prelude.{◌≡◌, Option, Some, None}
 use Rattle.std.specs.Arc.{arc_value}
 use Rattle.comm_core.specs.Row.{with_row}

@@ -1,4 +1,4 @@
-//! How entries are added to the history and shown.
+//! How entries are appended to the history and shown to the readers.
 ghost use Rattle.std.specs.Prelude.{◌≡◌, ◌^◌, ◌<◌, ◌+◌, ◌++◌, ◌∷◌, [], false, length, drop, IfOk, OnErr, OnOk};
 ghost use Rattle.std.specs.Arc.{arc_value};
 ghost use Rattle.comm_core.specs.History.{IsLegal, replay};
@@ -20,7 +20,8 @@ use std::alloc::{AllocError, Global};
 use std::collections::VecDeque;
 use std::sync::{Arc, Wait};
 
-/// An entry, with the rows after it, and whether they may list other comms than those before.
+/// An entry that is prepared: with the table of comms after it, and whether that may list other comms than the one
+/// before.
 #[derive(Drop)]
 pub struct PendingEntry {
     pub entry: Arc<Entry, Global>,
@@ -28,7 +29,8 @@ pub struct PendingEntry {
     pub changes_listing: bool,
 }
 
-/// Makes the rows after a change.
+/// Prepares a change: brings a table up to date for it. It is the last step that may run out of memory; Err leaves
+/// all as it was.
 pub fn prepare(
     alloc: Global,
     table_buffers: &mut TableBuffers,
@@ -55,7 +57,8 @@ pub fn prepare(
     })
 }
 
-// Adds the next entry to the history. Nobody else adds one, so it's never longer than this front; if it were, this wouldn't return.
+// Appends the next entry to the history. Nobody else appends, so the history is never longer than this front; if it
+// were, this wouldn't return.
 fn extend<M: History, R: Wait>(
     rt: &R,
     head: &Head<M>,
@@ -76,7 +79,7 @@ fn extend<M: History, R: Wait>(
     }
 }
 
-// Adds one entry to the history, and shows it to the readers.
+// Appends one entry to the history, and shows the table after it to the readers.
 fn add<M: History, R: Wait>(
     rt: &R,
     head: &Head<M>,
@@ -106,7 +109,7 @@ fn add<M: History, R: Wait>(
     show(rt, snapshots);
 }
 
-/// Adds all that is to follow, in order.
+/// Appends all pending entries, oldest first, and shows each. It takes no memory.
 pub fn add_all<M: History, R: Wait>(
     rt: &R,
     head: &Head<M>,

@@ -1,4 +1,5 @@
-//! What a row changes in comms that stand in pieces: the one piece that it concerns, or a copy of that piece where others have it too.
+//! How a row changes the comms in chunks: it changes the one chunk that it concerns, or a copy of that chunk where it
+//! is shared.
 ghost use Rattle.std.specs.Prelude.{◌≡◌, ◌+◌, ◌<◌, ◌++◌, IfOk, Ok, OnOk, length, take, drop};
 ghost use Rattle.std.specs.Arc.{arc_value};
 ghost use Rattle.comm_core.specs.Machine.{without};
@@ -14,7 +15,7 @@ use comm_value::Text;
 use std::alloc::{AllocError, Global};
 use std::sync::Arc;
 
-// The comm where it stands, in place of the one of its id, or where it would.
+// Inserts the comm at its index, or replaces the one of its id.
 fn put_among(
     comms: &mut Vec<PrefixedComm>,
     at: Result<usize, usize>,
@@ -30,7 +31,7 @@ fn put_among(
     Ok(())
 }
 
-// The same, in this piece, or in a copy where others have it too.
+// Inserts the comm into this chunk, or replaces the one of its id there; a shared chunk is copied.
 fn put_into(
     alloc: Global,
     chunk: &mut CommChunk,
@@ -50,7 +51,7 @@ fn put_into(
     }
 }
 
-// The comm where it stands, in place of the one of its id, or where it would.
+// Inserts the comm at its position, or replaces the one of its id.
 fn put_at(
     alloc: Global,
     chunks: Vec<CommChunk>,
@@ -72,7 +73,7 @@ fn put_at(
     set_chunk(alloc, all, position.chunk, changed)
 }
 
-// The comm in its place, or in place of the one of its id.
+// Inserts the comm where the byte order wants it, or replaces the one of its id.
 fn put_in(
     alloc: Global,
     chunks: Vec<CommChunk>,
@@ -96,7 +97,7 @@ fn put_in(
     }
 }
 
-// This piece without the comm at i, or a copy without it where others have the piece too.
+// Removes the comm at index i of this chunk; a shared chunk is copied.
 fn take_from(alloc: Global, chunk: &mut CommChunk, i: usize) -> Result<(), AllocError>
     requires { i < length (arc_value chunk.old).items }
     ensures { OnOk result
@@ -116,7 +117,7 @@ fn take_from(alloc: Global, chunk: &mut CommChunk, i: usize) -> Result<(), Alloc
     }
 }
 
-// The pieces without the comm of this id, which stands in the piece there at i.
+// Removes the comm of this id, which stands at index i of the chunk at `place`.
 fn take_at(
     alloc: Global,
     chunks: Vec<CommChunk>,
@@ -139,7 +140,7 @@ fn take_at(
     Ok(all)
 }
 
-// The pieces without the comm of this id.
+// Removes the comm of this id, if there is one, and joins its chunk to a neighbour where both are short.
 fn take_out(
     alloc: Global,
     chunks: Vec<CommChunk>,
@@ -164,7 +165,7 @@ fn take_out(
     }
 }
 
-// The pieces without the comms of these ids.
+// Removes the comms of these ids.
 fn take_all(
     alloc: Global,
     chunks: Vec<CommChunk>,
@@ -184,7 +185,8 @@ fn take_all(
     Ok(all)
 }
 
-/// The pieces after this row. The hint is where its first comm may stand, or would.
+/// The chunks after this row. The hint is where the first comm of the row may stand, or would; a wrong hint costs a
+/// search. Err: memory.
 pub fn after_row(
     alloc: Global,
     chunks: Vec<CommChunk>,

@@ -1,4 +1,4 @@
-//! Comms in pieces of a bounded length.
+//! Comms in chunks of a bounded length.
 ghost use Rattle.std.specs.Prelude.{◌≡◌, ◌+◌, ◌<◌, ◌≤◌, ◌++◌, ◌∷◌, [], IfOk, OnOk, length, take, drop};
 ghost use Rattle.comm_versions.specs.Chunks.{AllChunksFilled, StandsAt, comms_in, upsert};
 
@@ -7,18 +7,19 @@ use crate::search::CommChunk;
 use std::alloc::{AllocError, Global};
 use std::sync::Arc;
 
-// So many comms may stand in a piece, however few the pieces are.
+// How many comms may stand in a chunk, however few the chunks are.
 const LONGEST: usize = 32;
 
-/// So many comms may stand in one of so many pieces; a longer one is cut in two. So there are never many more pieces than comms in one, and where a
-/// change has to copy, it copies a pointer to each piece and the comms of one: of many comms, some root of their number each.
+/// How many comms may stand in one of so many chunks; a longer chunk is cut in two. So there are never many more
+/// chunks than comms in one. A change that has to copy copies a pointer to each chunk and the comms of one chunk:
+/// both grow like the root of the number of comms.
 pub fn longest(chunks: usize) -> usize
     ensures { 2 ≤ result }
 {
     LONGEST.max(chunks / 2)
 }
 
-/// The same pieces, shared.
+/// A list of the same chunks, shared and not copied. Err: memory.
 pub fn share_chunks(alloc: Global, chunks: &[CommChunk]) -> Result<Vec<CommChunk>, AllocError>
     requires { AllChunksFilled chunks.now }
     ensures comms_in { IfOk result (λ all. comms_in all.items ≡ comms_in chunks.now) }
@@ -31,7 +32,7 @@ pub fn share_chunks(alloc: Global, chunks: &[CommChunk]) -> Result<Vec<CommChunk
     Ok(all)
 }
 
-// The comms are shared.
+// Appends these comms, which are shared and not copied.
 fn copy_all(comms: &[PrefixedComm], all: &mut Vec<PrefixedComm>) -> Result<(), AllocError>
     ensures { OnOk result (all.new.items ≡ all.old.items ++ comms.now) }
 {
@@ -41,7 +42,7 @@ fn copy_all(comms: &[PrefixedComm], all: &mut Vec<PrefixedComm>) -> Result<(), A
     Ok(())
 }
 
-// Copies of the comms, and the new one in place of those from one index to the other.
+// Copies the comms, with the new one in place of those from one index to the other.
 fn splice(
     alloc: Global,
     comms: &[PrefixedComm],
@@ -62,7 +63,7 @@ fn splice(
     Ok(all)
 }
 
-/// The comm where it stands, in place of the one of its id, or where it would.
+/// A copy of the comms with this one inserted at its index, or in place of the one of its id. Err: memory.
 pub fn with_comm(
     alloc: Global,
     comms: &[PrefixedComm],
@@ -79,7 +80,7 @@ pub fn with_comm(
     }
 }
 
-/// The comms without the one at i.
+/// A copy of the comms without the one at index i. Err: memory.
 pub fn without_at(
     alloc: Global,
     comms: &[PrefixedComm],
@@ -94,7 +95,7 @@ pub fn without_at(
     Ok(all)
 }
 
-/// The pieces with these comms, if any, in place of the piece there.
+/// Puts these comms, if there are any, in place of the chunk there, as two chunks if they are too many. Err: memory.
 pub fn set_chunk(
     alloc: Global,
     chunks: Vec<CommChunk>,
@@ -124,8 +125,8 @@ pub fn set_chunk(
     Ok(all)
 }
 
-/// The pieces, with the one at this place and the next as one where both together are half a piece at most, so that there aren't many more pieces than
-/// the comms need, whatever was closed.
+/// Makes one chunk of the one at this place and the next, where both together are half a chunk at most. So there
+/// aren't many more chunks than the comms need, whatever was closed. Err: memory.
 pub fn join_chunks(
     alloc: Global,
     chunks: Vec<CommChunk>,

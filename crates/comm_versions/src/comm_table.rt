@@ -1,4 +1,4 @@
-//! The comms that are open after a front, as they are shared with readers.
+//! The table of open comms after a front, which readers share.
 ghost use Rattle.std.specs.Prelude.{◌≡◌, ◌++◌, [], false, IfOk, OnOk, map, filter, option_map};
 ghost use Rattle.comm_core.specs.Machine.{at};
 ghost use Rattle.comm_core.specs.Reads.{info_of, passes, state_at, state_in};
@@ -19,7 +19,8 @@ use core::mem;
 use std::alloc::{AllocError, Global};
 use std::marker::Model;
 
-/// The open comms in the byte order of their ids, each with its target and its state. Rows that are shared don't change: copies share what stays.
+/// The open comms in the byte order of their ids, each with its target and its state. A table that is shared doesn't
+/// change: a copy shares the chunks that stay.
 #[derive(Drop)]
 pub struct CommTable {
     chunks: Vec<CommChunk>,
@@ -39,7 +40,7 @@ impl Model for CommTable {
     ghost invariant = { λ r. AllChunksFilled r.chunks.items × IsInOrder (comms_in r.chunks.items) };
 }
 
-// What a read of this state gives.
+// The answer of a read of this state.
 fn answer(state: &Option<Dict>) -> Result<StateAnswer, AllocError>
     ensures { IfOk result (λ s. s ≡ state_in state.now) }
 {
@@ -49,7 +50,7 @@ fn answer(state: &Option<Dict>) -> Result<StateAnswer, AllocError>
     }
 }
 
-// Whether comms of this target are asked for.
+// Whether the filter lets this target through.
 fn is_asked(asked: Option<&Text>, target: &Text) -> bool
     ensures { result ≡ passes (option_map (λ t. t.now) asked.entry) target.now }
 {
@@ -59,7 +60,7 @@ fn is_asked(asked: Option<&Text>, target: &Text) -> bool
     }
 }
 
-// Adds those of these comms that are asked for. Their texts are shared.
+// Appends those of these comms that the filter lets through. Their strings are shared.
 fn list_all(
     comms: &[PrefixedComm],
     asked: Option<&Text>,
@@ -81,6 +82,7 @@ fn list_all(
     Ok(())
 }
 
+// Appends the comms of all chunks that the filter lets through.
 fn list_chunks(
     chunks: &[CommChunk],
     asked: Option<&Text>,
@@ -97,6 +99,7 @@ fn list_chunks(
 }
 
 impl CommTable {
+    /// The table without comms. It takes no memory.
     pub fn new(alloc: Global) -> CommTable
         ensures { result ≡ [] }
     {
@@ -105,8 +108,8 @@ impl CommTable {
         }
     }
 
-    /// Makes them the comms after this row. What nobody else has is changed in its place. The hint tells where, if it holds. What an error leaves is
-    /// of no use.
+    /// Applies the row. Chunks that aren't shared are changed in place. The hint says where the row changes the
+    /// table, if it holds. After an Err (memory) the table is of no use.
     pub fn change(
         &mut self,
         alloc: Global,
@@ -120,7 +123,7 @@ impl CommTable {
         Ok(())
     }
 
-    /// The same comms once more. They are shared.
+    /// A copy that shares the chunks: it costs a pointer for each. Err: memory.
     pub fn copy(&self, alloc: Global) -> Result<CommTable, AllocError>
         ensures { IfOk result (λ r. r ≡ self.now) }
     {
@@ -128,7 +131,7 @@ impl CommTable {
         Ok(CommTable { chunks })
     }
 
-    /// The comm of this id.
+    // The comm of this id: two binary searches.
     fn get(&self, id: &Text) -> Option<&OpenComm>
         ensures { option_map (λ c. c.now.1) result ≡ at self.now id.now }
     {
@@ -139,7 +142,7 @@ impl CommTable {
         }
     }
 
-    /// Where this row changes them, and whether other comms may be listed after it.
+    /// What the row changes in this table: where, and whether other comms may be listed after it.
     pub fn effect_of(&self, row: &Row) -> RowEffect
         ensures { result.changes_listing ≡ false → ListAlike self.now (with_row row.now self.now) }
     {
@@ -155,7 +158,7 @@ impl CommTable {
         }
     }
 
-    /// The state of a comm, shared.
+    /// The state of a comm, shared. Err: memory.
     pub fn state(&self, id: &Text) -> Result<StateAnswer, AllocError>
         ensures { IfOk result (λ s. s ≡ state_at (at self.now id.now)) }
     {
@@ -165,7 +168,8 @@ impl CommTable {
         }
     }
 
-    /// The open comms with the names of their targets, those of one target where a name is given. The texts are shared.
+    /// The open comms with the names of their targets, in the byte order of the ids: all, or those of one target. The
+    /// strings are shared. Err: memory.
     pub fn infos(&self, alloc: Global, asked: Option<&Text>) -> Result<Infos, AllocError>
         ensures { IfOk result (λ v.
             v ≡ map info_of (filter

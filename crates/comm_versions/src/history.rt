@@ -10,7 +10,8 @@ use std::alloc::Global;
 use std::marker::{Brand, Model, PhantomData};
 use std::sync::Arc;
 
-/// Which history it is, and the limits by which it is legal. Each call of a function that has versions picks them; no code looks at them.
+/// Which history it is, and the limits by which it is legal. Each call of a function that makes versions picks them,
+/// in its proof; no code looks at them.
 pub trait History {
     ghost use Rattle.logbook.specs.Pages.{Book};
     ghost use Rattle.comm_core.specs.declared.limits.Limits.{Limits};
@@ -26,7 +27,7 @@ impl History for Brand {
     ghost limits = { record { clients = 1; comms = 1; history = 1; outbox = 1 } };
 }
 
-/// The rule of the book: what stands in it is a legal history.
+/// The rule of the history's book: what stands in it is a legal history.
 pub struct HistoryRule;
 
 impl Rule<Entry, u64> for HistoryRule {
@@ -47,7 +48,7 @@ impl Rule<Entry, u64> for HistoryRule {
     ghost moves = { λ ask before after answer. Unit {0} };
 }
 
-/// A step of the book trades nothing.
+/// A step of the book that trades nothing.
 pub struct NoOffer;
 
 impl Gain<Entry, u64> for NoOffer {
@@ -56,7 +57,7 @@ impl Gain<Entry, u64> for NoOffer {
     ghost after = { λ names about answer. ftrue };
 }
 
-/// The step that adds an entry.
+/// The step that appends an entry.
 pub struct AppendStep;
 
 impl Play<Entry, u64> for AppendStep {
@@ -96,6 +97,7 @@ impl Model for BlankHistory {
 }
 
 impl BlankHistory {
+    /// Opens a new book, with its length as a word. It takes no memory.
     pub fn new() -> BlankHistory {
         let (seen, mut first, _second) = Seen::open(Start::alone(), 0, 0);
         BlankHistory {
@@ -104,7 +106,7 @@ impl BlankHistory {
         }
     }
 
-    /// The history's word under a name, and the front that has seen nothing.
+    /// Names the history: gives the word with its length, and the front that has seen nothing.
     pub(crate) fn open<M: History>(self, clients: u8, comms: usize) -> (Head<M>, Stamp<M>)
         requires book { self ≡ M.book }
         requires limits { (clients ≡ M.limits.clients) × (comms ≡ M.limits.comms) }
@@ -119,7 +121,7 @@ impl BlankHistory {
     }
 }
 
-/// The one word of the history that a program has: its length.
+/// The one word of the history that a program has: its length, in entries.
 #[derive(Drop)]
 pub struct Head<M: History> {
     pub(crate) head: Word<Entry, u64, HistoryRule>,

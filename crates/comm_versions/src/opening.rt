@@ -1,4 +1,4 @@
-//! Makes the versions, with their writer and readers.
+//! How versions are made, with their writer and readers.
 ghost use Rattle.std.specs.Prelude.{◌≡◌, ◌≤◌, [], All, drop, true, vec_len, IfOk, OnOk};
 ghost use Rattle.std.specs.Arc.{arc_value};
 ghost use Rattle.left_right.specs.Sides.{view};
@@ -16,16 +16,20 @@ use crate::version::{JoinStep, SnapshotReader, SnapshotWriter, Version};
 use crate::writer::VersionWriter;
 use std::alloc::{AllocError, Global};
 use std::sync::{Arc, Wait};
+use thiserror::Error;
 
-/// Why there are no versions.
-#[derive(Drop)]
+/// Why no versions were made.
+#[derive(Clone, Copy, Debug, PartialEq, Eq, Error)]
 pub enum OpeningFault {
+    /// Memory ran out.
+    #[error("out of memory")]
     Memory,
     /// There was no place for a reader.
+    #[error("there is no place for a reader")]
     NoReader,
 }
 
-// Shows the first version once more. Err: memory.
+// Shows the first version again. Err: memory.
 fn warm<R: Wait>(
     rt: &R,
     snapshots: &mut SnapshotWriter,
@@ -49,7 +53,8 @@ fn warm<R: Wait>(
     }
 }
 
-// Twice, so that there is memory for as many as wait at any time, and a publish takes none.
+// Shows the first version twice more: after that there is room for as many versions as wait at any time, so a publish
+// takes no memory.
 fn warm_up<R: Wait>(
     rt: &R,
     snapshots: &mut SnapshotWriter,
@@ -67,7 +72,7 @@ fn warm_up<R: Wait>(
     warm(rt, snapshots, root, front)
 }
 
-// A new reader, who knows what the writer does.
+// A new reader, which knows what the writer knows. Err: there is no place for it.
 fn seat(snapshots: &mut SnapshotWriter) -> Result<SnapshotReader, AllocError>
     ensures knows { IfOk result (λ l. view l.place ≡ view snapshots.old.desk.place) }
     ensures shown { snapshots.new.desk.shown.value ≡ snapshots.old.desk.shown.value }
@@ -80,6 +85,7 @@ fn seat(snapshots: &mut SnapshotWriter) -> Result<SnapshotReader, AllocError>
     Ok(reader)
 }
 
+// As many readers as are wanted, all of which have seen the front.
 fn seats<M: History>(
     alloc: Global,
     front: &Stamp<M>,
@@ -106,6 +112,7 @@ fn seats<M: History>(
     Ok(readers)
 }
 
+// The two copies of the first version, and their root.
 fn pair(
     alloc: Global,
     front: &RawFront,
@@ -124,7 +131,7 @@ fn pair(
     Ok((snapshots, root))
 }
 
-// Readers who know the front that is shown.
+// Readers that have seen the front that is shown.
 fn open_readers<M: History, R: Wait>(
     rt: &R,
     alloc: Global,
@@ -149,7 +156,8 @@ fn open_readers<M: History, R: Wait>(
     seats(alloc, front, snapshots, count)
 }
 
-/// Makes the versions of an empty history, with as many readers as it has clients. The caller picks its name.
+/// Makes the versions of an empty history: a writer, and one reader for each client. The caller picks the history's
+/// name, in its proof. Err: memory, or no place for a reader; the writer is then ended.
 pub fn versions<M: History, R: Wait>(
     rt: &R,
     alloc: Global,

@@ -1,4 +1,4 @@
-//! Where the comm of an id stands among comms in pieces.
+//! Where the comm of an id stands among comms in chunks.
 ghost use Rattle.std.specs.Prelude.{◌≡◌, ◌<◌, [], IfNone, IfSome, Err, Ok, drop, length, true};
 ghost use Rattle.comm_versions.specs.Chunks.{AllChunksFilled, IsBelowFirst, IsInOrder, IsPosition, comms_in};
 
@@ -6,14 +6,15 @@ use crate::prefixed_comm::id_prefix;
 use crate::search::{CommChunk, chunk_of, place_of};
 use comm_value::Text;
 
-/// In which piece the comm of an id stands, and there at which index; or where it would.
+/// The chunk in which the comm of an id stands, and its index there (Ok); or the index at which it would be inserted
+/// (Err).
 #[derive(Clone, Copy)]
 pub struct Position {
     pub chunk: usize,
     pub at: Result<usize, usize>,
 }
 
-// Whether the comm at this index of this piece has the id.
+// Whether the comm at this index of this chunk has the id.
 fn is_found(chunks: &[CommChunk], id: &Text, chunk: usize, i: usize) -> bool
     requires filled { AllChunksFilled chunks.now }
     requires ordered { IsInOrder (comms_in chunks.now) }
@@ -26,7 +27,7 @@ fn is_found(chunks: &[CommChunk], id: &Text, chunk: usize, i: usize) -> bool
     i < comms.len() && comms[i].order(&id_prefix(id), id).is_eq()
 }
 
-// Whether the id is below those of the pieces from this one on.
+// Whether the id is below those of the chunks from this one on.
 fn is_below(chunks: &[CommChunk], id: &Text, from: usize) -> bool
     requires { AllChunksFilled chunks.now }
     ensures { result ≡ true → IsBelowFirst id.now (comms_in (drop from chunks.now)) }
@@ -38,7 +39,7 @@ fn is_below(chunks: &[CommChunk], id: &Text, from: usize) -> bool
     comms[0].order(&id_prefix(id), id).is_lt()
 }
 
-// Whether a comm of the id would stand at this index of this piece, behind another.
+// Whether a comm of the id would be inserted at this index of this chunk, behind another.
 fn is_gap(chunks: &[CommChunk], id: &Text, chunk: usize, i: usize) -> bool
     requires filled { AllChunksFilled chunks.now }
     requires ordered { IsInOrder (comms_in chunks.now) }
@@ -59,7 +60,7 @@ fn is_gap(chunks: &[CommChunk], id: &Text, chunk: usize, i: usize) -> bool
     }
 }
 
-// Whether the comm of the id stands there, or would.
+// Whether this is the position of the id.
 fn is_position(chunks: &[CommChunk], id: &Text, position: Position) -> bool
     requires filled { AllChunksFilled chunks.now }
     requires ordered { IsInOrder (comms_in chunks.now) }
@@ -71,7 +72,7 @@ fn is_position(chunks: &[CommChunk], id: &Text, position: Position) -> bool
     }
 }
 
-// Where the comm of this id stands, or would, by a search.
+// The position of the id, by two binary searches.
 fn find_position(chunks: &[CommChunk], id: &Text) -> Position
     requires some { 0 < length chunks.now }
     requires filled { AllChunksFilled chunks.now }
@@ -83,7 +84,8 @@ fn find_position(chunks: &[CommChunk], id: &Text) -> Position
     Position { chunk, at }
 }
 
-/// Where the comm of this id stands, or would: None where there is no piece. The hint is looked at first.
+/// The position of the id, None where there is no chunk. The hint is tested first; where it is wrong, two binary
+/// searches follow.
 pub fn position_of(chunks: &[CommChunk], id: &Text, hint: Option<Position>) -> Option<Position>
     requires filled { AllChunksFilled chunks.now }
     requires ordered { IsInOrder (comms_in chunks.now) }

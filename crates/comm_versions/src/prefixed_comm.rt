@@ -9,10 +9,11 @@ use std::alloc::AllocError;
 use std::cmp::Ordering;
 use std::marker::Model;
 
-/// The first bytes of an id, and zeros where it has fewer.
+/// The first eight bytes of an id, and zeros where it has fewer.
 pub type IdPrefix = [u8; 8];
 
-/// An open comm with its id, as contracts see it. The start of the id stands here, where a search needn't follow two pointers to it.
+/// An open comm with its id, as contracts see it. The prefix of the id stands beside the pointer to the comm, so that
+/// a search follows few pointers.
 #[derive(Drop)]
 pub struct PrefixedComm {
     prefix: IdPrefix,
@@ -35,6 +36,7 @@ impl Model for PrefixedComm {
     ghost invariant = { λ k. k.prefix ≡ padded 8 k.comm.0 };
 }
 
+/// The first eight bytes of this id.
 pub fn id_prefix(id: &Text) -> IdPrefix
     ensures { result ≡ padded 8 id.now }
 {
@@ -49,7 +51,7 @@ pub fn id_prefix(id: &Text) -> IdPrefix
     prefix
 }
 
-// In the order of their bytes: as numbers, whose greatest digit is the first byte, they are compared at once.
+// The byte order of two prefixes: they are compared as numbers whose first digit is the first byte.
 fn order_of(one: &IdPrefix, other: &IdPrefix) -> Ordering
     ensures { result ≡ id_cmp one.now other.now }
 {
@@ -57,6 +59,7 @@ fn order_of(one: &IdPrefix, other: &IdPrefix) -> Ordering
 }
 
 impl PrefixedComm {
+    /// Puts the prefix of its id beside the comm.
     pub fn new(comm: OpenComm) -> PrefixedComm
         ensures { result ≡ comm }
     {
@@ -64,7 +67,7 @@ impl PrefixedComm {
         PrefixedComm { prefix, comm }
     }
 
-    /// The same comm, shared. Err: it can't be shared once more.
+    /// The same comm, shared. Err: its count can't be raised.
     pub fn copy(&self) -> Result<PrefixedComm, AllocError>
         ensures { IfOk result (λ k. k ≡ self.now) }
     {
@@ -74,13 +77,14 @@ impl PrefixedComm {
         })
     }
 
+    /// The comm itself.
     pub fn comm(&self) -> &OpenComm
         ensures { result.now ≡ self.now }
     {
         &self.comm
     }
 
-    /// How the id, of this start, stands to that of the comm.
+    /// The byte order of the id, which has this prefix, and the id of this comm.
     pub fn order(&self, prefix: &IdPrefix, id: &Text) -> Ordering
         requires { prefix.now ≡ padded 8 id.now }
         ensures { result ≡ id_cmp id.now self.now.0 }

@@ -15,7 +15,8 @@ use std::alloc::Global;
 use std::marker::Model;
 use std::sync::Arc;
 
-/// The front that is published, and a number of entries: after each beginning of more the same comms are listed. Contracts see the front.
+/// The front that is published, and the number of entries since when the listing is the same: after each prefix of
+/// more entries the same comms are listed. Contracts see the front.
 #[derive(Drop)]
 pub struct PublishedFront<M: History> {
     front: Stamp<M>,
@@ -38,6 +39,7 @@ impl<M: History> Model for PublishedFront<M> {
 }
 
 impl<M: History> PublishedFront<M> {
+    /// Publishes this front as the first; its listing is taken for new.
     pub fn new(front: Stamp<M>) -> PublishedFront<M>
         ensures { result ≡ front }
     {
@@ -48,13 +50,15 @@ impl<M: History> PublishedFront<M> {
         }
     }
 
+    /// The front, to be copied for a stamp.
     pub fn front(&self) -> &Stamp<M>
         ensures { result.now ≡ self.now }
     {
         &self.front
     }
 
-    /// Adds an entry, and says whether it did. It did not where the history is longer. The entry may list other comms where `relists` says so.
+    /// Appends an entry, and says whether it did: not where the history is longer than this front. Where
+    /// `changes_listing` is false, the entry has to leave the listing as it is.
     pub fn extend(
         &mut self,
         head: &Head<M>,
@@ -80,7 +84,7 @@ impl<M: History> PublishedFront<M> {
         true
     }
 
-    /// The version of these comms.
+    /// The version to be shown, with this root: the table after the front.
     pub fn version(&self, root: Arc<CommTable, Global>) -> Version
         requires { arc_value root ≡ rows (replay M.limits.comms self.now) }
         ensures { result.front ≡ known (origin_of M.book M.limits) self.now }

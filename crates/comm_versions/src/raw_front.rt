@@ -1,4 +1,5 @@
-//! Beginnings of a history that were seen.
+//! Prefixes of a history that were seen, without a type parameter: `left_right` keeps them in both copies of a
+//! version.
 ghost use Rattle.std.specs.Prelude.{◌≡◌, ◌<◌, ◌^◌, ◌++◌, ◌∷◌, [], length, true, MatchBool};
 ghost use mathlib.Core.List.{IsPrefix};
 ghost use Rattle.std.specs.Arc.{arc_value};
@@ -12,7 +13,7 @@ use std::alloc::Global;
 use std::marker::Model;
 use std::sync::Arc;
 
-/// A beginning of some history that was seen. Contracts see which history, its limits, and the entries.
+/// A prefix of some history that was seen. Contracts see which history it is, its limits, and the entries.
 #[derive(Drop)]
 pub struct RawFront {
     count: u64,
@@ -37,7 +38,7 @@ impl Model for RawFront {
 }
 
 impl RawFront {
-    /// Of a history of which nothing was seen.
+    /// The empty prefix of a new history, with the limits by which that is legal.
     pub fn first(clients: u8, comms: usize, seen: Seen<Entry, u64, HistoryRule>) -> RawFront
         requires { seen.log ≡ [] }
         ensures { result ≡ known (origin seen.book clients comms) [] }
@@ -50,6 +51,7 @@ impl RawFront {
         }
     }
 
+    /// How many entries the prefix has.
     pub fn len(&self) -> u64
         ensures length { result ≡ length self.now.entries }
         ensures legal { IsLegal self.now.origin.clients self.now.origin.limit self.now.entries }
@@ -57,7 +59,7 @@ impl RawFront {
         self.count
     }
 
-    /// The same once more. It takes no memory.
+    /// A copy. It takes no memory.
     pub fn copy(&self) -> RawFront
         ensures { result ≡ self.now }
     {
@@ -69,7 +71,8 @@ impl RawFront {
         }
     }
 
-    /// Whether the other begins with this one. Of two beginnings of one history the shorter begins the longer.
+    /// Whether this is a prefix of the other, by their lengths. Of two prefixes of one history the shorter is one of
+    /// the longer.
     pub fn is_prefix_of(&self, other: &RawFront) -> bool
         requires { other.now.origin.book ≡ self.now.origin.book }
         ensures begins { MatchBool result (IsPrefix self.now.entries other.now.entries)
@@ -81,7 +84,7 @@ impl RawFront {
         self.count <= other.count
     }
 
-    /// Nothing follows an end: where the other has one, it begins with this.
+    /// A proof step, which does nothing when it runs: where the other has an end, this is a prefix of it.
     pub fn learn_ended(&self, other: &RawFront)
         requires { other.now.origin.book ≡ self.now.origin.book }
         ensures { has_end other.now.entries ≡ true → IsPrefix self.now.entries other.now.entries }
@@ -91,7 +94,7 @@ impl RawFront {
         both.learn(&other.seen);
     }
 
-    /// Adds an entry to all that was seen, and says whether it did. It did not where the history is longer.
+    /// Appends an entry, and says whether it did: not where the history is longer than this prefix.
     pub fn extend<M: History>(&mut self, head: &Head<M>, entry: &Arc<Entry, Global>) -> bool
         requires book { self.old.origin.book ≡ M.book }
         requires room { length self.old.entries < 2 ^ 62 }

@@ -25,7 +25,7 @@ use std::alloc::{AllocError, Global};
 use std::marker::Model;
 use std::sync::Arc;
 
-// The comms that are shown, and the number of their front.
+// The table that is shown, the length of its front, and since when its listing is the same.
 #[derive(Drop)]
 struct Shown {
     front: u64,
@@ -58,12 +58,13 @@ impl<M: History> Model for VersionReader<M> {
         × ((known_at r.snapshots.place).1.origin ≡ origin_of M.book M.limits) };
 }
 
+// A front that is shown, and its version, unless the count of its root couldn't be raised.
 type Found = (RawFront, Result<Version, AllocError>);
 
-// What is shown, which begins with what was shown before.
+// The version that is shown; its front includes what was shown before.
 //
-// A publish waits for readers that are inside, from `enter_as` to `leave`. So nothing is done there but to share the root and to copy the mark:
-// no memory is taken, no text compared, nothing else counted. No contract says that.
+// A publish waits for readers that are inside, from `enter_as` to `leave`. So nothing is done there but to share the
+// root and to copy the front: no memory is taken, no string compared, nothing else counted. No contract says that.
 fn current_version(snapshots: SnapshotReader) -> (SnapshotReader, Option<Found>)
     requires { (view snapshots.place).0 ≡ true }
     ensures knows { ((view result.0.place).0 ≡ true)
@@ -83,8 +84,9 @@ fn current_version(snapshots: SnapshotReader) -> (SnapshotReader, Option<Found>)
     }
 }
 
-// Sees what was found. NoVersion comes only where nothing was. A version whose root couldn't be shared is want of memory. So is
-// one that lags behind what was seen: there is none, since a stamp is made after its front was published, but no contract says so.
+// Takes note of the version that was found. NoVersion comes only where none was. A version whose root couldn't be
+// shared is want of memory. So is one that lags behind what was seen: there is none, since a stamp is made after its
+// front was published, but no contract says so.
 fn see<M: History>(
     reader_state: &mut ReaderState<M>,
     found: Option<Found>,
@@ -120,6 +122,7 @@ fn see<M: History>(
 }
 
 impl<M: History> VersionReader<M> {
+    /// A reader that has seen this front.
     pub(crate) fn new(snapshots: SnapshotReader, front: Stamp<M>) -> VersionReader<M>
         requires { ((view snapshots.place).0 ≡ true)
             × ((view snapshots.place).1.origin ≡ origin_of M.book M.limits) }
@@ -131,7 +134,7 @@ impl<M: History> VersionReader<M> {
         }
     }
 
-    // What is shown now. Its front begins with all that was seen before.
+    // What is shown now. Its front includes all that was seen before.
     fn enter(&mut self) -> Result<Shown, ReadFault>
         ensures later { IsPrefix self.old self.new }
         ensures shown { IfOk result (λ r.
@@ -148,7 +151,7 @@ impl<M: History> VersionReader<M> {
         see(&mut self.reader_state, found)
     }
 
-    // The comms that are shown and asked for: the list that was read last, where no comm came or went since.
+    // The comms that are shown and asked for: the cached list, where no comm opened or closed since it was read.
     fn list(
         &mut self,
         alloc: Global,
@@ -169,9 +172,9 @@ impl<M: History> VersionReader<M> {
         Ok(comms)
     }
 
-    /// The open comms, those of one target where a name is given, after the entries that are then seen. They begin with all
-    /// that was seen before. NoVersion leaves what was seen. Where no comm came or went since this reader last read the same,
-    /// it is the same list, shared.
+    /// The open comms with the names of their targets, all or those of one target, after the entries that are then
+    /// seen; these include all that was seen before. Where no comm opened or closed since this reader last read the
+    /// same, it is the cached list, shared. Err: NoVersion leaves what was seen; Memory may have made it longer.
     pub fn read_infos(&mut self, alloc: Global, asked: Option<&Text>) -> Result<InfoRead, ReadFault>
         ensures later { IsPrefix self.old self.new }
         ensures legal { OnOk result (IsLegal M.limits.clients M.limits.comms self.new) }
@@ -191,8 +194,8 @@ impl<M: History> VersionReader<M> {
         }
     }
 
-    /// The state of the comm of this id after the entries that are then seen. They begin with all that was seen before.
-    /// NoVersion leaves what was seen.
+    /// The state of the comm of this id after the entries that are then seen; these include all that was seen before.
+    /// Err: NoVersion leaves what was seen; Memory may have made it longer.
     pub fn read_state(&mut self, id: &Text) -> Result<StateRead, ReadFault>
         ensures later { IsPrefix self.old self.new }
         ensures legal { OnOk result (IsLegal M.limits.clients M.limits.comms self.new) }
@@ -210,7 +213,7 @@ impl<M: History> VersionReader<M> {
         }
     }
 
-    /// From now on it sees no less than the stamp's front. It takes no memory.
+    /// From now on this reader sees no less than the stamp's front. It takes no memory.
     pub fn hear(&mut self, stamp: &Stamp<M>)
         ensures one { (self.new ≡ self.old) ⊎ (self.new ≡ stamp.now) }
         ensures own { IsPrefix self.old self.new }
@@ -221,14 +224,15 @@ impl<M: History> VersionReader<M> {
         }
     }
 
-    /// All that it has seen stands in a history that has ended.
+    /// A proof step, which does nothing when it runs: what the reader has seen is a prefix of a history that has
+    /// ended.
     pub fn learn_ended(&self, stamp: &Stamp<M>)
         ensures { has_end stamp.now ≡ true → IsPrefix self.now stamp.now }
     {
         self.reader_state.front().learn_ended(stamp)
     }
 
-    /// How many entries it has seen.
+    /// How many entries it has seen. It takes no memory.
     pub fn seen(&self) -> u64
         ensures length { result ≡ length self.now }
         ensures legal { IsLegal M.limits.clients M.limits.comms self.now }

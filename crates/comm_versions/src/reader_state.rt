@@ -1,4 +1,4 @@
-//! What a reader has seen.
+//! What a reader has seen, with its cached listing.
 ghost use Rattle.std.specs.Prelude.{◌≡◌, option_map, true, IfSome};
 ghost use mathlib.Core.List.{IsPrefix};
 ghost use Rattle.comm_core.specs.History.{replay};
@@ -43,7 +43,7 @@ impl<M: History> Model for ReaderState<M> {
         IfSome s.last (λ l. WasListed M.limits.comms l.count l.asked l.comms s.front) };
 }
 
-// Whether both ask for the same comms.
+// Whether both filters are the same.
 fn is_same(one: &Option<Text>, other: Option<&Text>) -> bool
     ensures { result ≡ true → one.now ≡ option_map (λ t. t.now) other.entry }
 {
@@ -55,19 +55,21 @@ fn is_same(one: &Option<Text>, other: Option<&Text>) -> bool
 }
 
 impl<M: History> ReaderState<M> {
+    /// The state of a reader that has seen this front and read no list.
     pub fn new(front: Stamp<M>) -> ReaderState<M>
         ensures { result ≡ front }
     {
         ReaderState { front, last: None }
     }
 
+    /// The front that the reader has seen.
     pub fn front(&self) -> &Stamp<M>
         ensures { result.now ≡ self.now }
     {
         &self.front
     }
 
-    /// Sees a front that begins with what was seen.
+    /// Sees a front that includes what was seen.
     pub fn advance(&mut self, front: Stamp<M>)
         requires { IsPrefix self.old front }
         ensures { self.new ≡ front }
@@ -75,7 +77,7 @@ impl<M: History> ReaderState<M> {
         self.front = front;
     }
 
-    /// The list that was read last, where it was of these comms and all beginnings after it list the same.
+    /// The list that was read last, where it has this filter and was read after the listing last changed.
     pub fn cached_infos(&self, listing_since: u64, asked: Option<&Text>) -> Option<&Infos>
         requires { ListsAlikeSince M.limits.comms listing_since self.now }
         ensures { IfSome result (λ i.
@@ -89,7 +91,7 @@ impl<M: History> ReaderState<M> {
         }
     }
 
-    /// Keeps a list that was read after this front. Err: memory.
+    /// Caches a list that was read after this front. Err: memory.
     pub fn keep(&mut self, asked: Option<&Text>, comms: &Infos) -> Result<(), AllocError>
         requires { comms.now
             ≡ infos (replay M.limits.comms self.old) (option_map (λ t. t.now) asked) }

@@ -1,4 +1,4 @@
-//! What a row would change in comms that stand in pieces.
+//! What a row would change in comms in chunks.
 ghost use Rattle.std.specs.Prelude.{◌≡◌, IfSome, Some, false, true, option_map, slice_get};
 ghost use Rattle.comm_core.specs.Machine.{at};
 ghost use Rattle.comm_versions.specs.Listing.{ListAlike};
@@ -9,7 +9,7 @@ use crate::search::CommChunk;
 use comm_core::OpenComm;
 use comm_value::Text;
 
-/// Where a row makes its first change, and whether other comms may be listed after it.
+/// Where a row makes its first change, if that is known, and whether other comms may be listed after it.
 #[derive(Clone, Copy)]
 pub struct RowEffect {
     pub position: Option<Position>,
@@ -17,6 +17,7 @@ pub struct RowEffect {
 }
 
 impl RowEffect {
+    /// An effect whose position isn't known, or that has none.
     pub fn without_position(changes_listing: bool) -> RowEffect
         ensures { result.changes_listing ≡ changes_listing }
     {
@@ -27,7 +28,7 @@ impl RowEffect {
     }
 }
 
-// Whether the comm that stands there has this target.
+// Whether the comm at this position has this target.
 fn has(chunks: &[CommChunk], id: &Text, position: Position, target: &Text) -> bool
     requires ordered { IsInOrder (comms_in chunks.now) }
     requires position { IsPosition chunks.now id.now position }
@@ -40,7 +41,7 @@ fn has(chunks: &[CommChunk], id: &Text, position: Position, target: &Text) -> bo
     }
 }
 
-/// What a comm that is put changes.
+/// What putting this comm changes: a comm that replaces one of its id and target leaves the listing as it is.
 pub fn put_effect(chunks: &[CommChunk], comm: &OpenComm) -> RowEffect
     requires filled { AllChunksFilled chunks.now }
     requires ordered { IsInOrder (comms_in chunks.now) }
@@ -56,7 +57,7 @@ pub fn put_effect(chunks: &[CommChunk], comm: &OpenComm) -> RowEffect
     }
 }
 
-/// Where the first of these comms stands, or would.
+/// The position of the first of these ids, None where there is no id or no chunk.
 pub fn first_position(chunks: &[CommChunk], ids: &[Text]) -> Option<Position>
     requires filled { AllChunksFilled chunks.now }
     requires ordered { IsInOrder (comms_in chunks.now) }

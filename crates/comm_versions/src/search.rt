@@ -1,4 +1,4 @@
-//! Where an id stands among comms in order.
+//! Binary searches for an id among comms in order.
 ghost use Rattle.std.specs.Prelude.{◌≡◌, ◌<◌, ◌≤◌, ◌+◌, IfOk, IfErr, length, take, drop};
 ghost use Rattle.comm_versions.specs.Chunks.{AllIdsBelow, AllChunksFilled, IsBelowFirst, StartsWithId, IsInOrder, comms_in};
 
@@ -11,7 +11,7 @@ use std::sync::Arc;
 /// Some comms that follow one another, at least one. The tables before and after a change share it.
 pub type CommChunk = Arc<Vec<PrefixedComm, Global>, Global>;
 
-/// Where the comm of this id stands, or where it would.
+/// The index of the comm of this id (Ok), or the index at which it would be inserted (Err).
 pub fn place_of(comms: &[PrefixedComm], id: &Text) -> Result<usize, usize>
     requires { IsInOrder comms.now }
     ensures found { IfOk result (λ i.
@@ -35,7 +35,7 @@ pub fn place_of(comms: &[PrefixedComm], id: &Text) -> Result<usize, usize>
     Err(low)
 }
 
-/// The piece in which the comm of this id stands, or would, by a search over the first ids.
+/// The chunk in which the comm of this id stands, or would, by a search over the first ids.
 pub fn chunk_of(chunks: &[CommChunk], id: &Text) -> usize
     requires some { 0 < length chunks.now }
     requires filled { AllChunksFilled chunks.now }

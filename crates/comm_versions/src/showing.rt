@@ -7,7 +7,7 @@ use crate::version::{SeeStep, SnapshotWriter, Version};
 use core::mem::replace_with;
 use std::sync::Wait;
 
-// Shows what waits, unless its root can't be shared.
+// Shows the version that waits, and says whether it did: not where the count of its root can't be raised.
 fn try_show<R: Wait>(snapshots: SnapshotWriter, rt: &R) -> (SnapshotWriter, bool)
     requires { CanShow snapshots.desk.shown.value.front
         (drop snapshots.behind snapshots.log.items) }
@@ -24,7 +24,8 @@ fn try_show<R: Wait>(snapshots: SnapshotWriter, rt: &R) -> (SnapshotWriter, bool
     (snapshots, done.is_ok())
 }
 
-/// Shows what waits, by which the writer's seat knows it. It tries again where its root can't be shared.
+/// Shows the version that waits, and waits for readers that look at the one before the last. It tries again where the
+/// count of its root can't be raised.
 pub fn show<R: Wait>(rt: &R, snapshots: &mut SnapshotWriter)
     requires { CanShow snapshots.old.desk.shown.value.front
         (drop snapshots.old.behind snapshots.old.log.items) }
@@ -42,7 +43,8 @@ pub fn show<R: Wait>(rt: &R, snapshots: &mut SnapshotWriter)
     unreachable!()
 }
 
-/// Lets a version wait to be shown. It tries again where there is no memory; there is, once as many have waited as wait at any time.
+/// Lets a version wait to be shown. It tries again where there is no memory; there is, once as many have waited as
+/// wait at any time.
 pub fn enqueue<R: Wait>(rt: &R, snapshots: &mut SnapshotWriter, version: Version)
     ensures shown { snapshots.new.desk.shown.value ≡ snapshots.old.desk.shown.value }
     ensures pending { drop snapshots.new.behind snapshots.new.log.items
@@ -58,7 +60,7 @@ pub fn enqueue<R: Wait>(rt: &R, snapshots: &mut SnapshotWriter, version: Version
     unreachable!()
 }
 
-/// It doesn't return.
+/// Doesn't return.
 pub fn stop<R: Wait>(rt: &R)
     ensures { ⊥ }
 {

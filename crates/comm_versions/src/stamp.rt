@@ -12,8 +12,8 @@ use std::alloc::Global;
 use std::marker::{Model, PhantomData};
 use std::sync::Arc;
 
-/// A prefix of the one history that was seen, as a value: it goes from one caller to another, and costs no memory. Contracts
-/// see it as its entries.
+/// A prefix of the one history that was seen, as a value: it goes from one caller to another, and costs no memory.
+/// Contracts see it as its entries.
 #[derive(Drop)]
 pub struct Stamp<M: History> {
     raw: RawFront,
@@ -36,6 +36,7 @@ impl<M: History> Model for Stamp<M> {
 }
 
 impl<M: History> Stamp<M> {
+    /// Says by its type which history the prefix is of.
     pub(crate) fn from_raw(raw: RawFront) -> Stamp<M>
         requires { raw.origin ≡ origin_of M.book M.limits }
         ensures { result ≡ raw.entries }
@@ -46,13 +47,14 @@ impl<M: History> Stamp<M> {
         }
     }
 
+    /// The prefix without the type parameter.
     pub(crate) fn raw(&self) -> &RawFront
         ensures { result.now ≡ known (origin_of M.book M.limits) self.now }
     {
         &self.raw
     }
 
-    /// How many entries the prefix has, from 0.
+    /// How many entries the prefix has; 0 for an empty history.
     pub fn number(&self) -> u64
         ensures length { result ≡ length self.now }
         ensures legal { IsLegal M.limits.clients M.limits.comms self.now }
@@ -60,14 +62,14 @@ impl<M: History> Stamp<M> {
         self.raw.len()
     }
 
-    /// A copy. It takes no memory.
+    /// A copy, for another caller. It takes no memory.
     pub fn copy(&self) -> Stamp<M>
         ensures { result ≡ self.now }
     {
         Stamp::from_raw(self.raw.copy())
     }
 
-    /// Whether the other begins with this one. Of two fronts the shorter begins the longer.
+    /// Whether this is a prefix of the other, by their lengths. Of two fronts the shorter is a prefix of the longer.
     pub(crate) fn is_prefix_of(&self, other: &Stamp<M>) -> bool
         ensures begins { MatchBool result (IsPrefix self.now other.now)
             (IsPrefix other.now self.now × (length other.now < length self.now)) }
@@ -75,14 +77,14 @@ impl<M: History> Stamp<M> {
         self.raw.is_prefix_of(&other.raw)
     }
 
-    /// Nothing follows an end: where the other has one, it begins with this.
+    /// A proof step, which does nothing when it runs: where the other has an end, this is a prefix of it.
     pub(crate) fn learn_ended(&self, other: &Stamp<M>)
         ensures { has_end other.now ≡ true → IsPrefix self.now other.now }
     {
         self.raw.learn_ended(&other.raw)
     }
 
-    /// Adds an entry to all that was seen, and says whether it did. It did not where the history is longer.
+    /// Appends an entry, and says whether it did: not where the history is longer than this front.
     pub(crate) fn extend(&mut self, head: &Head<M>, entry: &Arc<Entry, Global>) -> bool
         requires room { length self.old < 2 ^ 62 }
         requires legal { IsLegal M.limits.clients M.limits.comms

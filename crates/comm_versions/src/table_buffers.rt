@@ -1,4 +1,5 @@
-//! The rows that are shown last, and those before them, which are brought up to date in their place once nobody else has them.
+//! Triple buffering: the table that is shown last, and the two before it, which are brought up to date in place once
+//! nobody else has them.
 ghost use Rattle.std.specs.Prelude.{◌≡◌, IfOk, OnErr, OnOk, IfSome, MatchOption};
 ghost use Rattle.std.specs.Arc.{arc_value};
 ghost use Rattle.comm_core.specs.Row.{with_row};
@@ -12,7 +13,7 @@ use std::alloc::{AllocError, Global};
 use std::marker::Model;
 use std::sync::Arc;
 
-/// Rows that others followed, by this row, and where that changed them.
+/// A table that another followed, the row that led to that one, and where it changed the table.
 #[derive(Drop)]
 pub struct StaleTable {
     pub root: Arc<CommTable, Global>,
@@ -20,9 +21,9 @@ pub struct StaleTable {
     pub position: Option<Position>,
 }
 
-/// The last rows, and the two before them. Readers are shown the last ones; the copy that is behind has those before. Those before that are
-/// free again, unless a reader still looks at them: they become the next rows, at the same root, by the two rows that they lack and the
-/// new one. So a change copies nothing. Contracts see the last rows.
+/// The last table, and the two before it. Readers are shown the last; `left_right`'s other copy has the one before.
+/// The third is free again, unless a reader still looks at it: it becomes the next table, at the same root, by the
+/// two rows that it lacks and the new one. So a change copies nothing. Contracts see the last table.
 #[derive(Drop)]
 pub struct TableBuffers {
     last: Arc<CommTable, Global>,
@@ -45,8 +46,8 @@ impl Model for TableBuffers {
     ghost invariant = { λ t. LeadsTo t.before (arc_value t.last) × StaleLeadsTo t.free t.before };
 }
 
-// The free root, with the rows after this one, unless others have it. It lacks its own row, the one after that, and this one. `before` are the rows after
-// the first of these.
+// Brings the free table up to date, unless it is shared: it lacks its own row, the row of the table `before`, and
+// this one.
 fn catch_up(
     alloc: Global,
     free: Option<StaleTable>,
@@ -76,7 +77,7 @@ fn catch_up(
 }
 
 impl TableBuffers {
-    /// Rows that follow none.
+    /// The buffers of a table that followed none.
     pub fn of(last: Arc<CommTable, Global>) -> TableBuffers
         ensures { result ≡ arc_value last }
     {
@@ -87,13 +88,14 @@ impl TableBuffers {
         }
     }
 
+    /// The last table.
     pub fn last(&self) -> &CommTable
         ensures { result.now ≡ self.now }
     {
         &self.last
     }
 
-    // The rows after this one: the free ones, or a copy of the last ones.
+    // The table after this row: the free one, or a copy of the last.
     fn next(
         &mut self,
         alloc: Global,
@@ -111,7 +113,8 @@ impl TableBuffers {
         Ok(Arc::new(alloc, copy)?)
     }
 
-    /// The rows after this one are the last from now on, and are given too. The spot is where it changes the last ones, if that's known.
+    /// Makes the table after this row the last, and gives it too. The position is where the row changes the last
+    /// table, if that is known. Err: memory; the last table stays.
     pub fn follow(
         &mut self,
         alloc: Global,

@@ -15,8 +15,8 @@ use left_right::writer::Writer;
 use std::alloc::{AllocError, Global};
 use std::sync::Arc;
 
-/// The comms after a beginning of the history, beside that beginning. It is what is shown, and what is applied. The beginnings of more
-/// than `since` entries list the same comms.
+/// The table of comms after a front, and that front. It is what is shown, and what is applied. The prefixes of more
+/// than `listing_since` entries list the same comms.
 #[derive(Drop)]
 pub struct Version {
     pub root: Arc<CommTable, Global>,
@@ -27,7 +27,7 @@ pub struct Version {
 }
 
 impl Version {
-    /// Of comms of which nothing more is known.
+    /// A version whose listing is taken for new.
     pub fn of(root: Arc<CommTable, Global>, front: RawFront) -> Version
         requires { arc_value root ≡ rows (replay front.origin.limit front.entries) }
         ensures front { result.front ≡ front }
@@ -37,6 +37,7 @@ impl Version {
         Version::with_listing_since(root, listing_since, front)
     }
 
+    /// A version whose listing is the same after each prefix of more than so many entries.
     pub fn with_listing_since(
         root: Arc<CommTable, Global>,
         listing_since: u64,
@@ -55,6 +56,7 @@ impl Version {
         }
     }
 
+    /// The root of its table.
     pub fn into_root(self) -> Arc<CommTable, Global>
         ensures { result ≡ self.root }
     {
@@ -66,7 +68,7 @@ impl Version {
         root
     }
 
-    /// The same once more: the root is shared, the mark copied. Err: it can't be shared once more.
+    /// A copy that shares the root. Err: its count can't be raised.
     pub fn try_clone(&self) -> Result<Version, AllocError>
         ensures front { IfOk result (λ v. v.front ≡ self.now.front) }
         ensures root { IfOk result (λ v. arc_value v.root ≡ arc_value self.now.root) }
@@ -80,7 +82,7 @@ impl Version {
     }
 }
 
-/// A version is replaced by another.
+// A version is replaced by another.
 impl Absorb<Version> for Version {
     type State = RawFront;
 
@@ -99,10 +101,10 @@ impl Absorb<Version> for Version {
     }
 }
 
-/// Each seat has seen a beginning of the front that is shown.
+/// The rule of what is shown: each seat has seen a prefix of the front that is shown.
 pub struct PublishRule;
 
-/// What a seat knows. No value of it is made.
+/// What the rule knows of a seat: whether it has seen anything, and which front. No value of it is made.
 pub type SeatView = (bool, RawFront);
 
 impl Protocol<Version, SeatView> for PublishRule {
@@ -113,7 +115,7 @@ impl Protocol<Version, SeatView> for PublishRule {
     ghost first = { stranger };
 }
 
-/// A seat sees what is shown.
+/// The step after which a seat has seen what is shown: a read, or a publish.
 pub struct SeeStep;
 
 impl Outcome<Version, SeatView> for SeeStep {
@@ -123,7 +125,7 @@ impl Outcome<Version, SeatView> for SeeStep {
     ghost then = { λ v x y w. (w ≡ (true, y.front)) × Knows y.front v };
 }
 
-/// A new reader is told what the writer knows.
+/// The step that gives a new reader what the writer knows.
 pub struct JoinStep;
 
 impl Split<SeatView> for JoinStep {
@@ -140,6 +142,8 @@ impl Join<SeatView> for JoinStep {
     ghost spent = { stranger };
 }
 
+/// The writer of `left_right` over versions.
 pub type SnapshotWriter = Writer<Version, Version, SeatView, PublishRule>;
 
+/// A reader of `left_right` over versions.
 pub type SnapshotReader = Reader<Version, SeatView, PublishRule>;

@@ -18,13 +18,13 @@ use std::collections::VecDeque;
 use std::marker::Model;
 use std::sync::{Arc, Wait};
 
-/// Adds entries to the history, and shows readers the comms after them. Contracts see what it has published, and what is to follow. It can't be
-/// dropped: `end` ends it.
+/// Appends entries to the history, and shows readers the comms after them. Contracts see the front that it has
+/// published, and the entries that are pending. It can't be dropped: `end` ends it.
 pub struct VersionWriter<M: History> {
     head: Head<M>,
     front: PublishedFront<M>,
     pending: VecDeque<PendingEntry>,
-    // The rows after all that is to follow.
+    // The table after all that is pending.
     next: TableBuffers,
     alloc: Global,
     snapshots: SnapshotWriter,
@@ -54,6 +54,7 @@ impl<M: History> Model for VersionWriter<M> {
 }
 
 impl<M: History> VersionWriter<M> {
+    /// A writer that has published this front, with this table.
     pub(crate) fn new(
         alloc: Global,
         head: Head<M>,
@@ -79,8 +80,8 @@ impl<M: History> VersionWriter<M> {
         }
     }
 
-    /// Makes a change pending, of which the caller knows that it may come next, and that its row is what it changes. An error says that memory
-    /// ran out; of what has to be done for a change to be published this is the last that can fail.
+    /// Makes a change pending. The caller knows that its entry may come next, and that its row is what the entry
+    /// changes. Err: memory; nothing is changed. It is the last step of a change that may fail.
     pub fn append(&mut self, change: Change) -> Result<(), AllocError>
         requires legal { IsLegal M.limits.clients M.limits.comms
             ((self.old.front ++ self.old.pending) ++ arc_value change.entry ∷ []) }
@@ -114,14 +115,15 @@ impl<M: History> VersionWriter<M> {
         );
     }
 
-    /// Tells of the front that is published. It takes no memory.
+    /// The front that is published, as a stamp. It takes no memory.
     pub fn stamp(&self) -> Stamp<M>
         ensures { result ≡ self.now.front }
     {
         self.front.front().copy()
     }
 
-    /// Readers take nothing from now on. What is pending is not published. It takes no memory, and waits for those who read.
+    /// Ends the writer: readers find no version from now on, and what is pending isn't published. It takes no memory,
+    /// and waits for readers that are inside.
     pub fn end<R: Wait>(self, rt: &R) {
         let Self {
             head: _head,
