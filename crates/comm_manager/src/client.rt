@@ -72,6 +72,7 @@ impl<M: ManagerId> Client<M> {
     }
 
     /// Its number, from 0.
+    #[must_use]
     pub fn id(&self) -> u8
         ensures { result ≡ self.now.client }
     {
@@ -79,6 +80,7 @@ impl<M: ManagerId> Client<M> {
     }
 
     /// How many entries it has seen. It takes no memory.
+    #[must_use]
     pub fn seen(&self) -> u64
         ensures length { result ≡ length self.now.seen }
         ensures legal { IsLegal M.limits.clients M.limits.comms self.now.seen }

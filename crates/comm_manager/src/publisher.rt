@@ -48,6 +48,7 @@ impl<M: ManagerId> Publisher<M> {
 
     /// Takes the next entry, or gives None where none was there at one moment of the call. It takes no memory, and
     /// enters no lock of the changes.
+    #[must_use]
     pub fn take<R: Wait>(&mut self, rt: &R) -> Option<Arc<Entry, Global>>
         ensures next { MatchOption result (self.new ≡ self.old) (λ e.
             self.new ≡ self.old ++ arc_value e ∷ []) }
@@ -57,6 +58,7 @@ impl<M: ManagerId> Publisher<M> {
     }
 
     /// How many entries it has taken.
+    #[must_use]
     pub fn taken(&self) -> u64
         ensures { result ≡ length self.now }
     {

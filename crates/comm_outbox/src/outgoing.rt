@@ -113,6 +113,7 @@ fn drain<R: Wait>(
 impl Outbox {
     /// How many entries wait to be taken, at one moment of the call. The other places are free, and stay so until
     /// this side fills them: that is the room. After 2^62 - 65,537 puts it says that all places are taken.
+    #[must_use]
     pub fn waiting<R: Wait>(&mut self, rt: &R) -> u64
         ensures room { self.new
             ≡ record self.old { room = max self.old.room (self.old.places - result) } }
@@ -155,6 +156,7 @@ impl Outbox {
 
     /// Gives up both sides, for the entries that were put and not taken, in order. It takes no memory: the caller
     /// hands in a list with room for them.
+    #[must_use]
     pub fn take_rest<R: Wait>(
         self,
         rt: &R,

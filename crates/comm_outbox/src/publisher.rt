@@ -48,6 +48,7 @@ impl Model for Publisher {
 impl Publisher {
     /// Takes the next entry, or gives None where none was there at one moment of the call (no clause says when). It
     /// takes no memory, and enters no lock.
+    #[must_use]
     pub fn take<R: Wait>(&mut self, rt: &R) -> Option<Arc<Entry, Global>>
         ensures next { MatchOption result (self.new ≡ self.old) (λ e.
             self.new ≡ record self.old { taken = self.old.taken ++ arc_value e ∷ [] }) }
@@ -60,6 +61,7 @@ impl Publisher {
     }
 
     /// How many entries were taken.
+    #[must_use]
     pub fn taken(&self) -> u64
         ensures { result ≡ length self.now.taken }
     {

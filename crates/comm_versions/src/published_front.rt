@@ -59,6 +59,7 @@ impl<M: History> PublishedFront<M> {
 
     /// Appends an entry, and says whether it did: not where the history is longer than this front. Where
     /// `changes_listing` is false, the entry has to leave the listing as it is.
+    #[must_use]
     pub fn extend(
         &mut self,
         head: &Head<M>,

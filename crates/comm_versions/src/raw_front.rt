@@ -73,6 +73,7 @@ impl RawFront {
 
     /// Whether this is a prefix of the other, by their lengths. Of two prefixes of one history the shorter is one of
     /// the longer.
+    #[must_use]
     pub fn is_prefix_of(&self, other: &RawFront) -> bool
         requires { other.now.origin.book ≡ self.now.origin.book }
         ensures begins { MatchBool result (IsPrefix self.now.entries other.now.entries)
@@ -95,6 +96,7 @@ impl RawFront {
     }
 
     /// Appends an entry, and says whether it did: not where the history is longer than this prefix.
+    #[must_use]
     pub fn extend<M: History>(&mut self, head: &Head<M>, entry: &Arc<Entry, Global>) -> bool
         requires book { self.old.origin.book ≡ M.book }
         requires room { length self.old.entries < 2 ^ 62 }

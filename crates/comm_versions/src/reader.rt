@@ -233,6 +233,7 @@ impl<M: History> VersionReader<M> {
     }
 
     /// How many entries it has seen. It takes no memory.
+    #[must_use]
     pub fn seen(&self) -> u64
         ensures length { result ≡ length self.now }
         ensures legal { IsLegal M.limits.clients M.limits.comms self.now }

@@ -55,6 +55,7 @@ impl<M: History> Stamp<M> {
     }
 
     /// How many entries the prefix has; 0 for an empty history.
+    #[must_use]
     pub fn number(&self) -> u64
         ensures length { result ≡ length self.now }
         ensures legal { IsLegal M.limits.clients M.limits.comms self.now }
@@ -63,6 +64,7 @@ impl<M: History> Stamp<M> {
     }
 
     /// A copy, for another caller. It takes no memory.
+    #[must_use]
     pub fn copy(&self) -> Stamp<M>
         ensures { result ≡ self.now }
     {
@@ -70,6 +72,7 @@ impl<M: History> Stamp<M> {
     }
 
     /// Whether this is a prefix of the other, by their lengths. Of two fronts the shorter is a prefix of the longer.
+    #[must_use]
     pub(crate) fn is_prefix_of(&self, other: &Stamp<M>) -> bool
         ensures begins { MatchBool result (IsPrefix self.now other.now)
             (IsPrefix other.now self.now × (length other.now < length self.now)) }
@@ -85,6 +88,7 @@ impl<M: History> Stamp<M> {
     }
 
     /// Appends an entry, and says whether it did: not where the history is longer than this front.
+    #[must_use]
     pub(crate) fn extend(&mut self, head: &Head<M>, entry: &Arc<Entry, Global>) -> bool
         requires room { length self.old < 2 ^ 62 }
         requires legal { IsLegal M.limits.clients M.limits.comms

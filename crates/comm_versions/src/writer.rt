@@ -116,6 +116,7 @@ impl<M: History> VersionWriter<M> {
     }
 
     /// The front that is published, as a stamp. It takes no memory.
+    #[must_use]
     pub fn stamp(&self) -> Stamp<M>
         ensures { result ≡ self.now.front }
     {
