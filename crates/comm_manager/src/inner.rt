@@ -5,7 +5,7 @@ ghost use Rattle.std.specs.Mem.{manually_drop_value};
 ghost use Rattle.comm_core.specs.History.{IsLegal, has_end};
 ghost use Rattle.comm_core.specs.Tables.{IdleWhere};
 ghost use Rattle.comm_core.specs.Limits.{AreAllowed};
-ghost use Rattle.comm_core.specs.Ready.{HandsNothingIn};
+ghost use Rattle.comm_core.specs.Ready.{HandsNothingIn, state};
 ghost use Rattle.comm_core.specs.declared.call.Call.TheVariants as call;
 ghost use Rattle.comm_core.specs.declared.entry.Entry.TheVariants.{End};
 ghost use Rattle.comm_core.specs.declared.row.Row.TheVariants as row;
@@ -79,12 +79,7 @@ impl<M: ManagerId, T: Target> Inner<M, T> {
         totals: SeqTotals<M>,
     ) -> Inner<M, T>
         requires limits { (limits ≡ M.limits) × AreAllowed limits }
-        requires core { core ≡ record {
-          limit = limits.comms;
-          boxes = [];
-          comms = [];
-          settled = true;
-        } }
+        requires core { core ≡ state limits.comms [] [] true }
         requires writer { (writer.front ≡ []) × (writer.pending ≡ []) }
         requires outbox { outbox
             ≡ unfilled M.queue limits.clients limits.comms (limits.outbox + 1) }

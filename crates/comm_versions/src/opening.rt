@@ -43,7 +43,7 @@ fn warm<R: Wait>(
     ensures knows { OnOk result (view snapshots.new.desk.place ≡ (true, front.now)) }
     ensures waits { OnOk result (drop snapshots.new.behind snapshots.new.log.items ≡ []) }
 {
-    let version = Version::of(Arc::try_clone(root)?, front.copy());
+    let version = Version::new(Arc::try_clone(root)?, front.copy());
     match snapshots.append(version) {
         Ok(()) => {
             show(rt, snapshots);
@@ -73,7 +73,7 @@ fn warm_up<R: Wait>(
 }
 
 // A new reader, which knows what the writer knows. Err: there is no place for it.
-fn seat(snapshots: &mut SnapshotWriter) -> Result<SnapshotReader, AllocError>
+fn add_reader(snapshots: &mut SnapshotWriter) -> Result<SnapshotReader, AllocError>
     ensures knows { IfOk result (λ l. view l.place ≡ view snapshots.old.desk.place) }
     ensures shown { snapshots.new.desk.shown.value ≡ snapshots.old.desk.shown.value }
     ensures same { view snapshots.new.desk.place ≡ view snapshots.old.desk.place }
@@ -86,7 +86,7 @@ fn seat(snapshots: &mut SnapshotWriter) -> Result<SnapshotReader, AllocError>
 }
 
 // As many readers as are wanted, all of which have seen the front.
-fn seats<M: History>(
+fn add_readers<M: History>(
     alloc: Global,
     front: &Stamp<M>,
     snapshots: &mut SnapshotWriter,
@@ -104,7 +104,7 @@ fn seats<M: History>(
         if readers.reserve(1).is_err() {
             return Err(OpeningFault::Memory);
         }
-        let Ok(reader) = seat(snapshots) else {
+        let Ok(reader) = add_reader(snapshots) else {
             return Err(OpeningFault::NoReader);
         };
         readers.push_reserved(VersionReader::new(reader, front.copy()));
@@ -125,8 +125,8 @@ fn pair(
     ensures rows { IfOk result (λ r. arc_value r.1 ≡ []) }
 {
     let root = Arc::new(alloc, CommTable::new(alloc))?;
-    let first = Version::of(Arc::try_clone(&root)?, front.copy());
-    let second = Version::of(Arc::try_clone(&root)?, front.copy());
+    let first = Version::new(Arc::try_clone(&root)?, front.copy());
+    let second = Version::new(Arc::try_clone(&root)?, front.copy());
     let snapshots = SnapshotWriter::new(alloc, first, second, readers)?;
     Ok((snapshots, root))
 }
@@ -153,7 +153,7 @@ fn open_readers<M: History, R: Wait>(
     if warm_up(rt, snapshots, root, front.raw()).is_err() {
         return Err(OpeningFault::Memory);
     }
-    seats(alloc, front, snapshots, count)
+    add_readers(alloc, front, snapshots, count)
 }
 
 /// Makes the versions of an empty history: a writer, and one reader for each client. The caller picks the history's

@@ -67,7 +67,7 @@ impl PrefixedComm {
         PrefixedComm { prefix, comm }
     }
 
-    /// The same comm, shared. Err: its count can't be raised.
+    /// A copy that shares the comm. Err: its count can't be raised.
     pub fn copy(&self) -> Result<PrefixedComm, AllocError>
         ensures { IfOk result (λ k. k ≡ self.now) }
     {

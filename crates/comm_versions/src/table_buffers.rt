@@ -78,7 +78,7 @@ fn catch_up(
 
 impl TableBuffers {
     /// The buffers of a table that followed none.
-    pub fn of(last: Arc<CommTable, Global>) -> TableBuffers
+    pub fn new(last: Arc<CommTable, Global>) -> TableBuffers
         ensures { result ≡ arc_value last }
     {
         TableBuffers {

@@ -28,7 +28,7 @@ pub struct Version {
 
 impl Version {
     /// A version whose listing is taken for new.
-    pub fn of(root: Arc<CommTable, Global>, front: RawFront) -> Version
+    pub fn new(root: Arc<CommTable, Global>, front: RawFront) -> Version
         requires { arc_value root ≡ rows (replay front.origin.limit front.entries) }
         ensures front { result.front ≡ front }
         ensures root { result.root ≡ root }

@@ -74,7 +74,7 @@ impl<M: History> VersionWriter<M> {
             head,
             front: PublishedFront::new(front),
             pending: VecDeque::new(alloc),
-            next: TableBuffers::of(next),
+            next: TableBuffers::new(next),
             alloc,
             snapshots,
         }

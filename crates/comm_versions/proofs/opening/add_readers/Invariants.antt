@@ -2,7 +2,7 @@ use Rattle.std.proofs.Common.{◌≡◌, drop, true, length}
 use Rattle.std.specs.Prelude.{All}
 use Rattle.left_right.specs.Sides.{view}
 use Rattle.comm_versions.specs.Known.{known, origin_of}
-use Rattle.comm_versions.proofs.opening.seats.Given as goal
+use Rattle.comm_versions.proofs.opening.add_readers.Given as goal
 
 abbrev pub invariant-loop-i : goal.invariant-loop-i
 invariant-loop-i g l =
