@@ -16,7 +16,7 @@ use Rattle.comm_core.specs.declared.reply.Reply.{Reply}
 use Rattle.comm_versions.specs.Known.{WriterValue}
 use Rattle.comm_manager.specs.Asked.{ready_entry}
 use Rattle.comm_manager.specs.UnderLock.{LockInvariant, Rests, counts}
-use Rattle.comm_manager.specs.Tally.{Tally}
+use Rattle.comm_manager.specs.SeqView.{SeqView}
 
 -- ---- the entries of a client
 
@@ -165,11 +165,11 @@ kept_more limits h h' core core' writer writer' totals totals' c n d kept low at
     }
 
 -- what is kept stays where a change is admitted
-pub admitted : (limits : Limits) (h h1 : List Entry) (core : CoreValue) (w : WriterValue) (totals b1 : List ℕ) (t t1 : Tally) → h1 ≡ h → (b1 ≡ totals) × (t1 ≡ t) → LockInvariant limits h core w totals
+pub admitted : (limits : Limits) (h h1 : List Entry) (core : CoreValue) (w : WriterValue) (totals b1 : List ℕ) (t t1 : SeqView) → h1 ≡ h → (b1 ≡ totals) × (t1 ≡ t) → LockInvariant limits h core w totals
     → (t.client < 4) × (slice_index totals t.client ≡ t.number) → t.client < limits.clients
     → LockInvariant limits h1 core w b1 × (t1.client < 4) × (slice_index b1 t1.client ≡ t1.number) × (t1.client < limits.clients)
 admitted limits h h1 core w totals b1 t t1 his same kept known below =
-    subst (λ (x : List Entry × List ℕ × Tally). LockInvariant limits x.0 core w x.1 × (x.2.client < 4) × (slice_index x.1 x.2.client ≡ x.2.number) × (x.2.client < limits.clients))
+    subst (λ (x : List Entry × List ℕ × SeqView). LockInvariant limits x.0 core w x.1 × (x.2.client < 4) × (slice_index x.1 x.2.client ≡ x.2.number) × (x.2.client < limits.clients))
     (λ i. (sym his i, sym same.0 i, sym same.1 i)) (kept, known.0, known.1, below)
 
 -- what stands ready after what is kept

@@ -1,10 +1,10 @@
 pub mod Asked
 pub mod Code
-pub mod Journal
+pub mod JournalView
 pub mod UnderLock
 pub mod Mine
 pub mod Names
-pub mod Tally
+pub mod SeqView
 pub mod SeqShares
-pub mod Who
+pub mod ClientView
 pub mod Why

@@ -6,7 +6,7 @@ use Rattle.comm_core.specs.Ready.{CoreValue, machine}
 use Rattle.comm_core.specs.declared.entry.Entry.{Entry}
 use Rattle.comm_core.specs.declared.limits.Limits.{Limits}
 use Rattle.atomic_table.specs.Seated.{TableId}
-use Rattle.comm_outbox.specs.Sides.{Putting, Taking}
+use Rattle.comm_outbox.specs.Sides.{OutboxView, PublisherView}
 use Rattle.comm_versions.specs.Known.{WriterValue}
 
 -- how many entries of each client there are, of the clients 0 to 3
@@ -23,7 +23,8 @@ pub record Rests (limit : ℕ) (history : List Entry) (core : CoreValue) : Type 
 
 -- The side of the queue that puts, once it has put the history: one place more than entries may wait is there, and
 -- one at least was found free, for an end.
-pub record OutboxInvariant (queue : TableId) (limits : Limits) (history : List Entry) (outbox : Putting) : Type 0 where
+pub record OutboxInvariant (queue : TableId) (limits : Limits) (history : List Entry)
+    (outbox : OutboxView) : Type 0 where
   pub queue_is : outbox.queue ≡ queue
   pub clients_are : outbox.clients ≡ limits.clients
   pub comms_are : outbox.comms ≡ limits.comms
@@ -32,8 +33,9 @@ pub record OutboxInvariant (queue : TableId) (limits : Limits) (history : List E
   pub puts_are : outbox.puts ≡ history
 
 -- the side that takes, once it has taken these
-abbrev pub taker : TableId → Limits → List Entry → Taking
-taker queue limits taken = record { queue = queue; clients = limits.clients; comms = limits.comms; taken = taken }
+abbrev pub publisher_after : TableId → Limits → List Entry → PublisherView
+publisher_after queue limits taken =
+    record { queue = queue; clients = limits.clients; comms = limits.comms; taken = taken }
 
 -- The history is legal and not ended, within the limits, and it is what is published; the tables rest after it; the
 -- totals are those of its clients.

@@ -1,9 +1,9 @@
 //! What a manager is made of before it has a name.
 ghost use Rattle.std.specs.Prelude.{◌≡◌, ◌≤◌, ◌++◌, [], ◌∷◌, All, IfOk, IfErr, nat_lt, ◌+◌, ◌<◌, ◌-◌, vec_len, if◌then◌else◌};
 ghost use Rattle.comm_core.specs.Limits.{AreAllowed};
-ghost use Rattle.comm_manager.specs.Tally.{tally};
-ghost use Rattle.comm_manager.specs.Who.{who, all_new};
-ghost use Rattle.comm_manager.specs.Why.{Barred};
+ghost use Rattle.comm_manager.specs.SeqView.{seq_view};
+ghost use Rattle.comm_manager.specs.ClientView.{client_view, all_new};
+ghost use Rattle.comm_manager.specs.Why.{IsBarred};
 
 use crate::client::Client;
 use crate::ledger::{ClientSeq, ClientSeqs};
@@ -31,7 +31,7 @@ pub struct ManagerBuilder {
 impl Model for ManagerBuilder {
     ghost use Rattle.std.specs.Prelude.{◌≡◌, ◌+◌};
     ghost use Rattle.comm_core.specs.Limits.{AreAllowed};
-    ghost use Rattle.comm_outbox.specs.Sides.{unfilled, untouched};
+    ghost use Rattle.comm_outbox.specs.Sides.{new_outbox, new_publisher};
     ghost use Rattle.comm_manager.specs.Names.{Names};
 
     ghost Value = { Names };
@@ -49,15 +49,16 @@ impl Model for ManagerBuilder {
     ghost invariant = { λ o.
         (o.first.parts ≡ 1) × (o.second.parts ≡ 1) × (o.third.parts ≡ 1) × (o.fourth.parts ≡ 1)
         × AreAllowed o.limits
-        × (o.outbox ≡ unfilled o.outbox.queue o.limits.clients o.limits.comms (o.limits.outbox + 1))
-        × (o.publisher ≡ untouched o.outbox.queue o.limits.clients o.limits.comms) };
+        × (o.outbox ≡ new_outbox o.outbox.queue o.limits.clients o.limits.comms
+        (o.limits.outbox + 1))
+        × (o.publisher ≡ new_publisher o.outbox.queue o.limits.clients o.limits.comms) };
 }
 
 impl ManagerBuilder {
     /// Makes the parts of a manager. Err: BadLimits exactly where a limit is out of its bounds, else Memory.
     pub fn new(alloc: Global, limits: Limits) -> Result<ManagerBuilder, NewFault>
         ensures limits { IfOk result (λ o. (o.limits ≡ limits) × AreAllowed limits) }
-        ensures err { IfErr result (λ e. Barred limits e) }
+        ensures err { IfErr result (λ e. IsBarred limits e) }
     {
         if !limits.are_allowed() {
             return Err(NewFault::BadLimits);
@@ -90,7 +91,7 @@ fn with_client<M: ManagerId>(
     requires none { All (λ r. r ≡ []) readers.old.items }
     ensures clients { IfOk result (λ v.
         v.items ≡ (if nat_lt seq.client M.limits.clients
-        then clients.items ++ who seq.client 0 [] ∷ [] else clients.items)) }
+        then clients.items ++ client_view seq.client 0 [] ∷ [] else clients.items)) }
     ensures readers { vec_len readers.new ≡ M.limits.clients - (seq.client + 1) }
     ensures none { All (λ r. r ≡ []) readers.new.items }
 {
@@ -109,8 +110,8 @@ pub fn first_clients<M: ManagerId>(
 ) -> Result<Vec<Client<M>>, AllocError>
     requires count { (1 ≤ M.limits.clients) × (M.limits.clients ≤ 4) }
     requires readers { (vec_len readers ≡ M.limits.clients) × All (λ r. r ≡ []) readers.items }
-    requires seqs { (seqs.first ≡ tally 0 0) × (seqs.second ≡ tally 1 0) × (seqs.third ≡ tally 2 0)
-        × (seqs.fourth ≡ tally 3 0) }
+    requires seqs { (seqs.first ≡ seq_view 0 0) × (seqs.second ≡ seq_view 1 0)
+        × (seqs.third ≡ seq_view 2 0) × (seqs.fourth ≡ seq_view 3 0) }
     ensures { IfOk result (λ v. v.items ≡ all_new M.limits.clients) }
 {
     let ClientSeqs {

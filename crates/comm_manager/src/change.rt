@@ -9,8 +9,8 @@ ghost use Rattle.comm_core.specs.declared.call.Call.TheVariants as call;
 ghost use Rattle.comm_targets.specs.Meaning.{IsIdle};
 ghost use Rattle.comm_manager.specs.Asked.{IsNext, ready_entry};
 ghost use Rattle.comm_manager.specs.UnderLock.{LockInvariant, OutboxInvariant};
-ghost use Rattle.comm_manager.specs.Tally.{tally};
-ghost use Rattle.comm_manager.specs.Why.{Because, IsHistoryFirst};
+ghost use Rattle.comm_manager.specs.SeqView.{seq_view};
+ghost use Rattle.comm_manager.specs.Why.{IsReason, IsHistoryFirst};
 
 use crate::answered::Answered;
 use crate::journal::Journal;
@@ -102,7 +102,7 @@ fn check_room<M: ManagerId, R: Wait>(
     requires few { made ≤ M.limits.history }
     requires puts { OutboxInvariant M.queue M.limits writer.now.front outbox.old }
     ensures why { MatchOption result ((length writer.now.front < M.limits.history)
-        × (2 ≤ outbox.new.room)) (λ e. Because M.limits e) }
+        × (2 ≤ outbox.new.room)) (λ e. IsReason M.limits e) }
     ensures first { IfSome result (λ e. IsHistoryFirst M.limits writer.now.front e) }
     ensures puts { OutboxInvariant M.queue M.limits writer.now.front outbox.new }
 {
@@ -153,7 +153,7 @@ fn reserve<M: ManagerId, R: Wait>(
     ensures known { OnOk result ((seq.old.client < 4)
         × (slice_index totals.old seq.old.client ≡ seq.old.number)) }
     ensures seen { OnOk result (length reader.now ≤ length journal.old.all) }
-    ensures why { IfErr result (λ e. Because M.limits e) }
+    ensures why { IfErr result (λ e. IsReason M.limits e) }
     ensures first { IfErr result (λ e. IsHistoryFirst M.limits journal.old.all e) }
 {
     let made = journal.len();
@@ -195,7 +195,7 @@ fn complete<M: ManagerId, R: Wait>(
     ensures seen { (reader.new ≡ journal.new.all) × IsPrefix reader.old journal.old.all }
     ensures puts { OutboxInvariant M.queue M.limits journal.new.all outbox.new }
     ensures totals { totals.new ≡ slice_set totals.old seq.old.client (seq.old.number + 1) }
-    ensures seq { seq.new ≡ tally seq.old.client (seq.old.number + 1) }
+    ensures seq { seq.new ≡ seq_view seq.old.client (seq.old.number + 1) }
 {
     journal.add(kept);
     let stamp = publish(rt, writer, reader);
@@ -234,12 +234,12 @@ pub fn ask<M: ManagerId, T: Target, R: Wait>(
         (m.answered.stamp ≡ journal.new.all) × (m.answered.number ≡ length journal.new.all)) }
     ensures seen { IfOk result (λ m.
         (reader.new ≡ journal.new.all) × IsPrefix reader.old journal.old.all) }
-    ensures seq { OnOk result ((seq.new ≡ tally seq.old.client (seq.old.number + 1))
+    ensures seq { OnOk result ((seq.new ≡ seq_view seq.old.client (seq.old.number + 1))
         × (length (mine journal.old.all seq.old.client) ≡ seq.old.number)) }
     ensures idle { IfOk result (λ m. IdleWhere m.ended) }
     ensures err { OnErr result ((seq.new ≡ seq.old) × (reader.new ≡ reader.old)
         × (journal.new.all ≡ journal.old.all)) }
-    ensures why { IfErr result (λ e. Because M.limits e) }
+    ensures why { IfErr result (λ e. IsReason M.limits e) }
     ensures first { IfErr result (λ e. IsHistoryFirst M.limits journal.old.all e) }
 {
     replays_grow();
@@ -311,12 +311,12 @@ pub fn register<M: ManagerId, T: Target, R: Wait>(
         (m.answered.stamp ≡ journal.new.all) × (m.answered.number ≡ length journal.new.all)) }
     ensures seen { IfOk result (λ m.
         (reader.new ≡ journal.new.all) × IsPrefix reader.old journal.old.all) }
-    ensures seq { OnOk result ((seq.new ≡ tally seq.old.client (seq.old.number + 1))
+    ensures seq { OnOk result ((seq.new ≡ seq_view seq.old.client (seq.old.number + 1))
         × (length (mine journal.old.all seq.old.client) ≡ seq.old.number)) }
     ensures idle { IfOk result (λ m. IdleWhere m.ended) }
     ensures err { OnErr result ((seq.new ≡ seq.old) × (reader.new ≡ reader.old)
         × (journal.new.all ≡ journal.old.all)) }
-    ensures why { IfErr result (λ e. Because M.limits e.0) }
+    ensures why { IfErr result (λ e. IsReason M.limits e.0) }
     ensures first { IfErr result (λ e. IsHistoryFirst M.limits journal.old.all e.0) }
     ensures boxed { IfErr result (λ e. T.means e.1 ≡ T.means boxed) }
 {

@@ -9,8 +9,8 @@ ghost use Rattle.comm_core.specs.Tables.{IdleWhere};
 ghost use Rattle.comm_core.specs.declared.call.Call.TheVariants as call;
 ghost use Rattle.comm_manager.specs.UnderLock.{counts};
 ghost use Rattle.comm_manager.specs.Mine.{IsAnswered, IsSettled, made};
-ghost use Rattle.comm_manager.specs.Who.{who};
-ghost use Rattle.comm_manager.specs.Why.{Because};
+ghost use Rattle.comm_manager.specs.ClientView.{client_view};
+ghost use Rattle.comm_manager.specs.Why.{IsReason};
 ghost use Rattle.comm_versions.specs.declared.reads.ReadFault.TheVariants as fault;
 
 use crate::answered::Answered;
@@ -39,14 +39,14 @@ pub struct Client<M: ManagerId> {
 impl<M: ManagerId> Model for Client<M> {
     ghost use Rattle.std.specs.Prelude.{◌<◌, ◌≤◌, length};
     ghost use Rattle.comm_core.specs.History.{mine};
-    ghost use Rattle.comm_manager.specs.Code.{who_code};
-    ghost use Rattle.comm_manager.specs.Who.{Who, who};
+    ghost use Rattle.comm_manager.specs.Code.{client_code};
+    ghost use Rattle.comm_manager.specs.ClientView.{ClientView, client_view};
 
-    ghost Value = { Who };
+    ghost Value = { ClientView };
 
-    ghost coded = { who_code };
+    ghost coded = { client_code };
 
-    ghost view = { λ c. who c.seq.client c.seq.number c.reader };
+    ghost view = { λ c. client_view c.seq.client c.seq.number c.reader };
 
     ghost invariant = { λ c.
         (c.seq.client < M.limits.clients) × (c.seq.number ≤ length (mine c.reader c.seq.client)) };
@@ -66,7 +66,7 @@ impl<M: ManagerId> Client<M> {
     pub(crate) fn new(reader: VersionReader<M>, seq: ClientSeq<M>) -> Client<M>
         requires below { seq.client < M.limits.clients }
         requires none { seq.number ≡ 0 }
-        ensures { result ≡ who seq.client 0 reader }
+        ensures { result ≡ client_view seq.client 0 reader }
     {
         Client { reader, seq }
     }
@@ -123,7 +123,7 @@ impl<M: ManagerId> Client<M> {
         ensures answered { IfOk result (λ a.
             IsAnswered M.limits self.old self.new call a.number a.reply a.stamp) }
         ensures err { OnErr result (self.new ≡ self.old) }
-        ensures why { IfErr result (λ e. Because M.limits e) }
+        ensures why { IfErr result (λ e. IsReason M.limits e) }
     {
         let made = manager.inner.lock(rt).ask(rt, manager.alloc, self, call);
         // Here the lock is let go: a target may take its time to end.
@@ -151,7 +151,7 @@ impl<M: ManagerId> Client<M> {
             (call.Register name (T.means target).kind (T.means target).notes)
             a.number a.reply a.stamp) }
         ensures err { OnErr result (self.new ≡ self.old) }
-        ensures why { IfErr result (λ e. Because M.limits e.0) }
+        ensures why { IfErr result (λ e. IsReason M.limits e.0) }
         ensures boxed { IfErr result (λ e. T.means e.1 ≡ T.means target) }
     {
         let made = manager
@@ -182,7 +182,7 @@ impl<M: ManagerId> Client<M> {
             IsAnswered M.limits self.old self.new
             (call.Open id target version body) a.number a.reply a.stamp) }
         ensures err { OnErr result (self.new ≡ self.old) }
-        ensures why { IfErr result (λ e. Because M.limits e) }
+        ensures why { IfErr result (λ e. IsReason M.limits e) }
     {
         self.ask(
             rt,
@@ -207,7 +207,7 @@ impl<M: ManagerId> Client<M> {
         ensures answered { IfOk result (λ a.
             IsAnswered M.limits self.old self.new (call.Msg id body) a.number a.reply a.stamp) }
         ensures err { OnErr result (self.new ≡ self.old) }
-        ensures why { IfErr result (λ e. Because M.limits e) }
+        ensures why { IfErr result (λ e. IsReason M.limits e) }
     {
         self.ask(rt, manager, Call::Msg { id, body })
     }
@@ -222,7 +222,7 @@ impl<M: ManagerId> Client<M> {
         ensures answered { IfOk result (λ a.
             IsAnswered M.limits self.old self.new (call.Close id) a.number a.reply a.stamp) }
         ensures err { OnErr result (self.new ≡ self.old) }
-        ensures why { IfErr result (λ e. Because M.limits e) }
+        ensures why { IfErr result (λ e. IsReason M.limits e) }
     {
         self.ask(rt, manager, Call::Close { id })
     }
@@ -237,7 +237,7 @@ impl<M: ManagerId> Client<M> {
         ensures answered { IfOk result (λ a.
             IsAnswered M.limits self.old self.new (call.Unregister name) a.number a.reply a.stamp) }
         ensures err { OnErr result (self.new ≡ self.old) }
-        ensures why { IfErr result (λ e. Because M.limits e) }
+        ensures why { IfErr result (λ e. IsReason M.limits e) }
     {
         self.ask(rt, manager, Call::Unregister { name })
     }
@@ -255,7 +255,7 @@ impl<M: ManagerId> Client<M> {
             IsAnswered M.limits self.old self.new
             (call.Launch id target state) a.number a.reply a.stamp) }
         ensures err { OnErr result (self.new ≡ self.old) }
-        ensures why { IfErr result (λ e. Because M.limits e) }
+        ensures why { IfErr result (λ e. IsReason M.limits e) }
     {
         self.ask(rt, manager, Call::Launch { id, target, state })
     }
@@ -271,7 +271,7 @@ impl<M: ManagerId> Client<M> {
         ensures answered { IfOk result (λ a.
             IsAnswered M.limits self.old self.new (call.Push id state) a.number a.reply a.stamp) }
         ensures err { OnErr result (self.new ≡ self.old) }
-        ensures why { IfErr result (λ e. Because M.limits e) }
+        ensures why { IfErr result (λ e. IsReason M.limits e) }
     {
         self.ask(rt, manager, Call::Push { id, state })
     }
@@ -287,7 +287,7 @@ impl<M: ManagerId> Client<M> {
         ensures answered { IfOk result (λ a.
             IsAnswered M.limits self.old self.new (call.Send id body) a.number a.reply a.stamp) }
         ensures err { OnErr result (self.new ≡ self.old) }
-        ensures why { IfErr result (λ e. Because M.limits e) }
+        ensures why { IfErr result (λ e. IsReason M.limits e) }
     {
         self.ask(rt, manager, Call::Send { id, body })
     }
@@ -302,7 +302,7 @@ impl<M: ManagerId> Client<M> {
         ensures answered { IfOk result (λ a.
             IsAnswered M.limits self.old self.new (call.HangUp id) a.number a.reply a.stamp) }
         ensures err { OnErr result (self.new ≡ self.old) }
-        ensures why { IfErr result (λ e. Because M.limits e) }
+        ensures why { IfErr result (λ e. IsReason M.limits e) }
     {
         self.ask(rt, manager, Call::HangUp { id })
     }

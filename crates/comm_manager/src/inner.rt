@@ -11,10 +11,10 @@ ghost use Rattle.comm_core.specs.declared.entry.Entry.TheVariants.{End};
 ghost use Rattle.comm_core.specs.declared.row.Row.TheVariants as row;
 ghost use Rattle.comm_targets.specs.Meaning.{IsIdle};
 ghost use Rattle.comm_manager.specs.Asked.{IsNext};
-ghost use Rattle.comm_outbox.specs.Sides.{entries_of, unfilled};
+ghost use Rattle.comm_outbox.specs.Sides.{entries_of, new_outbox};
 ghost use Rattle.comm_manager.specs.UnderLock.{OutboxInvariant, counts};
 ghost use Rattle.comm_manager.specs.Mine.{IsAnswered, IsSettled};
-ghost use Rattle.comm_manager.specs.Why.{Because, IsHistoryFirst};
+ghost use Rattle.comm_manager.specs.Why.{IsReason, IsHistoryFirst};
 
 use crate::change::{self, MadeChange};
 use crate::client::Client;
@@ -82,7 +82,7 @@ impl<M: ManagerId, T: Target> Inner<M, T> {
         requires core { core ≡ state limits.comms [] [] true }
         requires writer { (writer.front ≡ []) × (writer.pending ≡ []) }
         requires outbox { outbox
-            ≡ unfilled M.queue limits.clients limits.comms (limits.outbox + 1) }
+            ≡ new_outbox M.queue limits.clients limits.comms (limits.outbox + 1) }
         requires totals { totals ≡ 0 ∷ 0 ∷ 0 ∷ 0 ∷ [] }
         ensures { result ≡ [] }
     {
@@ -122,7 +122,7 @@ impl<M: ManagerId, T: Target> Inner<M, T> {
         ensures history { IfOk result (λ m. self.new ≡ m.answered.stamp) }
         ensures idle { IfOk result (λ m. IdleWhere m.ended) }
         ensures err { OnErr result ((client.new ≡ client.old) × (self.new ≡ self.old)) }
-        ensures why { IfErr result (λ e. Because M.limits e) }
+        ensures why { IfErr result (λ e. IsReason M.limits e) }
         ensures first { IfErr result (λ e. IsHistoryFirst M.limits self.old e) }
     {
         change::ask(
@@ -160,7 +160,7 @@ impl<M: ManagerId, T: Target> Inner<M, T> {
         ensures history { IfOk result (λ m. self.new ≡ m.answered.stamp) }
         ensures idle { IfOk result (λ m. IdleWhere m.ended) }
         ensures err { OnErr result ((client.new ≡ client.old) × (self.new ≡ self.old)) }
-        ensures why { IfErr result (λ e. Because M.limits e.0) }
+        ensures why { IfErr result (λ e. IsReason M.limits e.0) }
         ensures first { IfErr result (λ e. IsHistoryFirst M.limits self.old e.0) }
         ensures boxed { IfErr result (λ e. T.means e.1 ≡ T.means boxed) }
     {

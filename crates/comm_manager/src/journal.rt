@@ -17,13 +17,13 @@ pub struct Journal {
 impl Model for Journal {
     ghost use Rattle.std.specs.Prelude.{vec_len, vec_capacity, nat_lt};
     ghost use Rattle.comm_outbox.specs.Sides.{entries_of};
-    ghost use Rattle.comm_manager.specs.Journal.{Pages, pages_code, pages};
+    ghost use Rattle.comm_manager.specs.JournalView.{JournalView, journal_code, journal_view};
 
-    ghost Value = { Pages };
+    ghost Value = { JournalView };
 
-    ghost coded = { pages_code };
+    ghost coded = { journal_code };
 
-    ghost view = { λ j. pages (entries_of j.history.items)
+    ghost view = { λ j. journal_view (entries_of j.history.items)
         (nat_lt (vec_len j.history) (vec_capacity j.history)) };
 }
 

@@ -9,8 +9,8 @@
 //!
 //! A history is a list of entries, and it is legal where each entry is what the one-thread manager answers there
 //! (`IsLegal`, in `comm_core`'s `specs/History`). A front is a prefix of it. Contracts see a client as its number,
-//! how many changes it made, and the front that it has seen (`Who`); its answered changes are the first so many of
-//! its entries in that front (`made`, in `specs/Mine`).
+//! how many changes it made, and the front that it has seen (`ClientView`); its answered changes are the first so
+//! many of its entries in that front (`made`, in `specs/Mine`).
 //!
 //! *One history that holds each answered change once*:
 //!
@@ -18,7 +18,7 @@
 //!   and the very reply. It is one more of the client's changes, which are all that the front has of that client.
 //!   This is `answered` of the ten functions of [`Client`] that make a change (`IsAnswered`).
 //! - A change that isn't made leaves its client as it was, and has a reason that holds: a stamp of a whole history
-//!   that is full, at least as many entries waiting as may, or want of memory (`err`, `why` there; `Because`).
+//!   that is full, at least as many entries waiting as may, or want of memory (`err`, `why` there; `IsReason`).
 //! - All clients' fronts are prefixes of the one legal history, which has of each just the changes that were answered
 //!   to it, and an end last (`legal`, `ended`, `settled` of [`Manager::shutdown`]; `IsSettled`).
 //!

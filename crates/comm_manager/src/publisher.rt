@@ -2,8 +2,8 @@
 ghost use Rattle.std.specs.Prelude.{◌≡◌, ◌++◌, ◌∷◌, [], length, MatchOption};
 ghost use Rattle.std.specs.Arc.{arc_value};
 ghost use Rattle.comm_core.specs.History.{IsLegal};
-ghost use Rattle.comm_outbox.specs.Sides.{Taking};
-ghost use Rattle.comm_manager.specs.UnderLock.{taker};
+ghost use Rattle.comm_outbox.specs.Sides.{PublisherView};
+ghost use Rattle.comm_manager.specs.UnderLock.{publisher_after};
 
 use crate::manager_id::ManagerId;
 use comm_core::Entry;
@@ -23,7 +23,7 @@ impl<M: ManagerId> Model for Publisher<M> {
     ghost use Rattle.std.specs.Prelude.{◌≡◌, List};
     ghost use Rattle.comm_core.specs.declared.entry.Entry.{Entry};
     ghost use Rattle.comm_versions.specs.Code.{entries_code};
-    ghost use Rattle.comm_manager.specs.UnderLock.{taker};
+    ghost use Rattle.comm_manager.specs.UnderLock.{publisher_after};
 
     ghost Value = { List Entry };
 
@@ -31,13 +31,13 @@ impl<M: ManagerId> Model for Publisher<M> {
 
     ghost view = { λ p. p.side.taken };
 
-    ghost invariant = { λ p. p.side ≡ taker M.queue M.limits p.side.taken };
+    ghost invariant = { λ p. p.side ≡ publisher_after M.queue M.limits p.side.taken };
 }
 
 impl<M: ManagerId> Publisher<M> {
     /// Says by its type which manager the side is of.
     pub(crate) fn new(side: comm_outbox::Publisher) -> Publisher<M>
-        requires { side ≡ taker M.queue M.limits side.taken }
+        requires { side ≡ publisher_after M.queue M.limits side.taken }
         ensures { result ≡ side.taken }
     {
         Publisher {
@@ -67,7 +67,7 @@ impl<M: ManagerId> Publisher<M> {
 
     /// The side of the queue, without the type parameter.
     pub(crate) fn into_side(self) -> comm_outbox::Publisher
-        ensures { result ≡ taker M.queue M.limits self }
+        ensures { result ≡ publisher_after M.queue M.limits self }
     {
         self.side
     }

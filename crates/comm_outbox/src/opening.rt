@@ -1,6 +1,6 @@
 //! How a queue is made, with its two sides.
 ghost use Rattle.std.specs.Prelude.{◌≡◌, ◌≤◌, IfOk};
-ghost use Rattle.comm_outbox.specs.Sides.{unfilled, untouched};
+ghost use Rattle.comm_outbox.specs.Sides.{new_outbox, new_publisher};
 
 use crate::entry_queue::{EntryQueue, split};
 use crate::outgoing::Outbox;
@@ -18,8 +18,8 @@ pub fn outbox(
     comms: usize,
 ) -> Result<(Outbox, Publisher), AllocError>
     requires places { (1 ≤ places) × (places ≤ 65537) }
-    ensures puts { IfOk result (λ r. r.0 ≡ unfilled r.0.queue clients comms places) }
-    ensures takes { IfOk result (λ r. r.1 ≡ untouched r.0.queue clients comms) }
+    ensures puts { IfOk result (λ r. r.0 ≡ new_outbox r.0.queue clients comms places) }
+    ensures takes { IfOk result (λ r. r.1 ≡ new_publisher r.0.queue clients comms) }
 {
     let (queue, mut pass) = EntryQueue::ruled(alloc, places)?;
     let other = split::<Brand>(&queue, &mut pass, clients, comms);

@@ -33,12 +33,12 @@ impl Model for Outbox {
     ghost use Rattle.std.specs.Arc.{arc_value};
     ghost use Rattle.crossbeam_queue.specs.Passes.{view as known_at, IsPassOf, ruled_capacity};
     ghost use Rattle.comm_core.specs.History.{IsLegal};
-    ghost use Rattle.comm_outbox.specs.Code.{putting_code};
-    ghost use Rattle.comm_outbox.specs.Sides.{Putting};
+    ghost use Rattle.comm_outbox.specs.Code.{outbox_code};
+    ghost use Rattle.comm_outbox.specs.Sides.{OutboxView};
 
-    ghost Value = { Putting };
+    ghost Value = { OutboxView };
 
-    ghost coded = { putting_code };
+    ghost coded = { outbox_code };
 
     ghost view = { λ o. record {
       queue = o.pass.table_id;

@@ -2,7 +2,7 @@
 ghost use Rattle.std.specs.Prelude.{◌≡◌, ◌++◌, ◌∷◌, [], length, MatchOption};
 ghost use Rattle.std.specs.Arc.{arc_value};
 ghost use Rattle.comm_core.specs.History.{IsLegal};
-ghost use Rattle.comm_outbox.specs.Sides.{Taking};
+ghost use Rattle.comm_outbox.specs.Sides.{PublisherView};
 
 use crate::entry_queue::{EntryQueue, QueuePass, TakeStep};
 use comm_core::{Entry, prefixes_of_legal_histories_are_legal};
@@ -24,12 +24,12 @@ impl Model for Publisher {
     ghost use Rattle.std.specs.Arc.{arc_value};
     ghost use Rattle.crossbeam_queue.specs.Passes.{view as known_at, IsPassOf};
     ghost use Rattle.comm_core.specs.History.{IsLegal};
-    ghost use Rattle.comm_outbox.specs.Code.{taking_code};
-    ghost use Rattle.comm_outbox.specs.Sides.{Taking};
+    ghost use Rattle.comm_outbox.specs.Code.{publisher_code};
+    ghost use Rattle.comm_outbox.specs.Sides.{PublisherView};
 
-    ghost Value = { Taking };
+    ghost Value = { PublisherView };
 
-    ghost coded = { taking_code };
+    ghost coded = { publisher_code };
 
     ghost view = { λ p. record {
       queue = p.pass.table_id;

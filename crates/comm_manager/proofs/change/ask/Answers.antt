@@ -3,7 +3,7 @@ use Rattle.comm_messages.specs.declared.outgoing.Outgoing.{Outgoing}
 use Rattle.comm_core.specs.Ready.{machine}
 use Rattle.comm_core.specs.declared.entry.Entry.{Entry}
 use Rattle.comm_core.specs.declared.reply.Reply.{Reply}
-use Rattle.comm_manager.specs.Tally.{Tally, tally}
+use Rattle.comm_manager.specs.SeqView.{SeqView, seq_view}
 use Rattle.comm_manager.proofs.Growing.{admitted, count_is, small, may_follow, kept_after}
 use Rattle.comm_manager.proofs.change.ask.Goals as goal
 
@@ -12,7 +12,7 @@ build_entry-requires-clause-number g c κs within =
     let m = c.reserve.new in
     let known = c.in_default.ensures.known in
     let few = small g.M.History.limits c.args.journal.now.all c.args.core.now c.args.writer.now c.args.totals.now c.args.seq.now.client c.args.seq.now.number c.requires.kept known.0 known.1 in
-    let same = ap (λ (t : Tally). t.number) c.reserve.ensures.same.1 in
+    let same = ap (λ (t : SeqView). t.number) c.reserve.ensures.same.1 in
     omega arith
 
 pub build_entry-requires-clause-legal : goal.build_entry-requires-clause-legal
@@ -28,7 +28,7 @@ complete-number-requires-clause-number g c =
     let m = c.reserve.new in
     let known = c.in_default.ensures.known in
     let few = small g.M.History.limits c.args.journal.now.all c.args.core.now c.args.writer.now c.args.totals.now c.args.seq.now.client c.args.seq.now.number c.requires.kept known.0 known.1 in
-    let same = ap (λ (t : Tally). t.number) c.reserve.ensures.same.1 in
+    let same = ap (λ (t : SeqView). t.number) c.reserve.ensures.same.1 in
     omega arith
 
 pub returns-in-Ok-build_entry-clause-kept : goal.returns-in-Ok-build_entry-clause-kept
@@ -48,4 +48,4 @@ pub returns-in-Ok-build_entry-clause-seq : goal.returns-in-Ok-build_entry-clause
 returns-in-Ok-build_entry-clause-seq g c =
     let known = c.in_default.ensures.known in
     let counted = count_is g.M.History.limits c.args.journal.now.all c.args.core.now c.args.writer.now c.args.totals.now c.args.seq.now.client c.args.seq.now.number c.requires.kept known.0 known.1 in
-    (c.complete-number.ensures.seq ∙ ap (λ (t : Tally). tally t.client (t.number + 1)) c.reserve.ensures.same.1, counted)
+    (c.complete-number.ensures.seq ∙ ap (λ (t : SeqView). seq_view t.client (t.number + 1)) c.reserve.ensures.same.1, counted)

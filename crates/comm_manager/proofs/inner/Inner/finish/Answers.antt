@@ -4,7 +4,7 @@ use Rattle.comm_core.specs.History.{has_end}
 use Rattle.comm_core.specs.declared.entry.Entry.{Entry}
 use Rattle.comm_manager.specs.UnderLock.{counts}
 use Rattle.comm_manager.specs.Mine.{IsSettled}
-use Rattle.comm_manager.specs.Who.{Who}
+use Rattle.comm_manager.specs.ClientView.{ClientView}
 use Rattle.comm_manager.proofs.Growing.{has_end-end, counts-end}
 use Rattle.comm_manager.proofs.inner.Inner.finish.Goals as goal
 
@@ -17,4 +17,4 @@ settle_clients-requires-clause-totals g c =
 
 pub returns-in-Ok-clause-settled : goal.returns-in-Ok-clause-settled
 returns-in-Ok-clause-settled g c =
-    subst (λ (l : List Entry). All (λ (w : Who). IsSettled l w) c.args.clients.items) (sym (c.into_list.ensures ∙ c.in-Ok.ensures.history)) c.settle_clients.ensures
+    subst (λ (l : List Entry). All (λ (w : ClientView). IsSettled l w) c.args.clients.items) (sym (c.into_list.ensures ∙ c.in-Ok.ensures.history)) c.settle_clients.ensures

@@ -5,14 +5,14 @@ use Rattle.comm_core.specs.declared.entry.Entry.{Entry}
 use Rattle.comm_versions.specs.Code.{entries_code}
 
 -- its entries, and whether there is room for one more
-pub record Pages : Type 0 where
+pub record JournalView : Type 0 where
   pub all : List Entry
   pub room : Bool
 
-abbrev pub pages : List Entry → Bool → Pages
-pages all room = record { all = all; room = room }
+abbrev pub journal_view : List Entry → Bool → JournalView
+journal_view all room = record { all = all; room = room }
 
-abbrev pub pages_code : Coded Pages
-pages_code =
+abbrev pub journal_code : Coded JournalView
+journal_code =
     code_by (List Entry × Bool) (coded× entries_code coded_bool) (λ j. (j.all, j.room))
     (λ p. record { all = p.0; room = p.1 }) (λ _. refl)

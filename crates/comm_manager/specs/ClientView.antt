@@ -2,15 +2,15 @@
 use Rattle.std.specs.Prelude.{ℕ, zero, suc, List, [], ◌∷◌, ◌++◌}
 use Rattle.comm_core.specs.declared.entry.Entry.{Entry}
 
-pub record Who : Type 0 where
+pub record ClientView : Type 0 where
   pub client : ℕ
   pub number : ℕ
   pub seen : List Entry
 
-abbrev pub who : ℕ → ℕ → List Entry → Who
-who c n seen = record { client = c; number = n; seen = seen }
+abbrev pub client_view : ℕ → ℕ → List Entry → ClientView
+client_view c n seen = record { client = c; number = n; seen = seen }
 
 -- so many clients, who have made no change and seen nothing
-abbrev pub all_new : ℕ → List Who
+abbrev pub all_new : ℕ → List ClientView
 all_new zero = []
-all_new (suc n) = all_new n ++ who n 0 [] ∷ []
+all_new (suc n) = all_new n ++ client_view n 0 [] ∷ []
