@@ -165,12 +165,12 @@ kept_more limits h h' core core' writer writer' totals totals' c n d kept low at
     }
 
 -- what is kept stays where a change is admitted
-pub admitted : (limits : Limits) (h h1 : List Entry) (core : CoreValue) (w : WriterValue) (totals b1 : List ℕ) (t t1 : SeqView) → h1 ≡ h → (b1 ≡ totals) × (t1 ≡ t) → LockInvariant limits h core w totals
+pub admitted : (limits : Limits) (h h1 : List Entry) (core : CoreValue) (w w1 : WriterValue) (totals b1 : List ℕ) (t t1 : SeqView) → h1 ≡ h → w1 ≡ w → (b1 ≡ totals) × (t1 ≡ t) → LockInvariant limits h core w totals
     → (t.client < 4) × (slice_index totals t.client ≡ t.number) → t.client < limits.clients
-    → LockInvariant limits h1 core w b1 × (t1.client < 4) × (slice_index b1 t1.client ≡ t1.number) × (t1.client < limits.clients)
-admitted limits h h1 core w totals b1 t t1 his same kept known below =
-    subst (λ (x : List Entry × List ℕ × SeqView). LockInvariant limits x.0 core w x.1 × (x.2.client < 4) × (slice_index x.1 x.2.client ≡ x.2.number) × (x.2.client < limits.clients))
-    (λ i. (sym his i, sym same.0 i, sym same.1 i)) (kept, known.0, known.1, below)
+    → LockInvariant limits h1 core w1 b1 × (t1.client < 4) × (slice_index b1 t1.client ≡ t1.number) × (t1.client < limits.clients)
+admitted limits h h1 core w w1 totals b1 t t1 his wis same kept known below =
+    subst (λ (x : List Entry × WriterValue × List ℕ × SeqView). LockInvariant limits x.0 core x.1 x.2 × (x.3.client < 4) × (slice_index x.2 x.3.client ≡ x.3.number) × (x.3.client < limits.clients))
+    (λ i. (sym his i, sym wis i, sym same.0 i, sym same.1 i)) (kept, known.0, known.1, below)
 
 -- what stands ready after what is kept
 module _ (limits : Limits) (h : List Entry) (core ready : CoreValue) (w : WriterValue) (totals : List ℕ) (c n : ℕ) (d : Readied)

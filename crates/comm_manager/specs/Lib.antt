@@ -1,6 +1,7 @@
 pub mod Asked
 pub mod Code
 pub mod JournalView
+pub mod Log
 pub mod UnderLock
 pub mod Mine
 pub mod Names

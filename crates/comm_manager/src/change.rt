@@ -2,19 +2,19 @@
 ghost use Rattle.std.specs.Prelude.{◌≡◌, ◌+◌, ◌<◌, ◌≤◌, ◌^◌, ◌++◌, [], ◌∷◌, length, true, ◌⊎◌, IfOk, IfErr, IfSome, OnErr, OnOk, MatchOption, MatchResult, slice_index, slice_set};
 ghost use mathlib.Core.List.{IsPrefix};
 ghost use Rattle.std.specs.Arc.{arc_value};
-ghost use Rattle.comm_core.specs.History.{IsLegal, mine, replay};
+ghost use Rattle.comm_core.specs.History.{IsLegal, replay};
 ghost use Rattle.comm_core.specs.Ready.{CoreValue, HandsNothingIn, IsReady, machine};
 ghost use Rattle.comm_core.specs.Tables.{IdleWhere};
-ghost use Rattle.comm_core.specs.declared.call.Call.TheVariants as call;
 ghost use Rattle.comm_targets.specs.Meaning.{IsIdle};
-ghost use Rattle.comm_manager.specs.Asked.{IsNext, ready_entry};
-ghost use Rattle.comm_manager.specs.UnderLock.{LockInvariant, OutboxInvariant};
+ghost use Rattle.comm_manager.specs.Asked.{ready_entry};
+ghost use Rattle.comm_manager.specs.Log.{HasRoom, HasSeenAll, IsAppended, IsCounted, IsStampOf, IsTotal, IsUnchanged, LogInvariant, register_call};
+ghost use Rattle.comm_manager.specs.UnderLock.{OutboxInvariant};
 ghost use Rattle.comm_manager.specs.SeqView.{seq_view};
 ghost use Rattle.comm_manager.specs.Why.{IsReason, IsHistoryFirst};
 
 use crate::answered::Answered;
-use crate::journal::Journal;
-use crate::ledger::{ClientSeq, SeqTotals};
+use crate::change_log::ChangeLog;
+use crate::ledger::ClientSeq;
 use crate::manager_id::ManagerId;
 use comm_core::{
     Begun, Call, Core, Entry, Finished, Limits, Unavailable, legal_histories_grow, replays_grow,
@@ -133,38 +133,34 @@ fn check_seen<M: ManagerId, R: Wait>(rt: &R, reader: &VersionReader<M>, made: us
 // besides. The client made as many changes as the totals say, and has seen no more than there is.
 fn reserve<M: ManagerId, R: Wait>(
     rt: &R,
-    limits: &Limits,
-    journal: &mut Journal,
-    writer: &VersionWriter<M>,
-    outbox: &mut Outbox,
-    totals: &mut SeqTotals<M>,
+    log: &mut ChangeLog<M>,
     reader: &VersionReader<M>,
     seq: &mut ClientSeq<M>,
 ) -> Result<(), Unavailable<Stamp<M>>>
-    requires limits { limits.now ≡ M.limits }
-    requires front { writer.now.front ≡ journal.old.all }
-    requires few { length journal.old.all ≤ M.limits.history }
-    requires puts { OutboxInvariant M.queue M.limits journal.old.all outbox.old }
-    ensures history { journal.new.all ≡ journal.old.all }
-    ensures puts { OutboxInvariant M.queue M.limits journal.old.all outbox.new }
-    ensures same { (totals.new ≡ totals.old) × (seq.new ≡ seq.old) }
-    ensures room { OnOk result ((journal.new.room ≡ true) × (2 ≤ outbox.new.room)
-        × (length journal.old.all < M.limits.history)) }
-    ensures known { OnOk result ((seq.old.client < 4)
-        × (slice_index totals.old seq.old.client ≡ seq.old.number)) }
-    ensures seen { OnOk result (length reader.now ≤ length journal.old.all) }
+    requires limits { log.old.limits ≡ M.limits }
+    requires front { log.old.writer.front ≡ log.old.journal.all }
+    requires few { length log.old.journal.all ≤ M.limits.history }
+    requires puts { OutboxInvariant M.queue M.limits log.old.journal.all log.old.outbox }
+    ensures history { log.new.journal.all ≡ log.old.journal.all }
+    ensures limits { log.new.limits ≡ log.old.limits }
+    ensures writer { log.new.writer ≡ log.old.writer }
+    ensures puts { OutboxInvariant M.queue M.limits log.old.journal.all log.new.outbox }
+    ensures same { (log.new.totals ≡ log.old.totals) × (seq.new ≡ seq.old) }
+    ensures room { OnOk result (HasRoom M.limits log.new) }
+    ensures known { OnOk result (IsTotal log.old seq.old) }
+    ensures seen { OnOk result (length reader.now ≤ length log.old.journal.all) }
     ensures why { IfErr result (λ e. IsReason M.limits e) }
-    ensures first { IfErr result (λ e. IsHistoryFirst M.limits journal.old.all e) }
+    ensures first { IfErr result (λ e. IsHistoryFirst M.limits log.old.journal.all e) }
 {
-    let made = journal.len();
-    if let Some(why) = check_room(rt, limits, made, writer, outbox) {
+    let made = log.journal.len();
+    if let Some(why) = check_room(rt, &log.limits, made, &log.writer, &mut log.outbox) {
         return Err(why);
     }
-    if journal.reserve().is_err() {
+    if log.journal.reserve().is_err() {
         return Err(Unavailable::Memory);
     }
     check_seen(rt, reader, made);
-    totals.check(seq);
+    log.totals.check(seq);
     Ok(())
 }
 
@@ -172,79 +168,64 @@ fn reserve<M: ManagerId, R: Wait>(
 // of it, and it goes out. Gives the place of the entry, from 1, and the stamp. Nothing here takes memory or can fail.
 fn complete<M: ManagerId, R: Wait>(
     rt: &R,
-    journal: &mut Journal,
-    writer: &mut VersionWriter<M>,
-    outbox: &mut Outbox,
-    totals: &mut SeqTotals<M>,
+    log: &mut ChangeLog<M>,
     reader: &mut VersionReader<M>,
     seq: &mut ClientSeq<M>,
     kept: Arc<Entry, Global>,
     sent: Arc<Entry, Global>,
 ) -> (u64, Stamp<M>)
-    requires room { (journal.old.room ≡ true) × (2 ≤ outbox.old.room) }
-    requires puts { OutboxInvariant M.queue M.limits journal.old.all outbox.old }
+    requires room { (log.old.journal.room ≡ true) × (2 ≤ log.old.outbox.room) }
+    requires puts { OutboxInvariant M.queue M.limits log.old.journal.all log.old.outbox }
     requires one { arc_value sent ≡ arc_value kept }
-    requires pending { (writer.old.front ≡ journal.old.all)
-        × (writer.old.pending ≡ arc_value kept ∷ []) }
-    requires few { length journal.old.all < 4294967296 }
+    requires front { log.old.writer.front ≡ log.old.journal.all }
+    requires pending { log.old.writer.pending ≡ arc_value kept ∷ [] }
+    requires few { length log.old.journal.all < 4294967296 }
     requires number { seq.old.number < 2 ^ 62 }
-    requires seen { length reader.old ≤ length journal.old.all }
-    ensures history { journal.new.all ≡ journal.old.all ++ arc_value kept ∷ [] }
-    ensures front { (writer.new.front ≡ journal.new.all) × (writer.new.pending ≡ []) }
-    ensures stamp { (result.0 ≡ length journal.new.all) × (result.1 ≡ journal.new.all) }
-    ensures seen { (reader.new ≡ journal.new.all) × IsPrefix reader.old journal.old.all }
-    ensures puts { OutboxInvariant M.queue M.limits journal.new.all outbox.new }
-    ensures totals { totals.new ≡ slice_set totals.old seq.old.client (seq.old.number + 1) }
+    requires seen { length reader.old ≤ length log.old.journal.all }
+    ensures history { log.new.journal.all ≡ log.old.journal.all ++ arc_value kept ∷ [] }
+    ensures limits { log.new.limits ≡ log.old.limits }
+    ensures front { (log.new.writer.front ≡ log.new.journal.all) × (log.new.writer.pending ≡ []) }
+    ensures stamp { IsStampOf log.new result.0 result.1 }
+    ensures seen { HasSeenAll log.old log.new reader.old reader.new }
+    ensures puts { OutboxInvariant M.queue M.limits log.new.journal.all log.new.outbox }
+    ensures totals { log.new.totals ≡ slice_set log.old.totals seq.old.client (seq.old.number + 1) }
     ensures seq { seq.new ≡ seq_view seq.old.client (seq.old.number + 1) }
 {
-    journal.add(kept);
-    let stamp = publish(rt, writer, reader);
-    outbox.put(rt, sent);
-    totals.increment(seq);
+    log.journal.add(kept);
+    let stamp = publish(rt, &mut log.writer, reader);
+    log.outbox.put(rt, sent);
+    log.totals.increment(seq);
     (stamp.number(), stamp)
 }
 
-/// Makes one change of a client that hands no target in, in this order: room in the history and in the queue; the
-/// call is prepared; its entry is built and made pending; the change is made; its entry is appended, published, heard
-/// by its client, and put into the queue. Err: the change wasn't made, and all is as it was.
+/// Makes one change of a client that hands no target in, in this order: room in the history and in the queue; the call
+/// is prepared; its entry is built and made pending; the change is made; its entry is appended, published, heard by its
+/// client, and put into the queue. Err: the change wasn't made, and all is as it was.
 pub fn ask<M: ManagerId, T: Target, R: Wait>(
     rt: &R,
     alloc: Global,
-    limits: &Limits,
     core: &mut Core<T>,
-    journal: &mut Journal,
-    writer: &mut VersionWriter<M>,
-    outbox: &mut Outbox,
-    totals: &mut SeqTotals<M>,
+    log: &mut ChangeLog<M>,
     reader: &mut VersionReader<M>,
     seq: &mut ClientSeq<M>,
     call: Call,
 ) -> Result<MadeChange<M, T>, Unavailable<Stamp<M>>>
-    requires limits { limits.now ≡ M.limits }
-    requires kept { LockInvariant M.limits journal.old.all core.old writer.old totals.old }
-    requires puts { OutboxInvariant M.queue M.limits journal.old.all outbox.old }
+    requires kept { LogInvariant M.queue M.limits log.old core.old }
     requires below { seq.old.client < M.limits.clients }
     requires call { HandsNothingIn call }
-    ensures kept { LockInvariant M.limits journal.new.all core.new writer.new totals.new }
-    ensures puts { OutboxInvariant M.queue M.limits journal.new.all outbox.new }
-    ensures next { IfOk result (λ m.
-        IsNext journal.old.all journal.new.all seq.old.client
-        (seq.old.number + 1) call m.answered.reply) }
-    ensures stamp { IfOk result (λ m.
-        (m.answered.stamp ≡ journal.new.all) × (m.answered.number ≡ length journal.new.all)) }
-    ensures seen { IfOk result (λ m.
-        (reader.new ≡ journal.new.all) × IsPrefix reader.old journal.old.all) }
-    ensures seq { OnOk result ((seq.new ≡ seq_view seq.old.client (seq.old.number + 1))
-        × (length (mine journal.old.all seq.old.client) ≡ seq.old.number)) }
+    ensures kept { LogInvariant M.queue M.limits log.new core.new }
+    ensures next { IfOk result (λ m. IsAppended log.old log.new seq.old call m.answered.reply) }
+    ensures stamp { IfOk result (λ m. IsStampOf log.new m.answered.number m.answered.stamp) }
+    ensures seen { IfOk result (λ m. HasSeenAll log.old log.new reader.old reader.new) }
+    ensures seq { OnOk result (IsCounted log.old seq.old seq.new) }
     ensures idle { IfOk result (λ m. IdleWhere m.ended) }
-    ensures err { OnErr result ((seq.new ≡ seq.old) × (reader.new ≡ reader.old)
-        × (journal.new.all ≡ journal.old.all)) }
+    ensures err { OnErr result (IsUnchanged log.old log.new seq.old seq.new reader.old reader.new) }
     ensures why { IfErr result (λ e. IsReason M.limits e) }
-    ensures first { IfErr result (λ e. IsHistoryFirst M.limits journal.old.all e) }
+    ensures first { IfErr result (λ e. IsHistoryFirst M.limits log.old.journal.all e) }
 {
     replays_grow();
     legal_histories_grow();
-    if let Err(why) = reserve(rt, limits, journal, writer, outbox, totals, reader, seq) {
+    if let Err(why) = reserve(rt, log, reader, seq) {
         drop(call);
         return Err(why);
     }
@@ -256,16 +237,14 @@ pub fn ask<M: ManagerId, T: Target, R: Wait>(
         drop(copy);
         return Err(Unavailable::Memory);
     };
-    match build_entry(alloc, copy, &begun, writer, seq) {
+    match build_entry(alloc, copy, &begun, &mut log.writer, seq) {
         Ok((kept, sent)) => {
             let Finished {
                 reply,
                 outgoing: _outgoing,
                 ended,
             } = core.finish_begun(begun);
-            let (number, stamp) = complete(
-                rt, journal, writer, outbox, totals, reader, seq, kept, sent,
-            );
+            let (number, stamp) = complete(rt, log, reader, seq, kept, sent);
             Ok(MadeChange {
                 answered: Answered {
                     number,
@@ -286,43 +265,31 @@ pub fn ask<M: ManagerId, T: Target, R: Wait>(
 pub fn register<M: ManagerId, T: Target, R: Wait>(
     rt: &R,
     alloc: Global,
-    limits: &Limits,
     core: &mut Core<T>,
-    journal: &mut Journal,
-    writer: &mut VersionWriter<M>,
-    outbox: &mut Outbox,
-    totals: &mut SeqTotals<M>,
+    log: &mut ChangeLog<M>,
     reader: &mut VersionReader<M>,
     seq: &mut ClientSeq<M>,
     name: Text,
     boxed: T,
 ) -> Result<MadeChange<M, T>, (Unavailable<Stamp<M>>, T)>
-    requires limits { limits.now ≡ M.limits }
-    requires kept { LockInvariant M.limits journal.old.all core.old writer.old totals.old }
-    requires puts { OutboxInvariant M.queue M.limits journal.old.all outbox.old }
+    requires kept { LogInvariant M.queue M.limits log.old core.old }
     requires below { seq.old.client < M.limits.clients }
     requires idle { IsIdle (T.means boxed) }
-    ensures kept { LockInvariant M.limits journal.new.all core.new writer.new totals.new }
-    ensures puts { OutboxInvariant M.queue M.limits journal.new.all outbox.new }
+    ensures kept { LogInvariant M.queue M.limits log.new core.new }
     ensures next { IfOk result (λ m.
-        IsNext journal.old.all journal.new.all seq.old.client (seq.old.number + 1)
-        (call.Register name (T.means boxed).kind (T.means boxed).notes) m.answered.reply) }
-    ensures stamp { IfOk result (λ m.
-        (m.answered.stamp ≡ journal.new.all) × (m.answered.number ≡ length journal.new.all)) }
-    ensures seen { IfOk result (λ m.
-        (reader.new ≡ journal.new.all) × IsPrefix reader.old journal.old.all) }
-    ensures seq { OnOk result ((seq.new ≡ seq_view seq.old.client (seq.old.number + 1))
-        × (length (mine journal.old.all seq.old.client) ≡ seq.old.number)) }
+        IsAppended log.old log.new seq.old (register_call name (T.means boxed)) m.answered.reply) }
+    ensures stamp { IfOk result (λ m. IsStampOf log.new m.answered.number m.answered.stamp) }
+    ensures seen { IfOk result (λ m. HasSeenAll log.old log.new reader.old reader.new) }
+    ensures seq { OnOk result (IsCounted log.old seq.old seq.new) }
     ensures idle { IfOk result (λ m. IdleWhere m.ended) }
-    ensures err { OnErr result ((seq.new ≡ seq.old) × (reader.new ≡ reader.old)
-        × (journal.new.all ≡ journal.old.all)) }
+    ensures err { OnErr result (IsUnchanged log.old log.new seq.old seq.new reader.old reader.new) }
     ensures why { IfErr result (λ e. IsReason M.limits e.0) }
-    ensures first { IfErr result (λ e. IsHistoryFirst M.limits journal.old.all e.0) }
+    ensures first { IfErr result (λ e. IsHistoryFirst M.limits log.old.journal.all e.0) }
     ensures boxed { IfErr result (λ e. T.means e.1 ≡ T.means boxed) }
 {
     replays_grow();
     legal_histories_grow();
-    if let Err(why) = reserve(rt, limits, journal, writer, outbox, totals, reader, seq) {
+    if let Err(why) = reserve(rt, log, reader, seq) {
         drop(name);
         return Err((why, boxed));
     }
@@ -330,16 +297,14 @@ pub fn register<M: ManagerId, T: Target, R: Wait>(
         Ok(ready) => ready.into_parts(),
         Err((_, boxed)) => return Err((Unavailable::Memory, boxed)),
     };
-    match build_entry(alloc, call, &begun, writer, seq) {
+    match build_entry(alloc, call, &begun, &mut log.writer, seq) {
         Ok((kept, sent)) => {
             let Finished {
                 reply,
                 outgoing: _outgoing,
                 ended,
             } = core.finish_begun(begun);
-            let (number, stamp) = complete(
-                rt, journal, writer, outbox, totals, reader, seq, kept, sent,
-            );
+            let (number, stamp) = complete(rt, log, reader, seq, kept, sent);
             Ok(MadeChange {
                 answered: Answered {
                     number,

@@ -6,17 +6,18 @@ ghost use Rattle.comm_core.specs.History.{IsLegal, has_end};
 ghost use Rattle.comm_core.specs.Tables.{IdleWhere};
 ghost use Rattle.comm_core.specs.Limits.{AreAllowed};
 ghost use Rattle.comm_core.specs.Ready.{HandsNothingIn, state};
-ghost use Rattle.comm_core.specs.declared.call.Call.TheVariants as call;
 ghost use Rattle.comm_core.specs.declared.entry.Entry.TheVariants.{End};
 ghost use Rattle.comm_core.specs.declared.row.Row.TheVariants as row;
 ghost use Rattle.comm_targets.specs.Meaning.{IsIdle};
 ghost use Rattle.comm_manager.specs.Asked.{IsNext};
 ghost use Rattle.comm_outbox.specs.Sides.{entries_of, new_outbox};
+ghost use Rattle.comm_manager.specs.Log.{register_call};
 ghost use Rattle.comm_manager.specs.UnderLock.{OutboxInvariant, counts};
 ghost use Rattle.comm_manager.specs.Mine.{IsAnswered, IsSettled};
 ghost use Rattle.comm_manager.specs.Why.{IsReason, IsHistoryFirst};
 
 use crate::change::{self, MadeChange};
+use crate::change_log::ChangeLog;
 use crate::client::Client;
 use crate::journal::Journal;
 use crate::ledger::SeqTotals;
@@ -41,13 +42,9 @@ use std::sync::{Arc, Wait};
 /// tables and the targets, and nothing is staged. That is true whenever the lock is got, and is proved again of each
 /// call that is made under it.
 pub struct Inner<M: ManagerId, T: Target> {
-    limits: Limits,
     core: Core<T>,
-    journal: Journal,
-    // The kit can't prove how a writer would be dropped. It never is: `end` alone ends it.
-    writer: ManuallyDrop<VersionWriter<M>>,
-    outbox: Outbox,
-    totals: SeqTotals<M>,
+    // The kit can't prove how the log's writer would be dropped. It never is: `VersionWriter::end` alone ends it.
+    log: ManuallyDrop<ChangeLog<M>>,
 }
 
 impl<M: ManagerId, T: Target> Model for Inner<M, T> {
@@ -55,17 +52,15 @@ impl<M: ManagerId, T: Target> Model for Inner<M, T> {
     ghost use Rattle.comm_core.specs.declared.entry.Entry.{Entry};
     ghost use Rattle.comm_versions.specs.Code.{entries_code};
     ghost use Rattle.std.specs.Mem.{manually_drop_value};
-    ghost use Rattle.comm_manager.specs.UnderLock.{LockInvariant, OutboxInvariant};
+    ghost use Rattle.comm_manager.specs.Log.{LogInvariant};
 
     ghost Value = { List Entry };
 
     ghost coded = { entries_code };
 
-    ghost view = { λ s. s.journal.all };
+    ghost view = { λ s. (manually_drop_value s.log).journal.all };
 
-    ghost invariant = { λ s.
-        LockInvariant M.limits s.journal.all s.core (manually_drop_value s.writer) s.totals
-        × OutboxInvariant M.queue M.limits s.journal.all s.outbox × (s.limits ≡ M.limits) };
+    ghost invariant = { λ s. LogInvariant M.queue M.limits (manually_drop_value s.log) s.core };
 }
 
 impl<M: ManagerId, T: Target> Inner<M, T> {
@@ -86,13 +81,16 @@ impl<M: ManagerId, T: Target> Inner<M, T> {
         requires totals { totals ≡ 0 ∷ 0 ∷ 0 ∷ 0 ∷ [] }
         ensures { result ≡ [] }
     {
-        Inner {
+        let log = ChangeLog {
             limits,
-            core,
             journal: Journal::new(alloc),
-            writer: wrap_writer(writer),
+            writer,
             outbox,
             totals,
+        };
+        Inner {
+            core,
+            log: wrap_log(log),
         }
     }
 
@@ -100,7 +98,7 @@ impl<M: ManagerId, T: Target> Inner<M, T> {
     pub fn clients(&self) -> u8
         ensures { result ≡ M.limits.clients }
     {
-        self.limits.clients
+        self.log.limits.clients
     }
 
     /// Makes one change of a client that hands no target in: one entry more, at the end of the history, which stays
@@ -128,12 +126,8 @@ impl<M: ManagerId, T: Target> Inner<M, T> {
         change::ask(
             rt,
             alloc,
-            &self.limits,
             &mut self.core,
-            &mut self.journal,
-            &mut *self.writer,
-            &mut self.outbox,
-            &mut self.totals,
+            &mut *self.log,
             &mut client.reader,
             &mut client.seq,
             call,
@@ -152,11 +146,11 @@ impl<M: ManagerId, T: Target> Inner<M, T> {
         requires { IsIdle (T.means boxed) }
         ensures answered { IfOk result (λ m.
             IsAnswered M.limits client.old client.new
-            (call.Register name (T.means boxed).kind (T.means boxed).notes)
+            (register_call name (T.means boxed))
             m.answered.number m.answered.reply m.answered.stamp) }
         ensures next { IfOk result (λ m.
             IsNext self.old self.new client.old.client (client.old.number + 1)
-            (call.Register name (T.means boxed).kind (T.means boxed).notes) m.answered.reply) }
+            (register_call name (T.means boxed)) m.answered.reply) }
         ensures history { IfOk result (λ m. self.new ≡ m.answered.stamp) }
         ensures idle { IfOk result (λ m. IdleWhere m.ended) }
         ensures err { OnErr result ((client.new ≡ client.old) × (self.new ≡ self.old)) }
@@ -167,12 +161,8 @@ impl<M: ManagerId, T: Target> Inner<M, T> {
         change::register(
             rt,
             alloc,
-            &self.limits,
             &mut self.core,
-            &mut self.journal,
-            &mut *self.writer,
-            &mut self.outbox,
-            &mut self.totals,
+            &mut *self.log,
             &mut client.reader,
             &mut client.seq,
             name,
@@ -200,24 +190,24 @@ impl<M: ManagerId, T: Target> Inner<M, T> {
             publisher ++ entries_of f.untaken.items ≡ entries_of f.history.items) }
         ensures err { IfErr result (λ e. (e.0 ≡ self) × (e.1 ≡ clients) × (e.2 ≡ publisher)) }
     {
-        let Inner {
-            limits,
-            core,
-            mut journal,
-            writer,
-            mut outbox,
-            mut totals,
-        } = self;
-        let mut writer = ManuallyDrop::into_inner(writer);
+        let Inner { core, log } = self;
+        let mut log = ManuallyDrop::into_inner(log);
         match end_history(
             rt,
             alloc,
-            &mut journal,
-            &mut writer,
-            &mut outbox,
+            &mut log.journal,
+            &mut log.writer,
+            &mut log.outbox,
             &publisher,
         ) {
             Ok((last, room)) => {
+                let ChangeLog {
+                    limits: _limits,
+                    journal,
+                    writer,
+                    outbox,
+                    mut totals,
+                } = log;
                 settle_clients(&mut totals, clients, &last);
                 writer.end(rt);
                 core.stop_all();
@@ -228,12 +218,8 @@ impl<M: ManagerId, T: Target> Inner<M, T> {
             }
             Err(_) => Err((
                 Inner {
-                    limits,
                     core,
-                    journal,
-                    writer: wrap_writer(writer),
-                    outbox,
-                    totals,
+                    log: wrap_log(log),
                 },
                 clients,
                 publisher,
@@ -243,24 +229,24 @@ impl<M: ManagerId, T: Target> Inner<M, T> {
 
     /// Ends each target after its comms, and gives nothing back. It takes no memory.
     pub fn discard<R: Wait>(self, rt: &R) {
-        let Inner {
+        let Inner { core, log } = self;
+        let ChangeLog {
             limits: _limits,
-            core,
             journal: _journal,
             writer,
             outbox: _outbox,
-            totals: _books,
-        } = self;
-        ManuallyDrop::into_inner(writer).end(rt);
+            totals: _totals,
+        } = ManuallyDrop::into_inner(log);
+        writer.end(rt);
         core.stop_all();
     }
 }
 
-// The writer isn't dropped from now on. It is the one `unsafe` of this crate.
-fn wrap_writer<M: ManagerId>(writer: VersionWriter<M>) -> ManuallyDrop<VersionWriter<M>>
-    ensures { manually_drop_value result ≡ writer }
+// The log isn't dropped from now on. It is the one `unsafe` of this crate.
+fn wrap_log<M: ManagerId>(log: ChangeLog<M>) -> ManuallyDrop<ChangeLog<M>>
+    ensures { manually_drop_value result ≡ log }
 {
-    unsafe { ManuallyDrop::new_unchecked(writer) }
+    unsafe { ManuallyDrop::new_unchecked(log) }
 }
 
 /// What a manager leaves: all entries, an end as the last, and those of them that its publisher hadn't taken.

@@ -35,9 +35,10 @@
 //! *No target object ends while a comm of it is open*: a target is `Held`, which only `Held::end` lets go, and that
 //! asks that no comm of it is open; `stop_all` alone ends a `Core`. Neither can be dropped, so a body that forgets a
 //! target isn't accepted. That holds of code without `unsafe`: by `ManuallyDrop::new_unchecked` anything can be
-//! forgotten. `wrap_writer` in `src/inner.rt` is the one place of this crate that calls it, and what it wraps is the
-//! writer of the versions. That no comm is open by the target's own list means that none is by the machine's: this is
-//! the type of what lies under the lock (`comm_targets`, `comm_core`; `src/inner.rt`).
+//! forgotten. `wrap_log` in `src/inner.rt` is the one place of this crate that calls it, and what it wraps is the
+//! log, whose writer of the versions `VersionWriter::end` alone ends. That no comm is open by the target's own list
+//! means that none is by the machine's: this is the type of what lies under the lock (`comm_targets`, `comm_core`;
+//! `src/inner.rt`).
 //!
 //! Besides:
 //!
@@ -181,6 +182,7 @@
 mod answered;
 mod builder;
 mod change;
+mod change_log;
 mod client;
 mod inner;
 mod journal;
