@@ -11,9 +11,10 @@ use Rattle.ordered_table.proofs.table.Table.TheSendSync as Table
 use Rattle.comm_targets.specs.declared.target.Target as target
 use Rattle.comm_value.proofs.text.Text.TheSendSync as Text
 use Rattle.comm_versions.specs.declared.history.History as history
-use Rattle.comm_manager.proofs.ledger.Books.TheSendSync as Books
-use Rattle.comm_manager.proofs.ledger.Ticket.TheSendSync as Ticket
+use Rattle.comm_manager.proofs.ledger.SeqTotals.TheSendSync as SeqTotals
+use Rattle.comm_manager.proofs.ledger.ClientSeq.TheSendSync as ClientSeq
 use Rattle.comm_manager.specs.declared.manager_id.ManagerId as manager_id
+use Rattle.comm_manager.specs.contracts.change_log.ChangeLog as change_log
 use Rattle.comm_manager.specs.contracts.client.Client as client
 use Rattle.comm_manager.specs.contracts.inner.Inner as inner
 use Rattle.comm_manager.specs.contracts.publisher.Publisher as publisher
@@ -33,13 +34,16 @@ core_send T t s = search (sendable, crosses, comms_send, Boxes.the_send) depth 4
 
 module _ (M : RattleType) (n : manager_id.Ghosts M.Denot) (h : history.Ghosts M.Denot) (sj : IsSend M) (yj : IsSync M) where
   pub client_send : IsSend (client.the_row M n h)
-  client_send = let r = reader_send M h sj yj in search (sendable, crosses, Ticket.the_send) depth 40
+  client_send = let r = reader_send M h sj yj in search (sendable, crosses, ClientSeq.the_send) depth 40
 
   pub publisher_send : IsSend (publisher.the_row M n h)
   publisher_send = search (sendable, crosses, side_send) depth 40
 
+  pub log_send : IsSend (change_log.the_row M n h)
+  log_send = let w = writer_send M h sj yj in search (sendable, crosses, entry_send, entry_sync, outbox_send, SeqTotals.the_send) depth 40
+
   pub inner_send : (T : RattleType) (t : target.Ghosts T.Denot) → IsSend T → IsSend (inner.the_row M T n h t)
-  inner_send T t st = let w = writer_send M h sj yj in search (sendable, crosses, entry_send, entry_sync, core_send, outbox_send, Books.the_send) depth 40
+  inner_send T t st = let l = log_send in search (sendable, crosses, core_send) depth 40
 
   pub manager_sync : (T : RattleType) (t : target.Ghosts T.Denot) → IsSend T → IsSync (manager.the_row M T n h t)
   manager_sync T t st = let i = inner_send T t st in search (sendable, crosses) depth 40

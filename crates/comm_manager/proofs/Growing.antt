@@ -13,10 +13,10 @@ use Rattle.comm_core.specs.declared.entry.Entry.{Entry}
 use Rattle.comm_core.specs.declared.entry.Entry.TheVariants.{Change, End}
 use Rattle.comm_core.specs.declared.limits.Limits.{Limits}
 use Rattle.comm_core.specs.declared.reply.Reply.{Reply}
-use Rattle.comm_versions.specs.Known.{Written}
-use Rattle.comm_manager.specs.Asked.{entry_of}
-use Rattle.comm_manager.specs.Kept.{IsKept, Rests, counts}
-use Rattle.comm_manager.specs.Tally.{Tally}
+use Rattle.comm_versions.specs.Known.{WriterValue}
+use Rattle.comm_manager.specs.Asked.{ready_entry}
+use Rattle.comm_manager.specs.UnderLock.{LockInvariant, Rests, counts}
+use Rattle.comm_manager.specs.SeqView.{SeqView}
 
 -- ---- the entries of a client
 
@@ -84,12 +84,12 @@ has_end-snoc (Change c1 n1 k1 o1 r1 out1 ∷ es) c n k o r out h = has_end-snoc 
 
 -- ---- what is kept of a client
 
-pub count_is : (limits : Limits) (h : List Entry) (core : CoreValue) (writer : Written) (books : List ℕ) (c n : ℕ) → IsKept limits h core writer books → c < 4 → slice_index books c ≡ n → length (mine h c) ≡ n
-count_is limits h core writer books c n kept low at = known h c n low (subst (λ (l : List ℕ). slice_index l c ≡ n) kept.totals_are at)
+pub count_is : (limits : Limits) (h : List Entry) (core : CoreValue) (writer : WriterValue) (totals : List ℕ) (c n : ℕ) → LockInvariant limits h core writer totals → c < 4 → slice_index totals c ≡ n → length (mine h c) ≡ n
+count_is limits h core writer totals c n kept low at = known h c n low (subst (λ (l : List ℕ). slice_index l c ≡ n) kept.totals_are at)
 
-pub small : (limits : Limits) (h : List Entry) (core : CoreValue) (writer : Written) (books : List ℕ) (c n : ℕ) → IsKept limits h core writer books → c < 4 → slice_index books c ≡ n → n ≤ 4294967295
-small limits h core writer books c n kept low at =
-    let a = count_is limits h core writer books c n kept low at in
+pub small : (limits : Limits) (h : List Entry) (core : CoreValue) (writer : WriterValue) (totals : List ℕ) (c n : ℕ) → LockInvariant limits h core writer totals → c < 4 → slice_index totals c ≡ n → n ≤ 4294967295
+small limits h core writer totals c n kept low at =
+    let a = count_is limits h core writer totals c n kept low at in
     let b = mine_le h c in
     let d = kept.few in
     let e = kept.allowed.5 in
@@ -124,35 +124,35 @@ module _ (limits : Limits) (h : List Entry) (core begun : CoreValue) (c n : ℕ)
       (subst (λ (l : ℕ). Allowed (machine begun) (asks l (machine begun) d.call) d.outcome) within ready.allowed)
 
   -- its entry may follow
-  legal_more : Grows → IsLegal limits.clients limits.comms h → has_end h ≡ false → c < limits.clients → n ≡ length (mine h c) + 1 → IsLegal limits.clients limits.comms (h ++ entry_of c n d ∷ [])
+  legal_more : Grows → IsLegal limits.clients limits.comms h → has_end h ≡ false → c < limits.clients → n ≡ length (mine h c) + 1 → IsLegal limits.clients limits.comms (h ++ ready_entry c n d ∷ [])
   legal_more grows legal going below next =
-      let f : Follows limits.clients limits.comms h (entry_of c n d) = (
+      let f : Follows limits.clients limits.comms h (ready_entry c n d) = (
         going,
         below,
         next,
         allowed_here,
         (_, stepped _ ready.step_is, refl, refl),
       ) in
-      grows limits.clients limits.comms h (entry_of c n d) legal f
+      grows limits.clients limits.comms h (ready_entry c n d) legal f
 
   -- the tables, once it is done
   rests_more : (core' : CoreValue) (h' : List Entry) → Replays → step begun.limit (machine begun) d.call d.outcome ≡ Some (record { reply = d.reply; outgoing = d.outgoing; next = machine core' })
-      → core'.settled ≡ true → core'.limit ≡ begun.limit → h' ≡ h ++ entry_of c n d ∷ [] → Rests limits.comms h' core'
+      → core'.settled ≡ true → core'.limit ≡ begun.limit → h' ≡ h ++ ready_entry c n d ∷ [] → Rests limits.comms h' core'
   rests_more core' h' replays done settled limit' his =
-      let after : applied limits.comms (replay limits.comms h) (entry_of c n d) ≡ machine core' = ap (next_of (replay limits.comms h)) (stepped _ done) in
+      let after : applied limits.comms (replay limits.comms h) (ready_entry c n d) ≡ machine core' = ap (next_of (replay limits.comms h)) (stepped _ done) in
       record {
         settled = settled;
         limit_is = limit' ∙ within;
-        machine_is = sym after ∙ sym (replays limits.comms h (entry_of c n d)) ∙ ap (replay limits.comms) (sym his);
+        machine_is = sym after ∙ sym (replays limits.comms h (ready_entry c n d)) ∙ ap (replay limits.comms) (sym his);
       }
 
-kept_more : (limits : Limits) (h h' : List Entry) (core core' : CoreValue) (writer writer' : Written) (books books' : List ℕ) (c n : ℕ) (d : Readied)
-    → IsKept limits h core writer books → c < 4 → slice_index books c ≡ n → IsLegal limits.clients limits.comms (h ++ entry_of c (n + 1) d ∷ []) → Rests limits.comms h' core' → length h < limits.history
-    → h' ≡ h ++ entry_of c (n + 1) d ∷ [] → writer'.front ≡ h' → writer'.pending ≡ [] → books' ≡ slice_set books c (n + 1) → IsKept limits h' core' writer' books'
-kept_more limits h h' core core' writer writer' books books' c n d kept low at legal rests room his front pending bis =
-    let e = entry_of c (n + 1) d in
+kept_more : (limits : Limits) (h h' : List Entry) (core core' : CoreValue) (writer writer' : WriterValue) (totals totals' : List ℕ) (c n : ℕ) (d : Readied)
+    → LockInvariant limits h core writer totals → c < 4 → slice_index totals c ≡ n → IsLegal limits.clients limits.comms (h ++ ready_entry c (n + 1) d ∷ []) → Rests limits.comms h' core' → length h < limits.history
+    → h' ≡ h ++ ready_entry c (n + 1) d ∷ [] → writer'.front ≡ h' → writer'.pending ≡ [] → totals' ≡ slice_set totals c (n + 1) → LockInvariant limits h' core' writer' totals'
+kept_more limits h h' core core' writer writer' totals totals' c n d kept low at legal rests room his front pending bis =
+    let e = ready_entry c (n + 1) d in
     let long : length h' ≡ length h + 1 = ap length his ∙ length-append h (e ∷ []) in
-    let number = count_is limits h core writer books c n kept low at in
+    let number = count_is limits h core writer totals c n kept low at in
     record {
       legal = subst (λ (l : List Entry). IsLegal limits.clients limits.comms l) (sym his) legal;
       going = subst (λ (l : List Entry). has_end l ≡ false) (sym his) (has_end-snoc h c (n + 1) d.call d.outcome d.reply d.outgoing kept.going);
@@ -165,39 +165,39 @@ kept_more limits h h' core core' writer writer' books books' c n d kept low at l
     }
 
 -- what is kept stays where a change is admitted
-pub admitted : (limits : Limits) (h h1 : List Entry) (core : CoreValue) (w : Written) (books b1 : List ℕ) (t t1 : Tally) → h1 ≡ h → (b1 ≡ books) × (t1 ≡ t) → IsKept limits h core w books
-    → (t.client < 4) × (slice_index books t.client ≡ t.number) → t.client < limits.clients
-    → IsKept limits h1 core w b1 × (t1.client < 4) × (slice_index b1 t1.client ≡ t1.number) × (t1.client < limits.clients)
-admitted limits h h1 core w books b1 t t1 his same kept known below =
-    subst (λ (x : List Entry × List ℕ × Tally). IsKept limits x.0 core w x.1 × (x.2.client < 4) × (slice_index x.1 x.2.client ≡ x.2.number) × (x.2.client < limits.clients))
-    (λ i. (sym his i, sym same.0 i, sym same.1 i)) (kept, known.0, known.1, below)
+pub admitted : (limits : Limits) (h h1 : List Entry) (core : CoreValue) (w w1 : WriterValue) (totals b1 : List ℕ) (t t1 : SeqView) → h1 ≡ h → w1 ≡ w → (b1 ≡ totals) × (t1 ≡ t) → LockInvariant limits h core w totals
+    → (t.client < 4) × (slice_index totals t.client ≡ t.number) → t.client < limits.clients
+    → LockInvariant limits h1 core w1 b1 × (t1.client < 4) × (slice_index b1 t1.client ≡ t1.number) × (t1.client < limits.clients)
+admitted limits h h1 core w w1 totals b1 t t1 his wis same kept known below =
+    subst (λ (x : List Entry × WriterValue × List ℕ × SeqView). LockInvariant limits x.0 core x.1 x.2 × (x.3.client < 4) × (slice_index x.2 x.3.client ≡ x.3.number) × (x.3.client < limits.clients))
+    (λ i. (sym his i, sym wis i, sym same.0 i, sym same.1 i)) (kept, known.0, known.1, below)
 
 -- what stands ready after what is kept
-module _ (limits : Limits) (h : List Entry) (core ready : CoreValue) (w : Written) (books : List ℕ) (c n : ℕ) (d : Readied)
-    (kept : IsKept limits h core w books) (low : c < 4) (at : slice_index books c ≡ n)
+module _ (limits : Limits) (h : List Entry) (core ready : CoreValue) (w : WriterValue) (totals : List ℕ) (c n : ℕ) (d : Readied)
+    (kept : LockInvariant limits h core w totals) (low : c < 4) (at : slice_index totals c ≡ n)
     (stands : IsReady ready d) (same : machine ready ≡ machine core) (limit_is : ready.limit ≡ core.limit) where
   whole : w.front ++ w.pending ≡ h
   whole = ap (λ (l : List Entry). w.front ++ l) kept.pending_is ∙ (append-nil w.front ∙ kept.front_is)
 
-  legal_after : Grows → c < limits.clients → IsLegal limits.clients limits.comms (h ++ entry_of c (n + 1) d ∷ [])
+  legal_after : Grows → c < limits.clients → IsLegal limits.clients limits.comms (h ++ ready_entry c (n + 1) d ∷ [])
   legal_after grows below =
-      let counted = count_is limits h core w books c n kept low at in
+      let counted = count_is limits h core w totals c n kept low at in
       legal_more limits h core ready c (n + 1) d kept.rests stands same limit_is grows kept.legal kept.going below (ap (λ (k : ℕ). k + 1) (sym counted))
 
   -- its entry may follow what is published
-  pub may_follow : Grows → c < limits.clients → IsLegal limits.clients limits.comms ((w.front ++ w.pending) ++ entry_of c (n + 1) d ∷ [])
-  may_follow grows below = subst (λ (l : List Entry). IsLegal limits.clients limits.comms (l ++ entry_of c (n + 1) d ∷ [])) (sym whole) (legal_after grows below)
+  pub may_follow : Grows → c < limits.clients → IsLegal limits.clients limits.comms ((w.front ++ w.pending) ++ ready_entry c (n + 1) d ∷ [])
+  may_follow grows below = subst (λ (l : List Entry). IsLegal limits.clients limits.comms (l ++ ready_entry c (n + 1) d ∷ [])) (sym whole) (legal_after grows below)
 
   -- it stands ready after what is published
   pub after_front : (x : CoreValue) × IsReady x d × (machine x ≡ replay limits.comms (w.front ++ w.pending))
   after_front = (ready, stands, here limits h core ready c (n + 1) d kept.rests stands same limit_is ∙ ap (replay limits.comms) (sym whole))
 
   -- what is kept once it is done
-  pub kept_after : (h' : List Entry) (core' : CoreValue) (w' : Written) (books' : List ℕ) → Grows → Replays → c < limits.clients → length h < limits.history
+  pub kept_after : (h' : List Entry) (core' : CoreValue) (w' : WriterValue) (totals' : List ℕ) → Grows → Replays → c < limits.clients → length h < limits.history
       → step ready.limit (machine ready) d.call d.outcome ≡ Some (record { reply = d.reply; outgoing = d.outgoing; next = machine core' }) → core'.settled ≡ true → core'.limit ≡ ready.limit
-      → h' ≡ h ++ entry_of c (n + 1) d ∷ [] → w'.front ≡ h' → w'.pending ≡ [] → books' ≡ slice_set books c (n + 1) → IsKept limits h' core' w' books'
-  kept_after h' core' w' books' grows replays below room done settled limit' his front pending bis =
-      kept_more limits h h' core core' w w' books books' c n d kept low at (legal_after grows below)
+      → h' ≡ h ++ ready_entry c (n + 1) d ∷ [] → w'.front ≡ h' → w'.pending ≡ [] → totals' ≡ slice_set totals c (n + 1) → LockInvariant limits h' core' w' totals'
+  kept_after h' core' w' totals' grows replays below room done settled limit' his front pending bis =
+      kept_more limits h h' core core' w w' totals totals' c n d kept low at (legal_after grows below)
       (rests_more limits h core ready c (n + 1) d kept.rests stands same limit_is core' h' replays done settled limit' his) room his front pending bis
 
 -- ---- an end more

@@ -12,8 +12,8 @@ use Rattle.comm_core.specs.declared.reply.Reply.{Reply}
 use Rattle.comm_versions.proofs.Fronts.{prefix_whole, prefix_length, prefix_shorter}
 use Rattle.comm_manager.specs.Asked.{IsCall, IsNext}
 use Rattle.comm_manager.specs.Mine.{IsAnswered, IsSettled, made}
-use Rattle.comm_manager.specs.Tally.{Tally, tally}
-use Rattle.comm_manager.specs.Who.{Who, who}
+use Rattle.comm_manager.specs.SeqView.{SeqView, seq_view}
+use Rattle.comm_manager.specs.ClientView.{ClientView, client_view}
 
 same_client : (c : ℕ) → (c == c) ≡ true
 same_client c = grind (arith, nat_tests)
@@ -47,13 +47,13 @@ heard old new stamp es e is le one pre post =
     let begins : IsPrefix old stamp = subst (λ (l : List Entry). IsPrefix old l) same pre in
     (same, prefix_shorter old es stamp begins (e ∷ [], sym is) le)
 
-abbrev pub who_of : Tally → List Entry → Who
-who_of t seen = who t.client t.number seen
+abbrev pub view_of : SeqView → List Entry → ClientView
+view_of t seen = client_view t.client t.number seen
 
-made_more : (limits : Limits) (old new : Who) (before after : List Entry) (front : List Entry) (asked : Call) (reply : Reply) (n : ℕ)
+made_more : (limits : Limits) (old new : ClientView) (before after : List Entry) (front : List Entry) (asked : Call) (reply : Reply) (n : ℕ)
     → old.number ≤ length (mine old.seen old.client) → IsPrefix old.seen before → length (mine before old.client) ≡ old.number
     → IsNext before after old.client (old.number + 1) asked reply → IsLegal limits.clients limits.comms after → length after ≤ limits.history
-    → front ≡ after → n ≡ length after → new ≡ who old.client (old.number + 1) front
+    → front ≡ after → n ≡ length after → new ≡ client_view old.client (old.number + 1) front
     → IsAnswered limits old new asked n reply front × (new.number ≤ length (mine new.seen new.client))
 made_more limits old new before after front asked reply n some pre counted s legal few front_is n_is new_is =
     let c = old.client in
@@ -79,37 +79,37 @@ made_more limits old new before after front asked reply n some pre counted s leg
         more = now ∙ (all ∙ ap (λ l. l ++ e ∷ []) (sym past));
         whole = sym now;
       },
-      subst (λ (w : Who). w.number ≤ length (mine w.seen w.client)) (sym new_is) (omega arith),
+      subst (λ (w : ClientView). w.number ≤ length (mine w.seen w.client)) (sym new_is) (omega arith),
     )
 
 -- what a change leaves of its client
-pub after_change : {A E : Type 0} (r : Result A E) (reply_of : A → Reply) (stamp_of : A → List Entry) (number_of : A → ℕ) (limits : Limits) (asked : Call) (old : Who) (before after : List Entry) (seen : List Entry) (t : Tally)
+pub after_change : {A E : Type 0} (r : Result A E) (reply_of : A → Reply) (stamp_of : A → List Entry) (number_of : A → ℕ) (limits : Limits) (asked : Call) (old : ClientView) (before after : List Entry) (seen : List Entry) (t : SeqView)
     → old.number ≤ length (mine old.seen old.client) → IsLegal limits.clients limits.comms after → length after ≤ limits.history
     → IfOk r (λ a. IsNext before after old.client (old.number + 1) asked (reply_of a))
     → IfOk r (λ a. (stamp_of a ≡ after) × (number_of a ≡ length after)) → IfOk r (λ a. (seen ≡ after) × IsPrefix old.seen before)
-    → OnOk r ((t ≡ tally old.client (old.number + 1)) × (length (mine before old.client) ≡ old.number))
-    → OnErr r ((t ≡ tally old.client old.number) × (seen ≡ old.seen) × (after ≡ before))
-    → (t.client ≡ old.client) × (t.number ≤ length (mine seen t.client)) × IfOk r (λ a. IsAnswered limits old (who_of t seen) asked (number_of a) (reply_of a) (stamp_of a))
+    → OnOk r ((t ≡ seq_view old.client (old.number + 1)) × (length (mine before old.client) ≡ old.number))
+    → OnErr r ((t ≡ seq_view old.client old.number) × (seen ≡ old.seen) × (after ≡ before))
+    → (t.client ≡ old.client) × (t.number ≤ length (mine seen t.client)) × IfOk r (λ a. IsAnswered limits old (view_of t seen) asked (number_of a) (reply_of a) (stamp_of a))
 after_change (Ok a) reply_of stamp_of number_of limits asked old before after seen t some legal few next stamp saw number err =
-    let whole : who_of t seen ≡ who old.client (old.number + 1) (stamp_of a) =
-    ap (λ (x : Tally). who_of x seen) number.0 ∙ ap (λ (l : List Entry). who old.client (old.number + 1) l) (saw.0 ∙ sym stamp.0) in
-    let more = made_more limits old (who_of t seen) before after (stamp_of a) asked (reply_of a) (number_of a) some saw.1 number.1 next legal few stamp.0 stamp.1 whole in
-    (ap (λ (x : Tally). x.client) number.0, more.1, more.0)
+    let whole : view_of t seen ≡ client_view old.client (old.number + 1) (stamp_of a) =
+    ap (λ (x : SeqView). view_of x seen) number.0 ∙ ap (λ (l : List Entry). client_view old.client (old.number + 1) l) (saw.0 ∙ sym stamp.0) in
+    let more = made_more limits old (view_of t seen) before after (stamp_of a) asked (reply_of a) (number_of a) some saw.1 number.1 next legal few stamp.0 stamp.1 whole in
+    (ap (λ (x : SeqView). x.client) number.0, more.1, more.0)
 after_change (Err e) reply_of stamp_of number_of limits asked old before after seen t some legal few next stamp saw number err = (
-  ap (λ (x : Tally). x.client) err.0,
-  subst (λ (x : Tally). x.number ≤ length (mine seen x.client)) (sym err.0) (subst (λ (l : List Entry). old.number ≤ length (mine l old.client)) (sym err.1) some),
+  ap (λ (x : SeqView). x.client) err.0,
+  subst (λ (x : SeqView). x.number ≤ length (mine seen x.client)) (sym err.0) (subst (λ (l : List Entry). old.number ≤ length (mine l old.client)) (sym err.1) some),
   tt,
 )
 
 -- what a client made stays as it sees more
-pub made_stays : (c n : ℕ) (seen more : List Entry) → n ≤ length (mine seen c) → IsPrefix seen more → (n ≤ length (mine more c)) × (made (who c n more) ≡ made (who c n seen))
+pub made_stays : (c n : ℕ) (seen more : List Entry) → n ≤ length (mine seen c) → IsPrefix seen more → (n ≤ length (mine more c)) × (made (client_view c n more) ≡ made (client_view c n seen))
 made_stays c n seen more some pre =
     let p = mine_prefix c seen more pre in
     let le = prefix_length (mine seen c) (mine more c) p in
     (omega arith, ap (take n) (sym p.1) ∙ take_before n (mine seen c) p.0 some)
 
 -- all that a client made stands in the history that ended
-pub all_made : (history : List Entry) (w : Who) → IsPrefix w.seen history → w.number ≤ length (mine w.seen w.client) → length (mine history w.client) ≡ w.number → IsSettled history w
+pub all_made : (history : List Entry) (w : ClientView) → IsPrefix w.seen history → w.number ≤ length (mine w.seen w.client) → length (mine history w.client) ≡ w.number → IsSettled history w
 all_made history w pre some counted =
     let same : mine w.seen w.client ≡ mine history w.client = prefix_whole (mine w.seen w.client) (mine history w.client) (mine_prefix w.client w.seen history pre) (omega arith) in
     (pre, sym (ap (take w.number) same ∙ take_whole w.number (mine history w.client) (omega arith)))

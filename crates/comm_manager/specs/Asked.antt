@@ -10,11 +10,12 @@ use Rattle.comm_core.specs.declared.reply.Reply.{Reply}
 
 -- the entry is this call of the client, by this number, answered so
 abbrev pub IsCall : Entry → (client number : ℕ) → Call → Reply → Type 0
-IsCall e client number asked reply = (outcome : Option Outcome) × (outgoing : List Outgoing) × (e ≡ Change client number asked outcome reply outgoing)
+IsCall e client number asked reply =
+    (outcome : Option Outcome) × (outgoing : List Outgoing) × (e ≡ Change client number asked outcome reply outgoing)
 
 -- the entry of what stands ready
-abbrev pub entry_of : (client number : ℕ) → Readied → Entry
-entry_of client number r = Change client number r.call r.outcome r.reply r.outgoing
+abbrev pub ready_entry : (client number : ℕ) → Readied → Entry
+ready_entry client number r = Change client number r.call r.outcome r.reply r.outgoing
 
 -- the entry is the last one now
 pub record IsNext (before after : List Entry) (client number : ℕ) (asked : Call) (reply : Reply) : Type 0 where

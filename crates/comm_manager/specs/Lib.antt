@@ -1,10 +1,11 @@
 pub mod Asked
 pub mod Code
-pub mod Journal
-pub mod Kept
+pub mod JournalView
+pub mod Log
+pub mod UnderLock
 pub mod Mine
 pub mod Names
-pub mod Tally
-pub mod Tickets
-pub mod Who
+pub mod SeqView
+pub mod SeqShares
+pub mod ClientView
 pub mod Why

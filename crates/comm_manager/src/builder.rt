@@ -1,12 +1,12 @@
 //! What a manager is made of before it has a name.
 ghost use Rattle.std.specs.Prelude.{◌≡◌, ◌≤◌, ◌++◌, [], ◌∷◌, All, IfOk, IfErr, nat_lt, ◌+◌, ◌<◌, ◌-◌, vec_len, if◌then◌else◌};
 ghost use Rattle.comm_core.specs.Limits.{AreAllowed};
-ghost use Rattle.comm_manager.specs.Tally.{tally};
-ghost use Rattle.comm_manager.specs.Who.{who, all_new};
-ghost use Rattle.comm_manager.specs.Why.{Barred};
+ghost use Rattle.comm_manager.specs.SeqView.{seq_view};
+ghost use Rattle.comm_manager.specs.ClientView.{client_view, all_new};
+ghost use Rattle.comm_manager.specs.Why.{IsBarred};
 
 use crate::client::Client;
-use crate::ledger::{Ticket, Tickets};
+use crate::ledger::{ClientSeq, ClientSeqs};
 use crate::manager_id::ManagerId;
 use comm_core::{Limits, NewFault};
 use comm_outbox::{Outbox, outbox};
@@ -31,21 +31,34 @@ pub struct ManagerBuilder {
 impl Model for ManagerBuilder {
     ghost use Rattle.std.specs.Prelude.{◌≡◌, ◌+◌};
     ghost use Rattle.comm_core.specs.Limits.{AreAllowed};
-    ghost use Rattle.comm_outbox.specs.Sides.{unfilled, untouched};
+    ghost use Rattle.comm_outbox.specs.Sides.{new_outbox, new_publisher};
     ghost use Rattle.comm_manager.specs.Names.{Names};
 
     ghost Value = { Names };
 
-    ghost view = { λ o. record { book = o.history; first = o.first.name; second = o.second.name; third = o.third.name; fourth = o.fourth.name; queue = o.outbox.line; limits = o.limits } };
+    ghost view = { λ o. record {
+      book = o.history;
+      first = o.first.name;
+      second = o.second.name;
+      third = o.third.name;
+      fourth = o.fourth.name;
+      queue = o.outbox.queue;
+      limits = o.limits;
+    } };
 
-    ghost invariant = { λ o. (o.first.parts ≡ 1) × (o.second.parts ≡ 1) × (o.third.parts ≡ 1) × (o.fourth.parts ≡ 1) × AreAllowed o.limits × (o.outbox ≡ unfilled o.outbox.line o.limits.clients o.limits.comms (o.limits.outbox + 1)) × (o.publisher ≡ untouched o.outbox.line o.limits.clients o.limits.comms) };
+    ghost invariant = { λ o.
+        (o.first.parts ≡ 1) × (o.second.parts ≡ 1) × (o.third.parts ≡ 1) × (o.fourth.parts ≡ 1)
+        × AreAllowed o.limits
+        × (o.outbox ≡ new_outbox o.outbox.queue o.limits.clients o.limits.comms
+        (o.limits.outbox + 1))
+        × (o.publisher ≡ new_publisher o.outbox.queue o.limits.clients o.limits.comms) };
 }
 
 impl ManagerBuilder {
-    /// BadLimits exactly where a limit is out of its bounds, and Memory for want of it.
+    /// Makes the parts of a manager. Err: BadLimits exactly where a limit is out of its bounds, else Memory.
     pub fn new(alloc: Global, limits: Limits) -> Result<ManagerBuilder, NewFault>
         ensures limits { IfOk result (λ o. (o.limits ≡ limits) × AreAllowed limits) }
-        ensures err { IfErr result (λ e. Barred limits e) }
+        ensures err { IfErr result (λ e. IsBarred limits e) }
     {
         if !limits.are_allowed() {
             return Err(NewFault::BadLimits);
@@ -67,46 +80,49 @@ impl ManagerBuilder {
     }
 }
 
-// The clients and one more, if a reader is left for it.
-fn added<M: ManagerId>(
+// Adds a client with this number, if a reader is left for it.
+fn with_client<M: ManagerId>(
     clients: Vec<Client<M>>,
     readers: &mut Vec<VersionReader<M>>,
-    ticket: Ticket<M>,
+    seq: ClientSeq<M>,
 ) -> Result<Vec<Client<M>>, AllocError>
-    requires ticket { (ticket.client < 4) × (ticket.number ≡ 0) }
-    requires readers { vec_len readers.old ≡ M.limits.clients - ticket.client }
+    requires seq { (seq.client < 4) × (seq.number ≡ 0) }
+    requires readers { vec_len readers.old ≡ M.limits.clients - seq.client }
     requires none { All (λ r. r ≡ []) readers.old.items }
-    ensures clients { IfOk result (λ v. v.items ≡ (if nat_lt ticket.client M.limits.clients then clients.items ++ who ticket.client 0 [] ∷ [] else clients.items)) }
-    ensures readers { vec_len readers.new ≡ M.limits.clients - (ticket.client + 1) }
+    ensures clients { IfOk result (λ v.
+        v.items ≡ (if nat_lt seq.client M.limits.clients
+        then clients.items ++ client_view seq.client 0 [] ∷ [] else clients.items)) }
+    ensures readers { vec_len readers.new ≡ M.limits.clients - (seq.client + 1) }
     ensures none { All (λ r. r ≡ []) readers.new.items }
 {
     let mut clients = clients;
     if let Some(reader) = readers.pop() {
-        clients.push(Client::new(reader, ticket))?;
+        clients.push(Client::new(reader, seq))?;
     }
     Ok(clients)
 }
 
-/// The clients that a manager begins with, one for each reader.
+/// The clients that a manager begins with, one for each reader, in the order of their numbers. Err: memory.
 pub fn first_clients<M: ManagerId>(
     alloc: Global,
     readers: Vec<VersionReader<M>>,
-    tickets: Tickets<M>,
+    seqs: ClientSeqs<M>,
 ) -> Result<Vec<Client<M>>, AllocError>
     requires count { (1 ≤ M.limits.clients) × (M.limits.clients ≤ 4) }
     requires readers { (vec_len readers ≡ M.limits.clients) × All (λ r. r ≡ []) readers.items }
-    requires tickets { (tickets.first ≡ tally 0 0) × (tickets.second ≡ tally 1 0) × (tickets.third ≡ tally 2 0) × (tickets.fourth ≡ tally 3 0) }
+    requires seqs { (seqs.first ≡ seq_view 0 0) × (seqs.second ≡ seq_view 1 0)
+        × (seqs.third ≡ seq_view 2 0) × (seqs.fourth ≡ seq_view 3 0) }
     ensures { IfOk result (λ v. v.items ≡ all_new M.limits.clients) }
 {
-    let Tickets {
+    let ClientSeqs {
         first,
         second,
         third,
         fourth,
-    } = tickets;
+    } = seqs;
     let mut readers = readers;
-    let one = added(Vec::new(alloc), &mut readers, first)?;
-    let two = added(one, &mut readers, second)?;
-    let three = added(two, &mut readers, third)?;
-    added(three, &mut readers, fourth)
+    let one = with_client(Vec::new(alloc), &mut readers, first)?;
+    let two = with_client(one, &mut readers, second)?;
+    let three = with_client(two, &mut readers, third)?;
+    with_client(three, &mut readers, fourth)
 }

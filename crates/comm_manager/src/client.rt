@@ -1,4 +1,4 @@
-//! A client: its reader and its ticket, and what it may ask.
+//! A client: its reader, its sequence of changes, and what it may ask.
 ghost use Rattle.std.specs.Prelude.{◌≡◌, ◌+◌, ◌<◌, ◌⊎◌, length, true, IfOk, IfErr, OnErr, OnOk, IsErrOf, option_map};
 ghost use mathlib.Core.List.{IsPrefix};
 ghost use Rattle.comm_targets.specs.Meaning.{IsIdle};
@@ -7,15 +7,15 @@ ghost use Rattle.comm_core.specs.Reads.{infos, state_of};
 ghost use Rattle.comm_core.specs.Ready.{HandsNothingIn};
 ghost use Rattle.comm_core.specs.Tables.{IdleWhere};
 ghost use Rattle.comm_core.specs.declared.call.Call.TheVariants as call;
-ghost use Rattle.comm_manager.specs.Kept.{counts};
+ghost use Rattle.comm_manager.specs.UnderLock.{counts};
 ghost use Rattle.comm_manager.specs.Mine.{IsAnswered, IsSettled, made};
-ghost use Rattle.comm_manager.specs.Who.{who};
-ghost use Rattle.comm_manager.specs.Why.{Because};
+ghost use Rattle.comm_manager.specs.ClientView.{client_view};
+ghost use Rattle.comm_manager.specs.Why.{IsReason};
 ghost use Rattle.comm_versions.specs.declared.reads.ReadFault.TheVariants as fault;
 
 use crate::answered::Answered;
-use crate::change::Made;
-use crate::ledger::{Books, Ticket};
+use crate::change::MadeChange;
+use crate::ledger::{ClientSeq, SeqTotals};
 use crate::manager_id::ManagerId;
 use crate::shared::Manager;
 use comm_core::{Call, Unavailable};
@@ -28,26 +28,28 @@ use std::marker::Model;
 use std::sync::Wait;
 use uuid::Uuid;
 
-/// A client of a manager. Contracts see its number, from 0, how many of its changes were answered, and what it has seen.
+/// A caller's handle on a manager. Contracts see its number, from 0, how many of its changes were answered, and what
+/// it has seen.
 #[derive(Drop)]
 pub struct Client<M: ManagerId> {
     pub(crate) reader: VersionReader<M>,
-    pub(crate) ticket: Ticket<M>,
+    pub(crate) seq: ClientSeq<M>,
 }
 
 impl<M: ManagerId> Model for Client<M> {
     ghost use Rattle.std.specs.Prelude.{◌<◌, ◌≤◌, length};
     ghost use Rattle.comm_core.specs.History.{mine};
-    ghost use Rattle.comm_manager.specs.Code.{who_code};
-    ghost use Rattle.comm_manager.specs.Who.{Who, who};
+    ghost use Rattle.comm_manager.specs.Code.{client_code};
+    ghost use Rattle.comm_manager.specs.ClientView.{ClientView, client_view};
 
-    ghost Value = { Who };
+    ghost Value = { ClientView };
 
-    ghost coded = { who_code };
+    ghost coded = { client_code };
 
-    ghost view = { λ c. who c.ticket.client c.ticket.number c.reader };
+    ghost view = { λ c. client_view c.seq.client c.seq.number c.reader };
 
-    ghost invariant = { λ c. (c.ticket.client < M.limits.clients) × (c.ticket.number ≤ length (mine c.reader c.ticket.client)) };
+    ghost invariant = { λ c.
+        (c.seq.client < M.limits.clients) × (c.seq.number ≤ length (mine c.reader c.seq.client)) };
 }
 
 // Ends a target that a change took out, if it did.
@@ -60,22 +62,25 @@ fn end<T: Target>(ended: Option<Held<T>>)
 }
 
 impl<M: ManagerId> Client<M> {
-    pub(crate) fn new(reader: VersionReader<M>, ticket: Ticket<M>) -> Client<M>
-        requires below { ticket.client < M.limits.clients }
-        requires none { ticket.number ≡ 0 }
-        ensures { result ≡ who ticket.client 0 reader }
+    /// A client that has made no change.
+    pub(crate) fn new(reader: VersionReader<M>, seq: ClientSeq<M>) -> Client<M>
+        requires below { seq.client < M.limits.clients }
+        requires none { seq.number ≡ 0 }
+        ensures { result ≡ client_view seq.client 0 reader }
     {
-        Client { reader, ticket }
+        Client { reader, seq }
     }
 
     /// Its number, from 0.
+    #[must_use]
     pub fn id(&self) -> u8
         ensures { result ≡ self.now.client }
     {
-        self.ticket.client()
+        self.seq.client()
     }
 
-    /// How many entries it has seen.
+    /// How many entries it has seen. It takes no memory.
+    #[must_use]
     pub fn seen(&self) -> u64
         ensures length { result ≡ length self.now.seen }
         ensures legal { IsLegal M.limits.clients M.limits.comms self.now.seen }
@@ -83,28 +88,31 @@ impl<M: ManagerId> Client<M> {
         self.reader.seen()
     }
 
-    /// From now on it has seen no less than the stamp's front.
+    /// From now on it has seen no less than the stamp's front. It takes no memory.
     pub fn hear(&mut self, stamp: &Stamp<M>)
         ensures one { (self.new.seen ≡ self.old.seen) ⊎ (self.new.seen ≡ stamp.now) }
         ensures own { IsPrefix self.old.seen self.new.seen }
         ensures stamp { IsPrefix stamp.now self.new.seen }
-        ensures made { (self.new.client ≡ self.old.client) × (self.new.number ≡ self.old.number) × (made self.new ≡ made self.old) }
+        ensures made { (self.new.client ≡ self.old.client) × (self.new.number ≡ self.old.number)
+            × (made self.new ≡ made self.old) }
     {
         self.reader.hear(stamp);
     }
 
-    // What it has seen begins the history that ended, which has of it just what it made.
-    pub(crate) fn settle(&mut self, books: &mut Books<M>, last: &Stamp<M>)
+    /// A proof step at the end: what the client has seen is a prefix of the history that ended, which has of it just
+    /// what it made.
+    pub(crate) fn settle(&mut self, totals: &mut SeqTotals<M>, last: &Stamp<M>)
         requires ended { has_end last.now ≡ true }
-        requires books { books.old ≡ counts last.now }
-        ensures same { (self.new ≡ self.old) × (books.new ≡ books.old) }
+        requires totals { totals.old ≡ counts last.now }
+        ensures same { (self.new ≡ self.old) × (totals.new ≡ totals.old) }
         ensures settled { IsSettled last.now self.old }
     {
-        self.reader.within(last);
-        books.audit(&mut self.ticket);
+        self.reader.learn_ended(last);
+        totals.check(&mut self.seq);
     }
 
-    /// Makes the change that a call asks for, where it hands no target in: what the functions below do with the parts of one.
+    /// Makes the change of a call that hands no target in; the functions below put that call together. Err: the
+    /// change wasn't made, and why.
     pub fn ask<T: Target, R: Wait>(
         &mut self,
         rt: &R,
@@ -112,14 +120,15 @@ impl<M: ManagerId> Client<M> {
         call: Call,
     ) -> Result<Answered<M>, Unavailable<Stamp<M>>>
         requires { HandsNothingIn call }
-        ensures answered { IfOk result (λ a. IsAnswered M.limits self.old self.new call a.number a.reply a.stamp) }
+        ensures answered { IfOk result (λ a.
+            IsAnswered M.limits self.old self.new call a.number a.reply a.stamp) }
         ensures err { OnErr result (self.new ≡ self.old) }
-        ensures why { IfErr result (λ e. Because M.limits e) }
+        ensures why { IfErr result (λ e. IsReason M.limits e) }
     {
         let made = manager.inner.lock(rt).ask(rt, manager.alloc, self, call);
         // Here the lock is let go: a target may take its time to end.
         match made {
-            Ok(Made { answered, ended }) => {
+            Ok(MadeChange { answered, ended }) => {
                 end(ended);
                 Ok(answered)
             }
@@ -127,8 +136,8 @@ impl<M: ManagerId> Client<M> {
         }
     }
 
-    /// Registers a target under a name, in the place of the one that has it, if there is one: that one ends. Where the change isn't made, the
-    /// target comes back as it was.
+    /// Registers a target under a name, in the place of the one that has it, if there is one: that one ends. Err: the
+    /// change wasn't made, and the target comes back as it was.
     pub fn register<T: Target, R: Wait>(
         &mut self,
         rt: &R,
@@ -137,9 +146,12 @@ impl<M: ManagerId> Client<M> {
         target: T,
     ) -> Result<Answered<M>, (Unavailable<Stamp<M>>, T)>
         requires { IsIdle (T.means target) }
-        ensures answered { IfOk result (λ a. IsAnswered M.limits self.old self.new (call.Register name (T.means target).kind (T.means target).notes) a.number a.reply a.stamp) }
+        ensures answered { IfOk result (λ a.
+            IsAnswered M.limits self.old self.new
+            (call.Register name (T.means target).kind (T.means target).notes)
+            a.number a.reply a.stamp) }
         ensures err { OnErr result (self.new ≡ self.old) }
-        ensures why { IfErr result (λ e. Because M.limits e.0) }
+        ensures why { IfErr result (λ e. IsReason M.limits e.0) }
         ensures boxed { IfErr result (λ e. T.means e.1 ≡ T.means target) }
     {
         let made = manager
@@ -147,7 +159,7 @@ impl<M: ManagerId> Client<M> {
             .lock(rt)
             .register(rt, manager.alloc, self, name, target);
         match made {
-            Ok(Made { answered, ended }) => {
+            Ok(MadeChange { answered, ended }) => {
                 end(ended);
                 Ok(answered)
             }
@@ -155,7 +167,8 @@ impl<M: ManagerId> Client<M> {
         }
     }
 
-    /// Opens a comm towards a target, as the frontend asks.
+    /// Opens a comm towards a target, as the frontend asks by `comm_open`. `version` is the widget protocol's, of the
+    /// message's metadata.
     pub fn open_comm<T: Target, R: Wait>(
         &mut self,
         rt: &R,
@@ -165,9 +178,11 @@ impl<M: ManagerId> Client<M> {
         version: Option<Text>,
         body: Body,
     ) -> Result<Answered<M>, Unavailable<Stamp<M>>>
-        ensures answered { IfOk result (λ a. IsAnswered M.limits self.old self.new (call.Open id target version body) a.number a.reply a.stamp) }
+        ensures answered { IfOk result (λ a.
+            IsAnswered M.limits self.old self.new
+            (call.Open id target version body) a.number a.reply a.stamp) }
         ensures err { OnErr result (self.new ≡ self.old) }
-        ensures why { IfErr result (λ e. Because M.limits e) }
+        ensures why { IfErr result (λ e. IsReason M.limits e) }
     {
         self.ask(
             rt,
@@ -181,7 +196,7 @@ impl<M: ManagerId> Client<M> {
         )
     }
 
-    /// Hands a message of the frontend to a comm's target.
+    /// Hands a `comm_msg` of the frontend to the comm's target.
     pub fn message<T: Target, R: Wait>(
         &mut self,
         rt: &R,
@@ -189,42 +204,45 @@ impl<M: ManagerId> Client<M> {
         id: Text,
         body: Body,
     ) -> Result<Answered<M>, Unavailable<Stamp<M>>>
-        ensures answered { IfOk result (λ a. IsAnswered M.limits self.old self.new (call.Msg id body) a.number a.reply a.stamp) }
+        ensures answered { IfOk result (λ a.
+            IsAnswered M.limits self.old self.new (call.Msg id body) a.number a.reply a.stamp) }
         ensures err { OnErr result (self.new ≡ self.old) }
-        ensures why { IfErr result (λ e. Because M.limits e) }
+        ensures why { IfErr result (λ e. IsReason M.limits e) }
     {
         self.ask(rt, manager, Call::Msg { id, body })
     }
 
-    /// Closes a comm, as the frontend asks.
+    /// Closes a comm, as the frontend asks by `comm_close`.
     pub fn close_comm<T: Target, R: Wait>(
         &mut self,
         rt: &R,
         manager: &Manager<M, T>,
         id: Text,
     ) -> Result<Answered<M>, Unavailable<Stamp<M>>>
-        ensures answered { IfOk result (λ a. IsAnswered M.limits self.old self.new (call.Close id) a.number a.reply a.stamp) }
+        ensures answered { IfOk result (λ a.
+            IsAnswered M.limits self.old self.new (call.Close id) a.number a.reply a.stamp) }
         ensures err { OnErr result (self.new ≡ self.old) }
-        ensures why { IfErr result (λ e. Because M.limits e) }
+        ensures why { IfErr result (λ e. IsReason M.limits e) }
     {
         self.ask(rt, manager, Call::Close { id })
     }
 
-    /// Takes a target out, closing its comms.
+    /// Takes a target out: closes its comms, with a `comm_close` for each, and ends it.
     pub fn unregister<T: Target, R: Wait>(
         &mut self,
         rt: &R,
         manager: &Manager<M, T>,
         name: Text,
     ) -> Result<Answered<M>, Unavailable<Stamp<M>>>
-        ensures answered { IfOk result (λ a. IsAnswered M.limits self.old self.new (call.Unregister name) a.number a.reply a.stamp) }
+        ensures answered { IfOk result (λ a.
+            IsAnswered M.limits self.old self.new (call.Unregister name) a.number a.reply a.stamp) }
         ensures err { OnErr result (self.new ≡ self.old) }
-        ensures why { IfErr result (λ e. Because M.limits e) }
+        ensures why { IfErr result (λ e. IsReason M.limits e) }
     {
         self.ask(rt, manager, Call::Unregister { name })
     }
 
-    /// Opens a widget's comm for the kernel, with this state.
+    /// Opens a widget's comm for the kernel, with this state; sends `comm_open`.
     pub fn launch<T: Target, R: Wait>(
         &mut self,
         rt: &R,
@@ -233,14 +251,16 @@ impl<M: ManagerId> Client<M> {
         target: Text,
         state: Dict,
     ) -> Result<Answered<M>, Unavailable<Stamp<M>>>
-        ensures answered { IfOk result (λ a. IsAnswered M.limits self.old self.new (call.Launch id target state) a.number a.reply a.stamp) }
+        ensures answered { IfOk result (λ a.
+            IsAnswered M.limits self.old self.new
+            (call.Launch id target state) a.number a.reply a.stamp) }
         ensures err { OnErr result (self.new ≡ self.old) }
-        ensures why { IfErr result (λ e. Because M.limits e) }
+        ensures why { IfErr result (λ e. IsReason M.limits e) }
     {
         self.ask(rt, manager, Call::Launch { id, target, state })
     }
 
-    /// Changes these keys of a widget's state for the kernel.
+    /// Changes these keys of a widget's state for the kernel; sends an `update` with just them.
     pub fn push<T: Target, R: Wait>(
         &mut self,
         rt: &R,
@@ -248,14 +268,15 @@ impl<M: ManagerId> Client<M> {
         id: Text,
         state: Dict,
     ) -> Result<Answered<M>, Unavailable<Stamp<M>>>
-        ensures answered { IfOk result (λ a. IsAnswered M.limits self.old self.new (call.Push id state) a.number a.reply a.stamp) }
+        ensures answered { IfOk result (λ a.
+            IsAnswered M.limits self.old self.new (call.Push id state) a.number a.reply a.stamp) }
         ensures err { OnErr result (self.new ≡ self.old) }
-        ensures why { IfErr result (λ e. Because M.limits e) }
+        ensures why { IfErr result (λ e. IsReason M.limits e) }
     {
         self.ask(rt, manager, Call::Push { id, state })
     }
 
-    /// Sends a message of the kernel on a comm.
+    /// Sends a `comm_msg` of the kernel on a comm, past its target.
     pub fn send<T: Target, R: Wait>(
         &mut self,
         rt: &R,
@@ -263,48 +284,56 @@ impl<M: ManagerId> Client<M> {
         id: Text,
         body: Body,
     ) -> Result<Answered<M>, Unavailable<Stamp<M>>>
-        ensures answered { IfOk result (λ a. IsAnswered M.limits self.old self.new (call.Send id body) a.number a.reply a.stamp) }
+        ensures answered { IfOk result (λ a.
+            IsAnswered M.limits self.old self.new (call.Send id body) a.number a.reply a.stamp) }
         ensures err { OnErr result (self.new ≡ self.old) }
-        ensures why { IfErr result (λ e. Because M.limits e) }
+        ensures why { IfErr result (λ e. IsReason M.limits e) }
     {
         self.ask(rt, manager, Call::Send { id, body })
     }
 
-    /// Closes a comm for the kernel.
+    /// Closes a comm for the kernel; sends `comm_close`.
     pub fn hang_up<T: Target, R: Wait>(
         &mut self,
         rt: &R,
         manager: &Manager<M, T>,
         id: Text,
     ) -> Result<Answered<M>, Unavailable<Stamp<M>>>
-        ensures answered { IfOk result (λ a. IsAnswered M.limits self.old self.new (call.HangUp id) a.number a.reply a.stamp) }
+        ensures answered { IfOk result (λ a.
+            IsAnswered M.limits self.old self.new (call.HangUp id) a.number a.reply a.stamp) }
         ensures err { OnErr result (self.new ≡ self.old) }
-        ensures why { IfErr result (λ e. Because M.limits e) }
+        ensures why { IfErr result (λ e. IsReason M.limits e) }
     {
         self.ask(rt, manager, Call::HangUp { id })
     }
 
-    /// The open comms with the names of their targets, those of one target where a name is given, as they are after the changes that it has seen
-    /// then. It enters no lock. NoVersion, as may come after the manager was discarded, leaves what was seen; Memory may have made it longer.
+    /// The open comms with the names of their targets, all or those of one target, after the changes that the client
+    /// has then seen. It enters no lock. Err: NoVersion, as may come after the manager was discarded, leaves what was
+    /// seen; Memory may have made it longer.
     pub fn comm_info(&mut self, alloc: Global, target: Option<&Text>) -> Result<InfoRead, ReadFault>
         ensures later { IsPrefix self.old.seen self.new.seen }
-        ensures made { (self.new.client ≡ self.old.client) × (self.new.number ≡ self.old.number) × (made self.new ≡ made self.old) }
+        ensures made { (self.new.client ≡ self.old.client) × (self.new.number ≡ self.old.number)
+            × (made self.new ≡ made self.old) }
         ensures legal { OnOk result (IsLegal M.limits.clients M.limits.comms self.new.seen) }
         ensures front { IfOk result (λ r. r.front ≡ length self.new.seen) }
-        ensures answer { IfOk result (λ r. r.comms ≡ infos (replay M.limits.comms self.new.seen) (option_map (λ t. t.now) target.entry)) }
+        ensures answer { IfOk result (λ r.
+            r.comms ≡ infos (replay M.limits.comms self.new.seen)
+            (option_map (λ t. t.now) target.entry)) }
         ensures none { IsErrOf result fault.NoVersion → self.new ≡ self.old }
     {
         self.reader.read_infos(alloc, target)
     }
 
-    /// The state of a comm, as it is after the changes that it has seen then. It enters no lock. NoVersion leaves what was seen; Memory may have
-    /// made it longer.
+    /// The state of a comm, after the changes that the client has then seen. It enters no lock. Err: NoVersion leaves
+    /// what was seen; Memory may have made it longer.
     pub fn state(&mut self, id: &Text) -> Result<StateRead, ReadFault>
         ensures later { IsPrefix self.old.seen self.new.seen }
-        ensures made { (self.new.client ≡ self.old.client) × (self.new.number ≡ self.old.number) × (made self.new ≡ made self.old) }
+        ensures made { (self.new.client ≡ self.old.client) × (self.new.number ≡ self.old.number)
+            × (made self.new ≡ made self.old) }
         ensures legal { OnOk result (IsLegal M.limits.clients M.limits.comms self.new.seen) }
         ensures front { IfOk result (λ r. r.front ≡ length self.new.seen) }
-        ensures answer { IfOk result (λ r. r.answer ≡ state_of (replay M.limits.comms self.new.seen) id.now) }
+        ensures answer { IfOk result (λ r.
+            r.answer ≡ state_of (replay M.limits.comms self.new.seen) id.now) }
         ensures none { IsErrOf result fault.NoVersion → self.new ≡ self.old }
     {
         self.reader.read_state(id)

@@ -5,21 +5,22 @@ ghost use Rattle.std.specs.Mem.{manually_drop_value};
 ghost use Rattle.comm_core.specs.History.{IsLegal, has_end};
 ghost use Rattle.comm_core.specs.Tables.{IdleWhere};
 ghost use Rattle.comm_core.specs.Limits.{AreAllowed};
-ghost use Rattle.comm_core.specs.Ready.{HandsNothingIn};
-ghost use Rattle.comm_core.specs.declared.call.Call.TheVariants as call;
+ghost use Rattle.comm_core.specs.Ready.{HandsNothingIn, state};
 ghost use Rattle.comm_core.specs.declared.entry.Entry.TheVariants.{End};
 ghost use Rattle.comm_core.specs.declared.row.Row.TheVariants as row;
 ghost use Rattle.comm_targets.specs.Meaning.{IsIdle};
 ghost use Rattle.comm_manager.specs.Asked.{IsNext};
-ghost use Rattle.comm_outbox.specs.Sides.{entries_of, unfilled};
-ghost use Rattle.comm_manager.specs.Kept.{Puts, counts};
+ghost use Rattle.comm_outbox.specs.Sides.{entries_of, new_outbox};
+ghost use Rattle.comm_manager.specs.Log.{register_call};
+ghost use Rattle.comm_manager.specs.UnderLock.{OutboxInvariant, counts};
 ghost use Rattle.comm_manager.specs.Mine.{IsAnswered, IsSettled};
-ghost use Rattle.comm_manager.specs.Why.{Because, IsHistoryFirst};
+ghost use Rattle.comm_manager.specs.Why.{IsReason, IsHistoryFirst};
 
-use crate::change::{self, Made};
+use crate::change::{self, MadeChange};
+use crate::change_log::ChangeLog;
 use crate::client::Client;
 use crate::journal::Journal;
-use crate::ledger::Books;
+use crate::ledger::SeqTotals;
 use crate::manager_id::ManagerId;
 use crate::publisher::Publisher;
 use comm_core::{
@@ -34,18 +35,16 @@ use std::marker::Model;
 use std::mem::ManuallyDrop;
 use std::sync::{Arc, Wait};
 
-/// A one-thread manager with its history, which is published to the readers and goes out through the queue, and how many changes each client made.
+/// A one-thread manager with its history, which is published to the readers and goes out through the queue, and how
+/// many changes each client made.
 ///
-/// The history is legal, is what is published and what was put into the queue, its replay is the machine of the tables and the targets, and nothing
-/// is staged: that is true whenever the lock is got, and is proved again of each call that is made under it.
+/// The history is legal, is what is published and what was put into the queue; its replay is the machine of the
+/// tables and the targets, and nothing is staged. That is true whenever the lock is got, and is proved again of each
+/// call that is made under it.
 pub struct Inner<M: ManagerId, T: Target> {
-    limits: Limits,
     core: Core<T>,
-    journal: Journal,
-    // the kit can't prove how a writer would be dropped; it never is: `end` alone ends it
-    writer: ManuallyDrop<VersionWriter<M>>,
-    outbox: Outbox,
-    books: Books<M>,
+    // The kit can't prove how the log's writer would be dropped. It never is: `VersionWriter::end` alone ends it.
+    log: ManuallyDrop<ChangeLog<M>>,
 }
 
 impl<M: ManagerId, T: Target> Model for Inner<M, T> {
@@ -53,15 +52,15 @@ impl<M: ManagerId, T: Target> Model for Inner<M, T> {
     ghost use Rattle.comm_core.specs.declared.entry.Entry.{Entry};
     ghost use Rattle.comm_versions.specs.Code.{entries_code};
     ghost use Rattle.std.specs.Mem.{manually_drop_value};
-    ghost use Rattle.comm_manager.specs.Kept.{IsKept, Puts};
+    ghost use Rattle.comm_manager.specs.Log.{LogInvariant};
 
     ghost Value = { List Entry };
 
     ghost coded = { entries_code };
 
-    ghost view = { λ s. s.journal.all };
+    ghost view = { λ s. (manually_drop_value s.log).journal.all };
 
-    ghost invariant = { λ s. IsKept M.limits s.journal.all s.core (manually_drop_value s.writer) s.books × Puts M.queue M.limits s.journal.all s.outbox × (s.limits ≡ M.limits) };
+    ghost invariant = { λ s. LogInvariant M.queue M.limits (manually_drop_value s.log) s.core };
 }
 
 impl<M: ManagerId, T: Target> Inner<M, T> {
@@ -72,22 +71,26 @@ impl<M: ManagerId, T: Target> Inner<M, T> {
         core: Core<T>,
         writer: VersionWriter<M>,
         outbox: Outbox,
-        books: Books<M>,
+        totals: SeqTotals<M>,
     ) -> Inner<M, T>
         requires limits { (limits ≡ M.limits) × AreAllowed limits }
-        requires core { core ≡ record { limit = limits.comms; boxes = []; comms = []; settled = true } }
+        requires core { core ≡ state limits.comms [] [] true }
         requires writer { (writer.front ≡ []) × (writer.pending ≡ []) }
-        requires outbox { outbox ≡ unfilled M.queue limits.clients limits.comms (limits.outbox + 1) }
-        requires books { books ≡ 0 ∷ 0 ∷ 0 ∷ 0 ∷ [] }
+        requires outbox { outbox
+            ≡ new_outbox M.queue limits.clients limits.comms (limits.outbox + 1) }
+        requires totals { totals ≡ 0 ∷ 0 ∷ 0 ∷ 0 ∷ [] }
         ensures { result ≡ [] }
     {
-        Inner {
+        let log = ChangeLog {
             limits,
-            core,
             journal: Journal::new(alloc),
-            writer: kept(writer),
+            writer,
             outbox,
-            books,
+            totals,
+        };
+        Inner {
+            core,
+            log: wrap_log(log),
         }
     }
 
@@ -95,43 +98,43 @@ impl<M: ManagerId, T: Target> Inner<M, T> {
     pub fn clients(&self) -> u8
         ensures { result ≡ M.limits.clients }
     {
-        self.limits.clients
+        self.log.limits.clients
     }
 
-    /// One change of a client that hands no target in: one entry more, at the end of the history, which stays legal, is published and goes out. Or
-    /// nothing changes.
+    /// Makes one change of a client that hands no target in: one entry more, at the end of the history, which stays
+    /// legal, is published and goes out. Err: nothing changed.
     pub fn ask<R: Wait>(
         &mut self,
         rt: &R,
         alloc: Global,
         client: &mut Client<M>,
         call: Call,
-    ) -> Result<Made<M, T>, Unavailable<Stamp<M>>>
+    ) -> Result<MadeChange<M, T>, Unavailable<Stamp<M>>>
         requires { HandsNothingIn call }
-        ensures answered { IfOk result (λ m. IsAnswered M.limits client.old client.new call m.answered.number m.answered.reply m.answered.stamp) }
-        ensures next { IfOk result (λ m. IsNext self.old self.new client.old.client (client.old.number + 1) call m.answered.reply) }
+        ensures answered { IfOk result (λ m.
+            IsAnswered M.limits client.old client.new call
+            m.answered.number m.answered.reply m.answered.stamp) }
+        ensures next { IfOk result (λ m.
+            IsNext self.old self.new client.old.client
+            (client.old.number + 1) call m.answered.reply) }
         ensures history { IfOk result (λ m. self.new ≡ m.answered.stamp) }
         ensures idle { IfOk result (λ m. IdleWhere m.ended) }
         ensures err { OnErr result ((client.new ≡ client.old) × (self.new ≡ self.old)) }
-        ensures why { IfErr result (λ e. Because M.limits e) }
+        ensures why { IfErr result (λ e. IsReason M.limits e) }
         ensures first { IfErr result (λ e. IsHistoryFirst M.limits self.old e) }
     {
         change::ask(
             rt,
             alloc,
-            &self.limits,
             &mut self.core,
-            &mut self.journal,
-            &mut *self.writer,
-            &mut self.outbox,
-            &mut self.books,
+            &mut *self.log,
             &mut client.reader,
-            &mut client.ticket,
+            &mut client.seq,
             call,
         )
     }
 
-    /// The same of a target that is registered. It is handed back where nothing changes.
+    /// Makes the change that registers a target. Err: nothing changed, and the target comes back.
     pub fn register<R: Wait>(
         &mut self,
         rt: &R,
@@ -139,35 +142,37 @@ impl<M: ManagerId, T: Target> Inner<M, T> {
         client: &mut Client<M>,
         name: Text,
         boxed: T,
-    ) -> Result<Made<M, T>, (Unavailable<Stamp<M>>, T)>
+    ) -> Result<MadeChange<M, T>, (Unavailable<Stamp<M>>, T)>
         requires { IsIdle (T.means boxed) }
-        ensures answered { IfOk result (λ m. IsAnswered M.limits client.old client.new (call.Register name (T.means boxed).kind (T.means boxed).notes) m.answered.number m.answered.reply m.answered.stamp) }
-        ensures next { IfOk result (λ m. IsNext self.old self.new client.old.client (client.old.number + 1) (call.Register name (T.means boxed).kind (T.means boxed).notes) m.answered.reply) }
+        ensures answered { IfOk result (λ m.
+            IsAnswered M.limits client.old client.new
+            (register_call name (T.means boxed))
+            m.answered.number m.answered.reply m.answered.stamp) }
+        ensures next { IfOk result (λ m.
+            IsNext self.old self.new client.old.client (client.old.number + 1)
+            (register_call name (T.means boxed)) m.answered.reply) }
         ensures history { IfOk result (λ m. self.new ≡ m.answered.stamp) }
         ensures idle { IfOk result (λ m. IdleWhere m.ended) }
         ensures err { OnErr result ((client.new ≡ client.old) × (self.new ≡ self.old)) }
-        ensures why { IfErr result (λ e. Because M.limits e.0) }
+        ensures why { IfErr result (λ e. IsReason M.limits e.0) }
         ensures first { IfErr result (λ e. IsHistoryFirst M.limits self.old e.0) }
         ensures boxed { IfErr result (λ e. T.means e.1 ≡ T.means boxed) }
     {
         change::register(
             rt,
             alloc,
-            &self.limits,
             &mut self.core,
-            &mut self.journal,
-            &mut *self.writer,
-            &mut self.outbox,
-            &mut self.books,
+            &mut *self.log,
             &mut client.reader,
-            &mut client.ticket,
+            &mut client.seq,
             name,
             boxed,
         )
     }
 
-    /// Ends the history, and each target after its comms. All that the clients have seen begins it, it has of each just what it made, and what the
-    /// publisher took and what it left are all of it. Where there is no memory for an end, all is handed back.
+    /// Ends the history, and each target after its comms. All that the clients have seen is a prefix of it, it has of
+    /// each just what it made, and what the publisher took followed by what it left is all of it. Err: there is no
+    /// memory for an end; all is handed back.
     pub fn finish<R: Wait>(
         self,
         rt: &R,
@@ -176,31 +181,34 @@ impl<M: ManagerId, T: Target> Inner<M, T> {
         publisher: Publisher<M>,
     ) -> Result<Farewell, (Inner<M, T>, Vec<Client<M>>, Publisher<M>)>
         ensures history { IfOk result (λ f. entries_of f.history.items ≡ self ++ End ∷ []) }
-        ensures legal { IfOk result (λ f. IsLegal M.limits.clients M.limits.comms (entries_of f.history.items)) }
+        ensures legal { IfOk result (λ f.
+            IsLegal M.limits.clients M.limits.comms (entries_of f.history.items)) }
         ensures few { length self ≤ M.limits.history }
-        ensures settled { IfOk result (λ f. All (λ w. IsSettled (entries_of f.history.items) w) clients.items) }
-        ensures untaken { IfOk result (λ f. publisher ++ entries_of f.untaken.items ≡ entries_of f.history.items) }
+        ensures settled { IfOk result (λ f.
+            All (λ w. IsSettled (entries_of f.history.items) w) clients.items) }
+        ensures untaken { IfOk result (λ f.
+            publisher ++ entries_of f.untaken.items ≡ entries_of f.history.items) }
         ensures err { IfErr result (λ e. (e.0 ≡ self) × (e.1 ≡ clients) × (e.2 ≡ publisher)) }
     {
-        let Inner {
-            limits,
-            core,
-            mut journal,
-            writer,
-            mut outbox,
-            mut books,
-        } = self;
-        let mut writer = ManuallyDrop::into_inner(writer);
-        match close(
+        let Inner { core, log } = self;
+        let mut log = ManuallyDrop::into_inner(log);
+        match end_history(
             rt,
             alloc,
-            &mut journal,
-            &mut writer,
-            &mut outbox,
+            &mut log.journal,
+            &mut log.writer,
+            &mut log.outbox,
             &publisher,
         ) {
             Ok((last, room)) => {
-                gather(&mut books, clients, &last);
+                let ChangeLog {
+                    limits: _limits,
+                    journal,
+                    writer,
+                    outbox,
+                    mut totals,
+                } = log;
+                settle_clients(&mut totals, clients, &last);
                 writer.end(rt);
                 core.stop_all();
                 Ok(Farewell {
@@ -210,12 +218,8 @@ impl<M: ManagerId, T: Target> Inner<M, T> {
             }
             Err(_) => Err((
                 Inner {
-                    limits,
                     core,
-                    journal,
-                    writer: kept(writer),
-                    outbox,
-                    books,
+                    log: wrap_log(log),
                 },
                 clients,
                 publisher,
@@ -223,26 +227,26 @@ impl<M: ManagerId, T: Target> Inner<M, T> {
         }
     }
 
-    /// Ends each target after its comms, and gives nothing back.
+    /// Ends each target after its comms, and gives nothing back. It takes no memory.
     pub fn discard<R: Wait>(self, rt: &R) {
-        let Inner {
+        let Inner { core, log } = self;
+        let ChangeLog {
             limits: _limits,
-            core,
             journal: _journal,
             writer,
             outbox: _outbox,
-            books: _books,
-        } = self;
-        ManuallyDrop::into_inner(writer).end(rt);
+            totals: _totals,
+        } = ManuallyDrop::into_inner(log);
+        writer.end(rt);
         core.stop_all();
     }
 }
 
-// It isn't dropped from now on.
-fn kept<M: ManagerId>(writer: VersionWriter<M>) -> ManuallyDrop<VersionWriter<M>>
-    ensures { manually_drop_value result ≡ writer }
+// The log isn't dropped from now on. It is the one `unsafe` of this crate.
+fn wrap_log<M: ManagerId>(log: ChangeLog<M>) -> ManuallyDrop<ChangeLog<M>>
+    ensures { manually_drop_value result ≡ log }
 {
-    unsafe { ManuallyDrop::new_unchecked(writer) }
+    unsafe { ManuallyDrop::new_unchecked(log) }
 }
 
 /// What a manager leaves: all entries, an end as the last, and those of them that its publisher hadn't taken.
@@ -252,8 +256,8 @@ pub struct Farewell {
     pub untaken: Vec<Arc<Entry, Global>>,
 }
 
-// The entry of an end, three times, and an empty list with room for so many entries.
-fn grown(
+// The change of an end, its entry twice more, and an empty list with room for so many entries. Err: memory.
+fn build_end(
     alloc: Global,
     count: usize,
 ) -> Result<
@@ -277,8 +281,9 @@ fn grown(
     Ok((Change::new(entry, Row::Clear), kept, sent, room))
 }
 
-// Ends the history, publishes that, and lets it go out. There is room for all that the publisher hasn't taken.
-fn close<M: ManagerId, R: Wait>(
+// Ends the history, publishes that, and lets it go out. Gives the stamp of the end, and a list with room for all that
+// the publisher hasn't taken. Err: memory; nothing changed.
+fn end_history<M: ManagerId, R: Wait>(
     rt: &R,
     alloc: Global,
     journal: &mut Journal,
@@ -287,21 +292,25 @@ fn close<M: ManagerId, R: Wait>(
     publisher: &Publisher<M>,
 ) -> Result<(Stamp<M>, Vec<Arc<Entry, Global>>), AllocError>
     requires front { (writer.old.front ≡ journal.old.all) × (writer.old.pending ≡ []) }
-    requires puts { Puts M.queue M.limits journal.old.all outbox.old }
-    requires legal { IsLegal M.limits.clients M.limits.comms journal.old.all × (has_end journal.old.all ≡ false) }
+    requires puts { OutboxInvariant M.queue M.limits journal.old.all outbox.old }
+    requires legal { IsLegal M.limits.clients M.limits.comms journal.old.all
+        × (has_end journal.old.all ≡ false) }
     requires few { length journal.old.all ≤ 4294967295 }
-    ensures stamp { IfOk result (λ r. (r.0 ≡ journal.old.all ++ End ∷ []) × IsLegal M.limits.clients M.limits.comms r.0) }
+    ensures stamp { IfOk result (λ r.
+        (r.0 ≡ journal.old.all ++ End ∷ []) × IsLegal M.limits.clients M.limits.comms r.0) }
     ensures history { IfOk result (λ r. journal.new.all ≡ r.0) }
-    ensures puts { IfOk result (λ r. (outbox.new.line ≡ M.queue) × (outbox.new.puts ≡ r.0)) }
-    ensures room { IfOk result (λ r. (r.1.items ≡ []) × (length journal.new.all ≤ length publisher.now + vec_capacity r.1)) }
-    ensures err { OnErr result ((journal.new.all ≡ journal.old.all) × (writer.new ≡ writer.old) × (outbox.new ≡ outbox.old)) }
+    ensures puts { IfOk result (λ r. (outbox.new.queue ≡ M.queue) × (outbox.new.puts ≡ r.0)) }
+    ensures room { IfOk result (λ r.
+        (r.1.items ≡ []) × (length journal.new.all ≤ length publisher.now + vec_capacity r.1)) }
+    ensures err { OnErr result ((journal.new.all ≡ journal.old.all) × (writer.new ≡ writer.old)
+        × (outbox.new ≡ outbox.old)) }
 {
     legal_histories_grow();
     rows_are_what_entries_change();
     journal.reserve()?;
     let all = journal.len() as u64 + 1;
     let left = all.saturating_sub(publisher.taken());
-    let (change, kept, sent, room) = grown(alloc, left as usize)?;
+    let (change, kept, sent, room) = build_end(alloc, left as usize)?;
     writer.append(change)?;
     writer.publish(rt);
     journal.add(kept);
@@ -311,14 +320,14 @@ fn close<M: ManagerId, R: Wait>(
     Ok((stamp, room))
 }
 
-// What each client has seen begins the history that ended, and it made as many changes as the books say.
-fn gather<M: ManagerId>(books: &mut Books<M>, clients: Vec<Client<M>>, last: &Stamp<M>)
+// What each client has seen is a prefix of the history that ended, and it made as many changes as the totals say.
+fn settle_clients<M: ManagerId>(totals: &mut SeqTotals<M>, clients: Vec<Client<M>>, last: &Stamp<M>)
     requires ended { has_end last.now ≡ true }
-    requires books { books.old ≡ counts last.now }
+    requires totals { totals.old ≡ counts last.now }
     ensures { All (λ w. IsSettled last.now w) clients.items }
 {
     let mut clients = clients;
     while let Some(mut client) = clients.pop() {
-        client.settle(books, last);
+        client.settle(totals, last);
     }
 }

@@ -1,4 +1,4 @@
-//! The history.
+//! The history, as a list.
 ghost use Rattle.std.specs.Prelude.{◌≡◌, ◌++◌, ◌∷◌, [], length, true, OnOk};
 ghost use Rattle.std.specs.Arc.{arc_value};
 ghost use Rattle.comm_outbox.specs.Sides.{entries_of};
@@ -17,17 +17,18 @@ pub struct Journal {
 impl Model for Journal {
     ghost use Rattle.std.specs.Prelude.{vec_len, vec_capacity, nat_lt};
     ghost use Rattle.comm_outbox.specs.Sides.{entries_of};
-    ghost use Rattle.comm_manager.specs.Journal.{Pages, pages_code, pages};
+    ghost use Rattle.comm_manager.specs.JournalView.{JournalView, journal_code, journal_view};
 
-    ghost Value = { Pages };
+    ghost Value = { JournalView };
 
-    ghost coded = { pages_code };
+    ghost coded = { journal_code };
 
-    ghost view = { λ j. pages (entries_of j.history.items) (nat_lt (vec_len j.history) (vec_capacity j.history)) };
+    ghost view = { λ j. journal_view (entries_of j.history.items)
+        (nat_lt (vec_len j.history) (vec_capacity j.history)) };
 }
 
 impl Journal {
-    /// No entry.
+    /// The empty history. It takes no memory.
     pub fn new(alloc: Global) -> Journal
         ensures { result.all ≡ [] }
     {
@@ -43,7 +44,7 @@ impl Journal {
         self.history.len()
     }
 
-    /// Makes room for one more entry.
+    /// Makes room for one more entry. Err: memory.
     pub fn reserve(&mut self) -> Result<(), AllocError>
         ensures all { self.new.all ≡ self.old.all }
         ensures room { OnOk result (self.new.room ≡ true) }
@@ -51,7 +52,7 @@ impl Journal {
         self.history.reserve(1)
     }
 
-    /// Adds an entry. It takes no memory.
+    /// Appends an entry. It takes no memory.
     pub fn add(&mut self, entry: Arc<Entry, Global>)
         requires room { self.old.room ≡ true }
         ensures { self.new.all ≡ self.old.all ++ arc_value entry ∷ [] }
@@ -59,7 +60,7 @@ impl Journal {
         self.history.push_reserved(entry);
     }
 
-    /// Its list.
+    /// The entries, oldest first.
     pub fn into_list(self) -> Vec<Arc<Entry, Global>>
         ensures { entries_of result.items ≡ self.all }
     {

@@ -2,8 +2,8 @@
 use comm_versions::History;
 use std::marker::Brand;
 
-/// Which manager it is: its history, with its limits, the names of its clients' ledgers, and its queue. Each call of a function that has a manager
-/// picks them; no code looks at them.
+/// Which manager it is: its history, with its limits, the names of its clients' ledgers, and its queue. Each call of
+/// a function that opens a manager picks them, in its proof; no code looks at them.
 pub trait ManagerId: History {
     ghost use Rattle.std.specs.Prelude.{ℕ};
     ghost use Rattle.atomic_table.specs.Seated.{TableId};
@@ -18,5 +18,13 @@ impl ManagerId for Brand {
 
     ghost ledgers = { λ _. 0 };
 
-    ghost queue = { record { words = 0; slots = 0; views_name = 0; atom = 0; block = 0; offset = 0; slot_names = [] } };
+    ghost queue = { record {
+      words = 0;
+      slots = 0;
+      views_name = 0;
+      atom = 0;
+      block = 0;
+      offset = 0;
+      slot_names = [];
+    } };
 }

@@ -6,13 +6,13 @@ ghost use Rattle.comm_core.specs.declared.entry.Entry.TheVariants.{End};
 ghost use Rattle.comm_outbox.specs.Sides.{entries_of};
 ghost use Rattle.comm_manager.specs.Mine.{IsSettled};
 ghost use Rattle.comm_manager.specs.Names.{Named};
-ghost use Rattle.comm_manager.specs.Who.{all_new};
+ghost use Rattle.comm_manager.specs.ClientView.{all_new};
 ghost use Rattle.comm_manager.specs.Why.{IsMissing, all_here, is_here};
 
 use crate::builder::{ManagerBuilder, first_clients};
 use crate::client::Client;
 use crate::inner::{Farewell, Inner};
-use crate::ledger::Books;
+use crate::ledger::SeqTotals;
 use crate::manager_id::ManagerId;
 use crate::publisher::Publisher;
 use comm_core::Core;
@@ -20,23 +20,26 @@ use comm_targets::Target;
 use comm_versions::{OpeningFault, versions};
 use std::alloc::Global;
 use std::sync::{Mutex, Wait};
+use thiserror::Error;
 
-/// The manager, which threads share by reference. `shutdown` or `discard` alone ends it.
+/// The manager, which threads share by reference. It can't be dropped: `shutdown` or `discard` ends it.
 pub struct Manager<M: ManagerId, T: Target> {
     pub(crate) alloc: Global,
     pub(crate) inner: Mutex<Inner<M, T>>,
 }
 
 /// Why a manager isn't shut down.
-#[derive(Clone, Copy, PartialEq, Eq, Debug)]
+#[derive(Clone, Copy, Debug, PartialEq, Eq, Error)]
 pub enum Cause {
     /// There is no memory for the end of the history.
+    #[error("out of memory")]
     Memory,
     /// A client of the manager isn't among those that were handed in.
+    #[error("a client is missing")]
     MissingClients,
 }
 
-/// A shutdown that is refused. All is handed back.
+/// A shutdown that is refused: all that was handed in.
 pub struct ShutdownRefused<M: ManagerId, T: Target> {
     pub cause: Cause,
     pub manager: Manager<M, T>,
@@ -44,7 +47,7 @@ pub struct ShutdownRefused<M: ManagerId, T: Target> {
     pub publisher: Publisher<M>,
 }
 
-// Whether a client is among these.
+// Whether a client of this number is among these.
 fn is_here<M: ManagerId>(clients: &[Client<M>], id: u8) -> bool
     ensures { result ≡ is_here id clients.now }
 {
@@ -64,8 +67,9 @@ fn are_here<M: ManagerId>(clients: &[Client<M>], count: u8) -> bool
 }
 
 impl<M: ManagerId, T: Target> Manager<M, T> {
-    /// A manager that goes by the builder's names; its clients, in the order of their numbers, who have made no change and seen nothing; and its
-    /// publisher, who has taken nothing. It isn't opened where memory ran out, or where the versions had no place for a reader (NoReader).
+    /// Opens the manager that was built: gives it, its clients in the order of their numbers, who have made no change
+    /// and seen nothing, and its publisher, which has taken nothing. Err: memory, or the versions had no place for a
+    /// reader (NoReader).
     pub fn open<R: Wait>(
         rt: &R,
         alloc: Global,
@@ -86,14 +90,14 @@ impl<M: ManagerId, T: Target> Manager<M, T> {
             fourth,
         } = builder;
         let (writer, readers) = versions::<M, R>(rt, alloc, history, limits.clients, limits.comms)?;
-        let (books, tickets) = Books::open(first, second, third, fourth);
-        let Ok(clients) = first_clients(alloc, readers, tickets) else {
+        let (totals, seqs) = SeqTotals::open(first, second, third, fourth);
+        let Ok(clients) = first_clients(alloc, readers, seqs) else {
             writer.end(rt);
             return Err(OpeningFault::Memory);
         };
         match Core::new(alloc, limits) {
             Ok(core) => {
-                let inner = Inner::new(alloc, limits, core, writer, outbox, books);
+                let inner = Inner::new(alloc, limits, core, writer, outbox, totals);
                 let inner = Mutex::new(inner);
                 Ok((Manager { alloc, inner }, clients, Publisher::new(publisher)))
             }
@@ -102,37 +106,45 @@ impl<M: ManagerId, T: Target> Manager<M, T> {
         }
     }
 
-    /// Ends the history, and each target after its comms, and gives the one history, in which an end stands last. What each client has seen
-    /// begins it, it has of each client just the changes that were answered to it, and what the publisher took and what it left are all of it. Where a
-    /// client is missing, or else where there is no memory for the end, all is handed back as it was, and another shutdown may follow.
+    /// Ends the history, and each target after its comms, and gives the one history, in which an end stands last.
+    /// What each client has seen is a prefix of it, it has of each client just the changes that were answered to it,
+    /// and what the publisher took followed by what it left is all of it. Err: a client is missing, or else there is
+    /// no memory for the end; all is handed back as it was, and another shutdown may follow.
     pub fn shutdown<R: Wait>(
         self,
         rt: &R,
         clients: Vec<Client<M>>,
         publisher: Publisher<M>,
     ) -> Result<Farewell, ShutdownRefused<M, T>>
-        ensures legal { IfOk result (λ f. IsLegal M.limits.clients M.limits.comms (entries_of f.history.items)) }
-        ensures ended { IfOk result (λ f. (before : List Entry) × (entries_of f.history.items ≡ before ++ End ∷ []) × (length before ≤ M.limits.history)) }
-        ensures settled { IfOk result (λ f. All (λ w. IsSettled (entries_of f.history.items) w) clients.items) }
-        ensures untaken { IfOk result (λ f. publisher ++ entries_of f.untaken.items ≡ entries_of f.history.items) }
-        ensures missing { MatchResult result (λ _. all_here M.limits.clients clients.items ≡ true) (λ e. IsMissing M.limits.clients clients.items e.cause) }
+        ensures legal { IfOk result (λ f.
+            IsLegal M.limits.clients M.limits.comms (entries_of f.history.items)) }
+        ensures ended { IfOk result (λ f.
+            (before : List Entry) × (entries_of f.history.items ≡ before ++ End ∷ [])
+            × (length before ≤ M.limits.history)) }
+        ensures settled { IfOk result (λ f.
+            All (λ w. IsSettled (entries_of f.history.items) w) clients.items) }
+        ensures untaken { IfOk result (λ f.
+            publisher ++ entries_of f.untaken.items ≡ entries_of f.history.items) }
+        ensures missing { MatchResult result
+            (λ _. all_here M.limits.clients clients.items ≡ true)
+            (λ e. IsMissing M.limits.clients clients.items e.cause) }
         ensures err { IfErr result (λ e. (e.clients ≡ clients) × (e.publisher ≡ publisher)) }
     {
         let Manager { alloc, inner } = self;
         let inner = inner.into_inner();
         if !are_here(clients.as_slice(), inner.clients()) {
-            return Err(refused(alloc, Cause::MissingClients, inner, clients, publisher));
+            return Err(hand_back(alloc, Cause::MissingClients, inner, clients, publisher));
         }
         match inner.finish(rt, alloc, clients, publisher) {
             Ok(farewell) => Ok(farewell),
             Err((inner, clients, publisher)) => {
-                Err(refused(alloc, Cause::Memory, inner, clients, publisher))
+                Err(hand_back(alloc, Cause::Memory, inner, clients, publisher))
             }
         }
     }
 
-    /// Ends each target, after its comms, and gives nothing back. It takes no memory. Clients may outlive it, and read what was published last, or
-    /// nothing.
+    /// Ends each target, after its comms, and gives nothing back. It takes no memory. Clients may outlive it, and
+    /// read what was published last, or nothing.
     pub fn discard<R: Wait>(self, rt: &R) {
         let Manager {
             alloc: _alloc,
@@ -142,8 +154,8 @@ impl<M: ManagerId, T: Target> Manager<M, T> {
     }
 }
 
-// All is handed back.
-fn refused<M: ManagerId, T: Target>(
+// The refusal of a shutdown, with all that was handed in.
+fn hand_back<M: ManagerId, T: Target>(
     alloc: Global,
     cause: Cause,
     inner: Inner<M, T>,

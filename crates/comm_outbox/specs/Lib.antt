@@ -1,3 +1,3 @@
 pub mod Sides
 pub mod Code
-pub mod Carried
+pub mod Order

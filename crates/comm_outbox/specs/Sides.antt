@@ -8,10 +8,10 @@ use Rattle.comm_core.specs.declared.entry.Entry.{Entry}
 abbrev pub entries_of : {Z : Type 0} → List (Arc Entry Z) → List Entry
 entries_of entries = map arc_value entries
 
--- The side that puts: which queue it is of, the limits by which what is put is legal, how many places there are, how many of them were found
--- free and not filled since, and what was put.
-pub record Putting : Type 0 where
-  pub line : TableId
+-- The side that puts: which queue it is of, the limits by which what is put is legal, how many places there are, how
+-- many of them were found free and not filled since, and what was put.
+pub record OutboxView : Type 0 where
+  pub queue : TableId
   pub clients : ℕ
   pub comms : ℕ
   pub places : ℕ
@@ -19,16 +19,17 @@ pub record Putting : Type 0 where
   pub puts : List Entry
 
 -- the side that takes: which queue it is of, the same limits, and what was taken
-pub record Taking : Type 0 where
-  pub line : TableId
+pub record PublisherView : Type 0 where
+  pub queue : TableId
   pub clients : ℕ
   pub comms : ℕ
   pub taken : List Entry
 
 -- nothing was put, so all places are free
-abbrev pub unfilled : TableId → ℕ → ℕ → ℕ → Putting
-unfilled line clients comms places = record { line = line; clients = clients; comms = comms; places = places; room = places; puts = [] }
+abbrev pub new_outbox : TableId → ℕ → ℕ → ℕ → OutboxView
+new_outbox queue clients comms places =
+    record { queue = queue; clients = clients; comms = comms; places = places; room = places; puts = [] }
 
 -- nothing was taken
-abbrev pub untouched : TableId → ℕ → ℕ → Taking
-untouched line clients comms = record { line = line; clients = clients; comms = comms; taken = [] }
+abbrev pub new_publisher : TableId → ℕ → ℕ → PublisherView
+new_publisher queue clients comms = record { queue = queue; clients = clients; comms = comms; taken = [] }

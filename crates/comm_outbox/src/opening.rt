@@ -1,15 +1,16 @@
 //! How a queue is made, with its two sides.
 ghost use Rattle.std.specs.Prelude.{◌≡◌, ◌≤◌, IfOk};
-ghost use Rattle.comm_outbox.specs.Sides.{unfilled, untouched};
+ghost use Rattle.comm_outbox.specs.Sides.{new_outbox, new_publisher};
 
-use crate::line::{Line, split};
+use crate::entry_queue::{EntryQueue, split};
 use crate::outgoing::Outbox;
 use crate::publisher::Publisher;
 use std::alloc::{AllocError, Global};
 use std::marker::Brand;
 use std::sync::Arc;
 
-/// A queue with so many places, and its two sides. An error says that memory ran out; nothing after this call takes any.
+/// A bounded queue with so many places, and its two sides. `clients` and `comms` are the limits by which its entries
+/// are legal. Err: memory; nothing after this call takes any.
 pub fn outbox(
     alloc: Global,
     places: usize,
@@ -17,22 +18,22 @@ pub fn outbox(
     comms: usize,
 ) -> Result<(Outbox, Publisher), AllocError>
     requires places { (1 ≤ places) × (places ≤ 65537) }
-    ensures puts { IfOk result (λ r. r.0 ≡ unfilled r.0.line clients comms places) }
-    ensures takes { IfOk result (λ r. r.1 ≡ untouched r.0.line clients comms) }
+    ensures puts { IfOk result (λ r. r.0 ≡ new_outbox r.0.queue clients comms places) }
+    ensures takes { IfOk result (λ r. r.1 ≡ new_publisher r.0.queue clients comms) }
 {
-    let (line, mut pass) = Line::ruled(alloc, places)?;
-    let other = split::<Brand>(&line, &mut pass, clients, comms);
-    let line = Arc::new(alloc, line)?;
-    let theirs = Arc::try_clone(&line)?;
+    let (queue, mut pass) = EntryQueue::ruled(alloc, places)?;
+    let other = split::<Brand>(&queue, &mut pass, clients, comms);
+    let queue = Arc::new(alloc, queue)?;
+    let theirs = Arc::try_clone(&queue)?;
     Ok((
         Outbox {
-            line,
+            queue,
             pass,
             count: 0,
             room: places as u64,
         },
         Publisher {
-            line: theirs,
+            queue: theirs,
             pass: other,
             count: 0,
         },

@@ -4,10 +4,10 @@ ghost use mathlib.Core.List.{IsPrefix};
 ghost use Rattle.std.specs.Arc.{arc_value};
 ghost use Rattle.crossbeam_queue.specs.Passes.{view, IsPassOf, IsSamePass, ruled_capacity};
 ghost use Rattle.comm_core.specs.History.{IsLegal};
-ghost use Rattle.comm_outbox.specs.Carried.{HasPut};
+ghost use Rattle.comm_outbox.specs.Order.{HasPut};
 ghost use Rattle.comm_outbox.specs.Sides.{entries_of};
 
-use crate::line::{Line, Puts, Rest, Seat, Together, Waits};
+use crate::entry_queue::{CountWaiting, DrainStep, EntryQueue, PutStep, QueuePass, Rejoin};
 use crate::publisher::Publisher;
 use comm_core::Entry;
 use std::alloc::Global;
@@ -15,15 +15,15 @@ use std::marker::Model;
 use std::sync::{Arc, Wait};
 use std::thread;
 
-// So many entries a queue serves, with as many more as it has places.
-const MOST: u64 = (1 << 62) - 65_537;
+// How many entries a queue serves, with as many more as it has places: its words don't wrap.
+const MAX_PUTS: u64 = (1 << 62) - 65_537;
 
-/// The side that puts entries. Contracts see which queue it is of, the limits by which entries are legal, how many places there are, how
-/// many of them were found free and not filled since (the room), and what was put.
+/// The side that puts entries. Contracts see which queue it is of, the limits by which entries are legal, how many
+/// places there are, how many of them were found free and not filled since (the room), and what was put.
 #[derive(Drop)]
 pub struct Outbox {
-    pub(crate) line: Arc<Line, Global>,
-    pub(crate) pass: Seat,
+    pub(crate) queue: Arc<EntryQueue, Global>,
+    pub(crate) pass: QueuePass,
     pub(crate) count: u64,
     pub(crate) room: u64,
 }
@@ -33,33 +33,47 @@ impl Model for Outbox {
     ghost use Rattle.std.specs.Arc.{arc_value};
     ghost use Rattle.crossbeam_queue.specs.Passes.{view as known_at, IsPassOf, ruled_capacity};
     ghost use Rattle.comm_core.specs.History.{IsLegal};
-    ghost use Rattle.comm_outbox.specs.Code.{putting_code};
-    ghost use Rattle.comm_outbox.specs.Sides.{Putting};
+    ghost use Rattle.comm_outbox.specs.Code.{outbox_code};
+    ghost use Rattle.comm_outbox.specs.Sides.{OutboxView};
 
-    ghost Value = { Putting };
+    ghost Value = { OutboxView };
 
-    ghost coded = { putting_code };
+    ghost coded = { outbox_code };
 
-    ghost view = { λ o. record { line = o.pass.table_id; clients = (known_at o.pass).bounds.clients; comms = (known_at o.pass).bounds.comms; places = ruled_capacity (arc_value o.line); room = o.room; puts = (known_at o.pass).sent } };
+    ghost view = { λ o. record {
+      queue = o.pass.table_id;
+      clients = (known_at o.pass).bounds.clients;
+      comms = (known_at o.pass).bounds.comms;
+      places = ruled_capacity (arc_value o.queue);
+      room = o.room;
+      puts = (known_at o.pass).sent;
+    } };
 
-    ghost invariant = { λ o. IsPassOf (arc_value o.line) o.pass × ((known_at o.pass).puts ≡ true) × (o.count ≡ length (known_at o.pass).sent) × (o.count + o.room ≤ 2 ^ 62) × (ruled_capacity (arc_value o.line) ≤ 65537) × IsLegal (known_at o.pass).bounds.clients (known_at o.pass).bounds.comms (known_at o.pass).sent };
+    ghost invariant = { λ o.
+        IsPassOf (arc_value o.queue) o.pass × ((known_at o.pass).puts ≡ true)
+        × (o.count ≡ length (known_at o.pass).sent) × (o.count + o.room ≤ 2 ^ 62)
+        × (ruled_capacity (arc_value o.queue) ≤ 65537)
+        × IsLegal (known_at o.pass).bounds.clients (known_at o.pass).bounds.comms
+        (known_at o.pass).sent };
 }
 
 // Puts an entry.
-fn put_on<R: Wait>(rt: &R, line: &Line, pass: &mut Seat, entry: Arc<Entry, Global>)
-    requires line { IsPassOf line.now pass.old }
+fn put_on<R: Wait>(rt: &R, queue: &EntryQueue, pass: &mut QueuePass, entry: Arc<Entry, Global>)
+    requires queue { IsPassOf queue.now pass.old }
     requires puts { (view pass.old).puts ≡ true }
     requires few { length (view pass.old).sent < 2 ^ 62 }
-    requires legal { IsLegal (view pass.old).bounds.clients (view pass.old).bounds.comms ((view pass.old).sent ++ arc_value entry ∷ []) }
+    requires legal { IsLegal (view pass.old).bounds.clients (view pass.old).bounds.comms
+        ((view pass.old).sent ++ arc_value entry ∷ []) }
     ensures same { IsSamePass pass.old pass.new }
     ensures put { HasPut (view pass.old) entry (view pass.new) }
 {
     let mut entry = entry;
-    // It ends at its first turn: `push_as` gives the entry back only where the queue was full at one moment, and nothing but a put fills a
-    // place that was found free; `put` asks for one. The queue's rule has no word for what another call found, so this isn't proved; if it
-    // weren't so, the loop would wait for the publisher to take, and no entry would be lost.
+    // It ends at its first turn: `push_as` gives the entry back only where the queue was full at one moment, and
+    // nothing but a put fills a place that was found free; `put` asks for one. The queue's rule has no word for what
+    // another call found, so this isn't proved; if it weren't so, the loop would wait for the publisher to take, and
+    // no entry would be lost.
     for _ in rt.forever() {
-        match line.push_as::<Puts, R>(rt, pass, entry) {
+        match queue.push_as::<PutStep, R>(rt, pass, entry) {
             Ok(()) => return,
             Err(back) => entry = back,
         }
@@ -68,15 +82,15 @@ fn put_on<R: Wait>(rt: &R, line: &Line, pass: &mut Seat, entry: Arc<Entry, Globa
     unreachable!()
 }
 
-// Takes so many entries as the queue holds.
+// Takes as many entries as the queue holds.
 fn drain<R: Wait>(
     rt: &R,
-    line: &Line,
-    pass: &mut Seat,
+    queue: &EntryQueue,
+    pass: &mut QueuePass,
     left: usize,
     into: Vec<Arc<Entry, Global>>,
 ) -> Vec<Arc<Entry, Global>>
-    requires line { IsPassOf line.now pass.old }
+    requires queue { IsPassOf queue.now pass.old }
     requires both { ((view pass.old).puts ≡ true) × ((view pass.old).takes ≡ true) }
     requires begins { IsPrefix (view pass.old).got (view pass.old).sent }
     requires left { length (view pass.old).sent ≡ length (view pass.old).got + left }
@@ -87,7 +101,7 @@ fn drain<R: Wait>(
 {
     let mut rest = into;
     for _ in 0..left {
-        match line.pop_as::<Rest, R>(rt, pass) {
+        match queue.pop_as::<DrainStep, R>(rt, pass) {
             Some(entry) => rest.push_reserved(entry),
             // Nobody else takes.
             None => unreachable!(),
@@ -97,19 +111,21 @@ fn drain<R: Wait>(
 }
 
 impl Outbox {
-    /// How many entries wait to be taken, at one moment of the call. So the other places are free, and stay so until they are filled here:
-    /// that is the room. After 2^62 - 65,537 puts it says that all places are taken.
+    /// How many entries wait to be taken, at one moment of the call. The other places are free, and stay so until
+    /// this side fills them: that is the room. After 2^62 - 65,537 puts it says that all places are taken.
+    #[must_use]
     pub fn waiting<R: Wait>(&mut self, rt: &R) -> u64
-        ensures room { self.new ≡ record self.old { room = max self.old.room (self.old.places - result) } }
+        ensures room { self.new
+            ≡ record self.old { room = max self.old.room (self.old.places - result) } }
         ensures places { result ≤ self.old.places }
         ensures puts { result ≤ length self.old.puts }
         ensures legal { IsLegal self.old.clients self.old.comms self.old.puts }
     {
-        let places = self.line.capacity() as u64;
-        if self.count > MOST {
+        let places = self.queue.capacity() as u64;
+        if self.count > MAX_PUTS {
             return places;
         }
-        let waiting = self.line.len_as::<Waits, R>(rt, &mut self.pass) as u64;
+        let waiting = self.queue.len_as::<CountWaiting, R>(rt, &mut self.pass) as u64;
         self.room = self.room.max(places - waiting);
         waiting
     }
@@ -117,61 +133,68 @@ impl Outbox {
     /// Puts an entry into a place that was found free. It takes no memory and can't fail.
     pub fn put<R: Wait>(&mut self, rt: &R, entry: Arc<Entry, Global>)
         requires room { 1 ≤ self.old.room }
-        requires legal { IsLegal self.old.clients self.old.comms (self.old.puts ++ arc_value entry ∷ []) }
-        ensures { self.new ≡ record self.old { room = self.old.room - 1; puts = self.old.puts ++ arc_value entry ∷ [] } }
+        requires legal { IsLegal self.old.clients self.old.comms
+            (self.old.puts ++ arc_value entry ∷ []) }
+        ensures { self.new ≡ record self.old {
+          room = self.old.room - 1;
+          puts = self.old.puts ++ arc_value entry ∷ [];
+        } }
     {
-        put_on(rt, &self.line, &mut self.pass, entry);
+        put_on(rt, &self.queue, &mut self.pass, entry);
         self.count += 1;
         self.room -= 1;
     }
 
-    /// Gives up both sides. What was taken begins what was put.
+    /// Gives up both sides. What was taken is a prefix of what was put.
     pub fn give_up(self, publisher: Publisher)
-        requires { publisher.line ≡ self.line }
+        requires { publisher.queue ≡ self.queue }
         ensures { IsPrefix publisher.taken self.puts }
     {
-        let (line, mut pass) = self.united(publisher);
-        line.learn_as::<Rest>(&mut pass);
+        let (queue, mut pass) = self.rejoin(publisher);
+        queue.learn_as::<DrainStep>(&mut pass);
     }
 
-    /// Gives up both sides, for what was put and not taken. It takes no memory: it is handed a list with room for it.
+    /// Gives up both sides, for the entries that were put and not taken, in order. It takes no memory: the caller
+    /// hands in a list with room for them.
+    #[must_use]
     pub fn take_rest<R: Wait>(
         self,
         rt: &R,
         publisher: Publisher,
         into: Vec<Arc<Entry, Global>>,
     ) -> Vec<Arc<Entry, Global>>
-        requires line { publisher.line ≡ self.line }
+        requires queue { publisher.queue ≡ self.queue }
         requires empty { into.items ≡ [] }
         requires room { length self.puts ≤ length publisher.taken + vec_capacity into }
         ensures all { publisher.taken ++ entries_of result.items ≡ self.puts }
         ensures few { length result.items ≤ self.places }
     {
-        let (line, mut pass) = self.united(publisher);
-        let left = line.len_as::<Rest, R>(rt, &mut pass);
-        drain(rt, &line, &mut pass, left, into)
+        let (queue, mut pass) = self.rejoin(publisher);
+        let left = queue.len_as::<DrainStep, R>(rt, &mut pass);
+        drain(rt, &queue, &mut pass, left, into)
     }
 
-    // The queue, with the one pass that may do all.
-    fn united(self, publisher: Publisher) -> (Arc<Line, Global>, Seat)
-        requires { publisher.line ≡ self.line }
-        ensures line { IsPassOf (arc_value result.0) result.1 }
+    // The queue, with one pass that may put and take.
+    fn rejoin(self, publisher: Publisher) -> (Arc<EntryQueue, Global>, QueuePass)
+        requires { publisher.queue ≡ self.queue }
+        ensures queue { IsPassOf (arc_value result.0) result.1 }
         ensures places { ruled_capacity (arc_value result.0) ≡ self.places }
         ensures both { ((view result.1).puts ≡ true) × ((view result.1).takes ≡ true) }
-        ensures lists { ((view result.1).sent ≡ self.puts) × ((view result.1).got ≡ publisher.taken) }
+        ensures lists { ((view result.1).sent ≡ self.puts)
+            × ((view result.1).got ≡ publisher.taken) }
     {
         let Outbox {
-            line,
+            queue,
             mut pass,
             count: _count,
             room: _room,
         } = self;
         let Publisher {
-            line: _line,
+            queue: _queue,
             pass: other,
             count: _taken,
         } = publisher;
-        line.absorb::<Together>(&mut pass, other);
-        (line, pass)
+        queue.absorb::<Rejoin>(&mut pass, other);
+        (queue, pass)
     }
 }

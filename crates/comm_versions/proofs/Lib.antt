@@ -9,5 +9,5 @@ pub mod Around
 pub mod Listed
 pub mod Relisting
 pub mod Crossing
-pub mod Spots
-pub mod Starts
+pub mod Positions
+pub mod IdPrefixes

@@ -1,4 +1,4 @@
--- What is listed of comms in pieces.
+-- What is listed of comms in chunks.
 use Rattle.std.proofs.Common.{◌≡◌, ℕ, ◌<◌, ◌+◌, Bool, true, false, cond, List, [], ◌∷◌, ◌++◌, length, get_or, take, map, filter, Global, Vec, Less, sym, ap, ◌∙◌, append_assoc, subst}
 use Rattle.std.specs.Arc.{arc_value}
 use Rattle.std.specs.List.{AllByRecursion}
@@ -11,7 +11,7 @@ use Rattle.comm_core.specs.Machine.{Name}
 use Rattle.comm_core.specs.Reads.{info_of}
 use Rattle.comm_core.specs.Tables.{Opens}
 use Rattle.comm_core.specs.declared.comm.Comm.{Comm}
-use Rattle.comm_versions.specs.Rows.{Piece, flat, IsInOrder, id_cmp}
+use Rattle.comm_versions.specs.Chunks.{CommChunk, comms_in, IsInOrder, id_cmp}
 use Rattle.comm_versions.proofs.Flat.{flat_push}
 use Rattle.comm_versions.proofs.Ids.{IsBelow}
 
@@ -22,14 +22,14 @@ module _ (p : Name × Comm → Bool) where
   listed-append : (xs ys : Opens) → listed (xs ++ ys) ≡ listed xs ++ listed ys
   listed-append xs ys = ap (map info_of) (filter-append p xs ys) ∙ map-append info_of (filter p xs) (filter p ys)
 
-  -- the comms of one more piece
-  pub piece_listed : (ps : List Piece) (i : ℕ) (q : Piece) (v : Vec (Name × Comm) Global) (xs : Opens) (start all new : List Info) → i < length ps → q ≡ get_or ps i q → v ≡ arc_value q → xs ≡ v.items
-      → all ≡ start ++ listed (flat (take i ps)) → new ≡ all ++ listed xs → new ≡ start ++ listed (flat (take (i + 1) ps))
-  piece_listed ps i q v xs start all new h is deref items before added =
-      let more : flat (take (i + 1) ps) ≡ flat (take i ps) ++ xs =
-      flat_push (take i ps) (take (i + 1) ps) q xs (take_more ps i q h ∙ ap (λ (r : Piece). take i ps ++ r ∷ []) (sym is)) (sym (items ∙ ap (λ (w : Vec (Name × Comm) Global). w.items) deref)) in
-      added ∙ ap (λ l. l ++ listed xs) before ∙ append_assoc start (listed (flat (take i ps))) (listed xs)
-      ∙ ap (λ l. start ++ l) (sym (ap listed more ∙ listed-append (flat (take i ps)) xs))
+  -- the comms of one more chunk
+  pub chunk_listed : (ps : List CommChunk) (i : ℕ) (q : CommChunk) (v : Vec (Name × Comm) Global) (xs : Opens) (start all new : List Info) → i < length ps → q ≡ get_or ps i q → v ≡ arc_value q → xs ≡ v.items
+      → all ≡ start ++ listed (comms_in (take i ps)) → new ≡ all ++ listed xs → new ≡ start ++ listed (comms_in (take (i + 1) ps))
+  chunk_listed ps i q v xs start all new h is deref items before added =
+      let more : comms_in (take (i + 1) ps) ≡ comms_in (take i ps) ++ xs =
+      flat_push (take i ps) (take (i + 1) ps) q xs (take_more ps i q h ∙ ap (λ (r : CommChunk). take i ps ++ r ∷ []) (sym is)) (sym (items ∙ ap (λ (w : Vec (Name × Comm) Global). w.items) deref)) in
+      added ∙ ap (λ l. l ++ listed xs) before ∙ append_assoc start (listed (comms_in (take i ps))) (listed xs)
+      ∙ ap (λ l. start ++ l) (sym (ap listed more ∙ listed-append (comms_in (take i ps)) xs))
 
   below_listed : (k : Name) (es : Opens) → IsBelow k es → AllByRecursion (λ n. id_cmp k n ≡ Less) (map (λ (i : Info). i.id) (listed es))
   below_listed k [] b = tt

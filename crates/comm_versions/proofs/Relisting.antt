@@ -14,8 +14,8 @@ use Rattle.comm_core.specs.Row.{rows}
 use Rattle.comm_core.specs.Tables.{Opens}
 use Rattle.comm_core.specs.declared.comm.Comm.{Comm}
 use Rattle.comm_core.specs.declared.entry.Entry.{Entry}
-use Rattle.comm_versions.specs.Listing.{IsSettled, ListAlike, listed}
-use Rattle.comm_versions.specs.Rows.{IsInOrder, id_cmp, put}
+use Rattle.comm_versions.specs.Listing.{ListsAlikeSince, ListAlike, listed_infos}
+use Rattle.comm_versions.specs.Chunks.{IsInOrder, id_cmp, upsert}
 use Rattle.comm_versions.proofs.Fronts.{prefix_shorter, prefix_whole}
 use Rattle.comm_versions.proofs.Ids.{at_absent, at_found, differs}
 
@@ -44,7 +44,7 @@ one_more e es fs h asked =
     listed_first (p e) e (filter p es) ∙ ap (λ (l : List Info). cond (p e) (info_of e ∷ l) l) (h asked) ∙ sym (listed_first (p e) e (filter p fs))
 
 put_first : (e : Name × Comm) (es : Opens) (c : Name × Comm) → IsInOrder (e ∷ es) → option_map (λ (d : Comm). d.target) (at (e ∷ es) c.0) ≡ Some c.1.target
-    → (IsInOrder es → option_map (λ (d : Comm). d.target) (at es c.0) ≡ Some c.1.target → ListAlike es (put es c)) → (o : Ordering) → id_cmp c.0 e.0 ≡ o → ListAlike (e ∷ es) (put (e ∷ es) c)
+    → (IsInOrder es → option_map (λ (d : Comm). d.target) (at es c.0) ≡ Some c.1.target → ListAlike es (upsert es c)) → (o : Ordering) → id_cmp c.0 e.0 ≡ o → ListAlike (e ∷ es) (upsert (e ∷ es) c)
 unfolding IsStrictlySortedBy
 put_first e es c o h more Less is =
     let none : at (e ∷ es) c.0 ≡ None = at_absent (e ∷ es) 0 c.0 o tt is in absurd (cc (h, none))
@@ -54,18 +54,18 @@ put_first e es c o h more Equal is =
     rw is (swapped e c.1 es same)
 put_first e es c o h more Greater is =
     let next : at (e ∷ es) c.0 ≡ at es c.0 = ap (λ t. cond t (Some e.1) (at es c.0)) (differs c.0 e.0 Greater is refl) in
-    rw is (one_more e es (put es c) (more o.1 (ap (option_map (λ (d : Comm). d.target)) (sym next) ∙ h)))
+    rw is (one_more e es (upsert es c) (more o.1 (ap (option_map (λ (d : Comm). d.target)) (sym next) ∙ h)))
 
 -- a comm that is put in place of one of its target is listed as that was
-pub put_alike : (es : Opens) (c : Name × Comm) → IsInOrder es → option_map (λ (d : Comm). d.target) (at es c.0) ≡ Some c.1.target → ListAlike es (put es c)
+pub put_alike : (es : Opens) (c : Name × Comm) → IsInOrder es → option_map (λ (d : Comm). d.target) (at es c.0) ≡ Some c.1.target → ListAlike es (upsert es c)
 put_alike [] c o h = absurd (cc (h))
 put_alike (e ∷ es) c o h = put_first e es c o h (put_alike es c) (id_cmp c.0 e.0) refl
 
 -- ---- since when the same comms are listed
 
-module _ (limit since : ℕ) (front next : List Entry) (e : Entry) (is : next ≡ front ++ e ∷ []) where
-  -- a beginning is one of those before the last entry, or the whole
-  settled_by : IsSettled limit since front → ListAlike (rows (replay limit front)) (rows (replay limit next)) → (before : List Entry) → IsPrefix before next → since < length before → (b : Bool)
+module _ (limit listing_since : ℕ) (front next : List Entry) (e : Entry) (is : next ≡ front ++ e ∷ []) where
+  -- a prefix is one of those before the last entry, or the whole
+  settled_by : ListsAlikeSince limit listing_since front → ListAlike (rows (replay limit front)) (rows (replay limit next)) → (before : List Entry) → IsPrefix before next → listing_since < length before → (b : Bool)
       → leb (length before) (length front) ≡ b → ListAlike (rows (replay limit before)) (rows (replay limit next))
   settled_by settled same before p more true le =
       let short : length before ≤ length front = grind (arith, nat_tests) in
@@ -74,8 +74,8 @@ module _ (limit since : ℕ) (front next : List Entry) (e : Entry) (is : next �
       let long : length front < length before = grind (arith, nat_tests) in
       let count : length next ≡ length front + 1 = ap length is ∙ length-append front (e ∷ []) in
       let whole : before ≡ next = prefix_whole before next p (omega (arith, long, count)) in
-      λ asked. ap (λ (es : List Entry). listed (rows (replay limit es)) asked) whole
+      λ asked. ap (λ (es : List Entry). listed_infos (rows (replay limit es)) asked) whole
 
   -- one more entry lists the same
-  pub settled_next : IsSettled limit since front → ListAlike (rows (replay limit front)) (rows (replay limit next)) → IsSettled limit since next
+  pub settled_next : ListsAlikeSince limit listing_since front → ListAlike (rows (replay limit front)) (rows (replay limit next)) → ListsAlikeSince limit listing_since next
   settled_next settled same before p more = settled_by settled same before p more (leb (length before) (length front)) refl

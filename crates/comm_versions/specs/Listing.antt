@@ -10,21 +10,22 @@ use Rattle.comm_core.specs.Tables.{Opens}
 use Rattle.comm_core.specs.declared.entry.Entry.{Entry}
 
 -- what is listed of these comms, those of one target where a name is given
-abbrev pub listed : Opens → Option Name → List Info
-listed es asked = map info_of (filter (λ e. passes asked e.1.target) es)
+abbrev pub listed_infos : Opens → Option Name → List Info
+listed_infos es asked = map info_of (filter (λ e. passes asked e.1.target) es)
 
 -- whatever is asked for, both list the same
 abbrev pub ListAlike : Opens → Opens → Type 0
-ListAlike es fs = (asked : Option Name) → listed es asked ≡ listed fs asked
+ListAlike es fs = (asked : Option Name) → listed_infos es asked ≡ listed_infos fs asked
 
--- all beginnings of more than so many entries list the same
-abbrev pub IsSettled : ℕ → ℕ → List Entry → Type 0
-IsSettled limit since front =
-    (before : List Entry) → IsPrefix before front → since < length before → ListAlike (rows (replay limit before)) (rows (replay limit front))
+-- all prefixes of more than so many entries list the same
+abbrev pub ListsAlikeSince : ℕ → ℕ → List Entry → Type 0
+ListsAlikeSince limit listing_since front =
+    (before : List Entry) → IsPrefix before front → listing_since < length before
+    → ListAlike (rows (replay limit before)) (rows (replay limit front))
 
--- this was listed after a beginning of so many entries
-pub record WasListed (limit : ℕ) (count : ℕ) (asked : Option Name) (comms : List Info) (front : List Entry) : Type 0 where
+-- this was listed after a prefix of so many entries
+pub record WasListed (limit count : ℕ) (asked : Option Name) (comms : List Info) (front : List Entry) : Type 0 where
   pub before : List Entry
   pub begins : IsPrefix before front
   pub counted : count ≡ length before
-  pub lists : comms ≡ listed (rows (replay limit before)) asked
+  pub lists : comms ≡ listed_infos (rows (replay limit before)) asked

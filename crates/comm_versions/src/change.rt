@@ -4,7 +4,7 @@ use comm_core::{Entry, Row};
 use std::alloc::Global;
 use std::sync::Arc;
 
-/// An entry with what it changes in the open comms, both ready made.
+/// An entry, with the row by which it changes the table of open comms.
 #[derive(Drop)]
 pub struct Change {
     pub entry: Arc<Entry, Global>,
@@ -12,6 +12,7 @@ pub struct Change {
 }
 
 impl Change {
+    /// Puts the two together. Which row belongs to an entry says the contract of `VersionWriter::append`.
     pub fn new(entry: Arc<Entry, Global>, row: Row) -> Change
         ensures entry { result.entry ≡ entry }
         ensures row { result.row ≡ row }

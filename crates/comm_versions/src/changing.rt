@@ -1,27 +1,28 @@
-//! What a row changes in comms that stand in pieces: the one piece that it concerns, or a copy of that piece where others have it too.
+//! How a row changes the comms in chunks: it changes the one chunk that it concerns, or a copy of that chunk where it
+//! is shared.
 ghost use Rattle.std.specs.Prelude.{◌≡◌, ◌+◌, ◌<◌, ◌++◌, IfOk, Ok, OnOk, length, take, drop};
 ghost use Rattle.std.specs.Arc.{arc_value};
 ghost use Rattle.comm_core.specs.Machine.{without};
 ghost use Rattle.comm_core.specs.Row.{with_row, without_all};
-ghost use Rattle.comm_versions.specs.Rows.{AllFilled, IsInOrder, IsSpot, StandsAt, flat, put};
+ghost use Rattle.comm_versions.specs.Chunks.{AllChunksFilled, IsInOrder, IsPosition, StandsAt, comms_in, upsert};
 
-use crate::keyed::Keyed;
-use crate::pieces::{joined, longest, set_piece, with_comm, without_at};
-use crate::search::Piece;
-use crate::spot::{Spot, spot_of};
+use crate::chunks::{join_chunks, longest, set_chunk, with_comm, without_at};
+use crate::position::{Position, position_of};
+use crate::prefixed_comm::PrefixedComm;
+use crate::search::CommChunk;
 use comm_core::Row;
 use comm_value::Text;
 use std::alloc::{AllocError, Global};
 use std::sync::Arc;
 
-// The comm where it stands, in place of the one of its id, or where it would.
+// Inserts the comm at its index, or replaces the one of its id.
 fn put_among(
-    comms: &mut Vec<Keyed>,
+    comms: &mut Vec<PrefixedComm>,
     at: Result<usize, usize>,
-    comm: Keyed,
+    comm: PrefixedComm,
 ) -> Result<(), AllocError>
     requires { StandsAt comm.0 comms.old.items at }
-    ensures { OnOk result (comms.new.items ≡ put comms.old.items comm) }
+    ensures { OnOk result (comms.new.items ≡ upsert comms.old.items comm) }
 {
     match at {
         Ok(i) => comms[i] = comm,
@@ -30,63 +31,63 @@ fn put_among(
     Ok(())
 }
 
-// The same, in this piece, or in a copy where others have it too.
+// Inserts the comm into this chunk, or replaces the one of its id there; a shared chunk is copied.
 fn put_into(
     alloc: Global,
-    piece: &mut Piece,
+    chunk: &mut CommChunk,
     at: Result<usize, usize>,
-    comm: Keyed,
+    comm: PrefixedComm,
 ) -> Result<(), AllocError>
-    requires { StandsAt comm.0 (arc_value piece.old).items at }
-    ensures { OnOk result ((arc_value piece.new).items ≡ put (arc_value piece.old).items comm) }
+    requires { StandsAt comm.0 (arc_value chunk.old).items at }
+    ensures { OnOk result ((arc_value chunk.new).items ≡ upsert (arc_value chunk.old).items comm) }
 {
-    match Arc::get_mut(piece) {
+    match Arc::get_mut(chunk) {
         Some(comms) => put_among(comms, at, comm),
         None => {
-            let comms = with_comm(alloc, piece.as_slice(), at, comm)?;
-            *piece = Arc::new(alloc, comms)?;
+            let comms = with_comm(alloc, chunk.as_slice(), at, comm)?;
+            *chunk = Arc::new(alloc, comms)?;
             Ok(())
         }
     }
 }
 
-// The comm where it stands, in place of the one of its id, or where it would.
+// Inserts the comm at its position, or replaces the one of its id.
 fn put_at(
     alloc: Global,
-    pieces: Vec<Piece>,
-    spot: Spot,
-    comm: Keyed,
-) -> Result<Vec<Piece>, AllocError>
-    requires filled { AllFilled pieces.items }
-    requires spot { IsSpot pieces.items comm.0 spot }
-    ensures put { IfOk result (λ all. flat all.items ≡ put (flat pieces.items) comm) }
-    ensures filled { IfOk result (λ all. AllFilled all.items) }
+    chunks: Vec<CommChunk>,
+    position: Position,
+    comm: PrefixedComm,
+) -> Result<Vec<CommChunk>, AllocError>
+    requires filled { AllChunksFilled chunks.items }
+    requires position { IsPosition chunks.items comm.0 position }
+    ensures upsert { IfOk result (λ all. comms_in all.items ≡ upsert (comms_in chunks.items) comm) }
+    ensures filled { IfOk result (λ all. AllChunksFilled all.items) }
 {
-    let mut all = pieces;
-    let comms = all[spot.piece].as_slice();
+    let mut all = chunks;
+    let comms = all[position.chunk].as_slice();
     if comms.len() < longest(all.len()) {
-        put_into(alloc, &mut all[spot.piece], spot.at, comm)?;
+        put_into(alloc, &mut all[position.chunk], position.at, comm)?;
         return Ok(all);
     }
-    let changed = with_comm(alloc, comms, spot.at, comm)?;
-    set_piece(alloc, all, spot.piece, changed)
+    let changed = with_comm(alloc, comms, position.at, comm)?;
+    set_chunk(alloc, all, position.chunk, changed)
 }
 
-// The comm in its place, or in place of the one of its id.
+// Inserts the comm where the byte order wants it, or replaces the one of its id.
 fn put_in(
     alloc: Global,
-    pieces: Vec<Piece>,
-    comm: Keyed,
-    hint: Option<Spot>,
-) -> Result<Vec<Piece>, AllocError>
-    requires filled { AllFilled pieces.items }
-    requires ordered { IsInOrder (flat pieces.items) }
-    ensures put { IfOk result (λ all. flat all.items ≡ put (flat pieces.items) comm) }
-    ensures filled { IfOk result (λ all. AllFilled all.items) }
+    chunks: Vec<CommChunk>,
+    comm: PrefixedComm,
+    hint: Option<Position>,
+) -> Result<Vec<CommChunk>, AllocError>
+    requires filled { AllChunksFilled chunks.items }
+    requires ordered { IsInOrder (comms_in chunks.items) }
+    ensures upsert { IfOk result (λ all. comms_in all.items ≡ upsert (comms_in chunks.items) comm) }
+    ensures filled { IfOk result (λ all. AllChunksFilled all.items) }
 {
-    let mut all = pieces;
-    match spot_of(all.as_slice(), comm.comm().id(), hint) {
-        Some(spot) => put_at(alloc, all, spot, comm),
+    let mut all = chunks;
+    match position_of(all.as_slice(), comm.comm().id(), hint) {
+        Some(position) => put_at(alloc, all, position, comm),
         None => {
             let mut first = Vec::with_capacity(alloc, 1)?;
             first.push(comm)?;
@@ -96,39 +97,41 @@ fn put_in(
     }
 }
 
-// This piece without the comm at i, or a copy without it where others have the piece too.
-fn take_from(alloc: Global, piece: &mut Piece, i: usize) -> Result<(), AllocError>
-    requires { i < length (arc_value piece.old).items }
-    ensures { OnOk result ((arc_value piece.new).items ≡ take i (arc_value piece.old).items ++ drop (i + 1) (arc_value piece.old).items) }
+// Removes the comm at index i of this chunk; a shared chunk is copied.
+fn take_from(alloc: Global, chunk: &mut CommChunk, i: usize) -> Result<(), AllocError>
+    requires { i < length (arc_value chunk.old).items }
+    ensures { OnOk result
+        ((arc_value chunk.new).items
+        ≡ take i (arc_value chunk.old).items ++ drop (i + 1) (arc_value chunk.old).items) }
 {
-    match Arc::get_mut(piece) {
+    match Arc::get_mut(chunk) {
         Some(comms) => {
             comms.remove(i);
             Ok(())
         }
         None => {
-            let left = without_at(alloc, piece.as_slice(), i)?;
-            *piece = Arc::new(alloc, left)?;
+            let left = without_at(alloc, chunk.as_slice(), i)?;
+            *chunk = Arc::new(alloc, left)?;
             Ok(())
         }
     }
 }
 
-// The pieces without the comm of this id, which stands in the piece there at i.
+// Removes the comm of this id, which stands at index i of the chunk at `place`.
 fn take_at(
     alloc: Global,
-    pieces: Vec<Piece>,
+    chunks: Vec<CommChunk>,
     id: &Text,
     place: usize,
     i: usize,
-) -> Result<Vec<Piece>, AllocError>
-    requires filled { AllFilled pieces.items }
-    requires ordered { IsInOrder (flat pieces.items) }
-    requires spot { IsSpot pieces.items id.now (record { piece = place; at = Ok i }) }
-    ensures out { IfOk result (λ all. flat all.items ≡ without (flat pieces.items) id.now) }
-    ensures filled { IfOk result (λ all. AllFilled all.items) }
+) -> Result<Vec<CommChunk>, AllocError>
+    requires filled { AllChunksFilled chunks.items }
+    requires ordered { IsInOrder (comms_in chunks.items) }
+    requires position { IsPosition chunks.items id.now (record { chunk = place; at = Ok i }) }
+    ensures out { IfOk result (λ all. comms_in all.items ≡ without (comms_in chunks.items) id.now) }
+    ensures filled { IfOk result (λ all. AllChunksFilled all.items) }
 {
-    let mut all = pieces;
+    let mut all = chunks;
     if all[place].len() == 1 {
         all.remove(place);
         return Ok(all);
@@ -137,66 +140,69 @@ fn take_at(
     Ok(all)
 }
 
-// The pieces without the comm of this id.
+// Removes the comm of this id, if there is one, and joins its chunk to a neighbour where both are short.
 fn take_out(
     alloc: Global,
-    pieces: Vec<Piece>,
+    chunks: Vec<CommChunk>,
     id: &Text,
-    hint: Option<Spot>,
-) -> Result<Vec<Piece>, AllocError>
-    requires filled { AllFilled pieces.items }
-    requires ordered { IsInOrder (flat pieces.items) }
-    ensures out { IfOk result (λ all. flat all.items ≡ without (flat pieces.items) id.now) }
-    ensures filled { IfOk result (λ all. AllFilled all.items) }
+    hint: Option<Position>,
+) -> Result<Vec<CommChunk>, AllocError>
+    requires filled { AllChunksFilled chunks.items }
+    requires ordered { IsInOrder (comms_in chunks.items) }
+    ensures out { IfOk result (λ all. comms_in all.items ≡ without (comms_in chunks.items) id.now) }
+    ensures filled { IfOk result (λ all. AllChunksFilled all.items) }
 {
-    let Some(spot) = spot_of(pieces.as_slice(), id, hint) else {
-        return Ok(pieces);
+    let Some(position) = position_of(chunks.as_slice(), id, hint) else {
+        return Ok(chunks);
     };
-    match spot.at {
+    match position.at {
         Ok(i) => {
-            let all = take_at(alloc, pieces, id, spot.piece, i)?;
-            let all = joined(alloc, all, spot.piece)?;
-            joined(alloc, all, spot.piece.saturating_sub(1))
+            let all = take_at(alloc, chunks, id, position.chunk, i)?;
+            let all = join_chunks(alloc, all, position.chunk)?;
+            join_chunks(alloc, all, position.chunk.saturating_sub(1))
         }
-        Err(_) => Ok(pieces),
+        Err(_) => Ok(chunks),
     }
 }
 
-// The pieces without the comms of these ids.
+// Removes the comms of these ids.
 fn take_all(
     alloc: Global,
-    pieces: Vec<Piece>,
+    chunks: Vec<CommChunk>,
     ids: &[Text],
-    hint: Option<Spot>,
-) -> Result<Vec<Piece>, AllocError>
-    requires filled { AllFilled pieces.items }
-    requires ordered { IsInOrder (flat pieces.items) }
-    ensures out { IfOk result (λ all. flat all.items ≡ without_all ids.now (flat pieces.items)) }
-    ensures filled { IfOk result (λ all. AllFilled all.items) }
+    hint: Option<Position>,
+) -> Result<Vec<CommChunk>, AllocError>
+    requires filled { AllChunksFilled chunks.items }
+    requires ordered { IsInOrder (comms_in chunks.items) }
+    ensures out { IfOk result (λ all.
+        comms_in all.items ≡ without_all ids.now (comms_in chunks.items)) }
+    ensures filled { IfOk result (λ all. AllChunksFilled all.items) }
 {
-    let mut all = pieces;
+    let mut all = chunks;
     for id in ids {
         all = take_out(alloc, all, id, hint)?;
     }
     Ok(all)
 }
 
-/// The pieces after this row. The hint is where its first comm may stand, or would.
+/// The chunks after this row. The hint is where the first comm of the row may stand, or would; a wrong hint costs a
+/// search. Err: memory.
 pub fn after_row(
     alloc: Global,
-    pieces: Vec<Piece>,
+    chunks: Vec<CommChunk>,
     row: &Row,
-    hint: Option<Spot>,
-) -> Result<Vec<Piece>, AllocError>
-    requires filled { AllFilled pieces.items }
-    requires ordered { IsInOrder (flat pieces.items) }
-    ensures flat { IfOk result (λ all. flat all.items ≡ with_row row.now (flat pieces.items)) }
-    ensures filled { IfOk result (λ all. AllFilled all.items) }
+    hint: Option<Position>,
+) -> Result<Vec<CommChunk>, AllocError>
+    requires filled { AllChunksFilled chunks.items }
+    requires ordered { IsInOrder (comms_in chunks.items) }
+    ensures comms_in { IfOk result (λ all.
+        comms_in all.items ≡ with_row row.now (comms_in chunks.items)) }
+    ensures filled { IfOk result (λ all. AllChunksFilled all.items) }
 {
     match row {
-        Row::Same => Ok(pieces),
-        Row::Put(comm) => put_in(alloc, pieces, Keyed::new(comm.copy()?), hint),
-        Row::Out(ids) => take_all(alloc, pieces, ids.as_slice(), hint),
+        Row::Same => Ok(chunks),
+        Row::Put(comm) => put_in(alloc, chunks, PrefixedComm::new(comm.copy()?), hint),
+        Row::Out(ids) => take_all(alloc, chunks, ids.as_slice(), hint),
         Row::Clear => Ok(Vec::new(alloc)),
     }
 }

@@ -2,15 +2,16 @@
 ghost use Rattle.std.specs.Prelude.{◌≡◌, []};
 ghost use Rattle.comm_versions.specs.Rules.{head_of};
 
-use crate::front::Front;
-use crate::mark::Mark;
+use crate::raw_front::RawFront;
+use crate::stamp::Stamp;
 use comm_core::Entry;
 use logbook::{Gain, Plain, Play, Rule, Seen, Start, Word};
 use std::alloc::Global;
 use std::marker::{Brand, Model, PhantomData};
 use std::sync::Arc;
 
-/// Which history it is, and the limits by which it is legal. Each call of a function that has versions picks them; no code looks at them.
+/// Which history it is, and the limits by which it is legal. Each call of a function that makes versions picks them,
+/// in its proof; no code looks at them.
 pub trait History {
     ghost use Rattle.logbook.specs.Pages.{Book};
     ghost use Rattle.comm_core.specs.declared.limits.Limits.{Limits};
@@ -26,15 +27,15 @@ impl History for Brand {
     ghost limits = { record { clients = 1; comms = 1; history = 1; outbox = 1 } };
 }
 
-/// The rule of the book: what stands in it is a legal history.
-pub struct Law;
+/// The rule of the history's book: what stands in it is a legal history.
+pub struct HistoryRule;
 
-impl Rule<Entry, u64> for Law {
+impl Rule<Entry, u64> for HistoryRule {
     ghost use Rattle.std.specs.Prelude.{[]};
     ghost use base.Fml.{ftrue};
-    ghost use Rattle.comm_versions.specs.Rules.{IsKept};
+    ghost use Rattle.comm_versions.specs.Rules.{IsHistoryBook};
 
-    ghost holds = { λ cells log. IsKept cells log };
+    ghost holds = { λ cells log. IsHistoryBook cells log };
 
     ghost first = { [] };
 
@@ -47,25 +48,25 @@ impl Rule<Entry, u64> for Law {
     ghost moves = { λ ask before after answer. Unit {0} };
 }
 
-/// A step of the book trades nothing.
-pub struct Nothing;
+/// A step of the book that trades nothing.
+pub struct NoOffer;
 
-impl Gain<Entry, u64> for Nothing {
+impl Gain<Entry, u64> for NoOffer {
     ghost use base.Fml.{ftrue};
 
     ghost after = { λ names about answer. ftrue };
 }
 
-/// The step that adds an entry.
-pub struct Add;
+/// The step that appends an entry.
+pub struct AppendStep;
 
-impl Play<Entry, u64> for Add {
+impl Play<Entry, u64> for AppendStep {
     ghost use Rattle.comm_versions.specs.Rules.{Adds};
 
     ghost then = { Adds };
 }
 
-impl Plain<Arc<Entry, Global>, Entry, u64> for Add {
+impl Plain<Arc<Entry, Global>, Entry, u64> for AppendStep {
     ghost use Rattle.std.specs.Prelude.{None};
     ghost use Rattle.std.specs.Arc.{arc_value};
 
@@ -77,8 +78,8 @@ impl Plain<Arc<Entry, Global>, Entry, u64> for Add {
 /// An empty history that has no name yet. Contracts see what it is to be named by.
 #[derive(Drop)]
 pub struct BlankHistory {
-    head: Word<Entry, u64, Law>,
-    seen: Seen<Entry, u64, Law>,
+    head: Word<Entry, u64, HistoryRule>,
+    seen: Seen<Entry, u64, HistoryRule>,
 }
 
 impl Model for BlankHistory {
@@ -96,6 +97,7 @@ impl Model for BlankHistory {
 }
 
 impl BlankHistory {
+    /// Opens a new book, with its length as a word. It takes no memory.
     pub fn new() -> BlankHistory {
         let (seen, mut first, _second) = Seen::open(Start::alone(), 0, 0);
         BlankHistory {
@@ -104,8 +106,8 @@ impl BlankHistory {
         }
     }
 
-    /// The history's word under a name, and the front that has seen nothing.
-    pub(crate) fn named<M: History>(self, clients: u8, comms: usize) -> (Head<M>, Front<M>)
+    /// Names the history: gives the word with its length, and the front that has seen nothing.
+    pub(crate) fn open<M: History>(self, clients: u8, comms: usize) -> (Head<M>, Stamp<M>)
         requires book { self ≡ M.book }
         requires limits { (clients ≡ M.limits.clients) × (comms ≡ M.limits.comms) }
         ensures { result.1 ≡ [] }
@@ -115,14 +117,14 @@ impl BlankHistory {
             head,
             of: PhantomData,
         };
-        (head, Front::of(Mark::first(clients, comms, seen)))
+        (head, Stamp::from_raw(RawFront::first(clients, comms, seen)))
     }
 }
 
-/// The one word of the history that a program has: its length.
+/// The one word of the history that a program has: its length, in entries.
 #[derive(Drop)]
 pub struct Head<M: History> {
-    pub(crate) head: Word<Entry, u64, Law>,
+    pub(crate) head: Word<Entry, u64, HistoryRule>,
     of: PhantomData<M>,
     ghost head_is: { head ≡ head_of M.book },
 }

@@ -1,33 +1,34 @@
-//! One history of entries, versions of the open comms for readers, and stamps that tell of it.
+//! One append-only history of entries, snapshots of the open comms for readers, and stamps that tell of them.
 //!
-//! The history itself exists in proofs alone. A [`VersionWriter`] adds entries to it and publishes the comms after them; a
-//! [`VersionReader`] takes no lock, and each of its reads is at a front, a beginning of the history, that begins with all that the reader had
-//! seen. A [`Stamp`] tells a reader of a front, from which on it sees no less.
+//! The history itself exists in proofs alone. A [`VersionWriter`] appends entries to it and publishes the comms after
+//! them. A [`VersionReader`] takes no lock: each of its reads is at a front, a prefix of the history, that includes
+//! all that this reader had seen. A [`Stamp`] is such a front as a value: a reader that hears it sees no less from
+//! then on.
 //!
-//! A version is one shared root, under which the comms stand in the byte order of their ids. The next version is one that nobody looks at any more,
-//! brought up to date, or else a copy that shares what stayed. A reader keeps the list of comms that it read last, and gives it again until a comm comes or goes.
+//! A version is one shared root, under which the comms stand in the byte order of their ids. The next version is one
+//! that no reader looks at any more, brought up to date, or else a copy that shares what didn't change. A reader
+//! caches the list of comms that it read last, and gives it again until a comm opens or closes.
 #![tactic(auto)]
 
 mod adding;
 mod change;
 mod changing;
-mod front;
+mod chunks;
+mod comm_table;
 mod history;
-mod keyed;
-mod look;
-mod mark;
 mod opening;
-mod pieces;
-mod published;
+mod position;
+mod prefixed_comm;
+mod published_front;
+mod raw_front;
 mod reader;
+mod reader_state;
 mod reads;
-mod rows;
+mod row_effect;
 mod search;
 mod showing;
-mod sight;
-mod spot;
 mod stamp;
-mod trail;
+mod table_buffers;
 mod version;
 mod writer;
 

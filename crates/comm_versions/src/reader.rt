@@ -7,17 +7,16 @@ ghost use Rattle.comm_core.specs.History.{has_end, IsLegal, replay};
 ghost use Rattle.comm_core.specs.Reads.{infos, state_of};
 ghost use Rattle.comm_core.specs.Row.{rows};
 ghost use Rattle.comm_versions.specs.Known.{origin_of};
-ghost use Rattle.comm_versions.specs.Listing.{IsSettled};
+ghost use Rattle.comm_versions.specs.Listing.{ListsAlikeSince};
 ghost use Rattle.comm_versions.specs.declared.reads.ReadFault.TheVariants as fault;
 
-use crate::front::Front;
+use crate::comm_table::CommTable;
 use crate::history::History;
-use crate::mark::Mark;
+use crate::raw_front::RawFront;
+use crate::reader_state::ReaderState;
 use crate::reads::{InfoRead, ReadFault, StateRead};
-use crate::rows::Rows;
-use crate::sight::Sight;
 use crate::stamp::Stamp;
-use crate::version::{Lens, Sees, Version};
+use crate::version::{SeeStep, SnapshotReader, Version};
 use comm_core::{comms_in_order_are_the_comms, replays_are_consistent};
 use comm_messages::Infos;
 use comm_value::Text;
@@ -26,19 +25,19 @@ use std::alloc::{AllocError, Global};
 use std::marker::Model;
 use std::sync::Arc;
 
-// The comms that are shown, and the number of their front.
+// The table that is shown, the length of its front, and since when its listing is the same.
 #[derive(Drop)]
 struct Shown {
     front: u64,
-    since: u64,
-    root: Arc<Rows, Global>,
+    listing_since: u64,
+    root: Arc<CommTable, Global>,
 }
 
 /// Reads the comms that are shown. Contracts see the front that it has seen.
 #[derive(Drop)]
 pub struct VersionReader<M: History> {
-    lens: Lens,
-    sight: Sight<M>,
+    snapshots: SnapshotReader,
+    reader_state: ReaderState<M>,
 }
 
 impl<M: History> Model for VersionReader<M> {
@@ -52,56 +51,70 @@ impl<M: History> Model for VersionReader<M> {
 
     ghost coded = { entries_code };
 
-    ghost view = { λ r. r.sight };
+    ghost view = { λ r. r.reader_state };
 
-    ghost invariant = { λ r. ((known_at r.lens.place).0 ≡ true) × ((known_at r.lens.place).1.origin ≡ origin_of M.book M.limits) };
+    ghost invariant = { λ r.
+        ((known_at r.snapshots.place).0 ≡ true)
+        × ((known_at r.snapshots.place).1.origin ≡ origin_of M.book M.limits) };
 }
 
-type Found = (Mark, Result<Version, AllocError>);
+// A front that is shown, and its version, unless the count of its root couldn't be raised.
+type Found = (RawFront, Result<Version, AllocError>);
 
-// What is shown, which begins with what was shown before.
+// The version that is shown; its front includes what was shown before.
 //
-// A publish waits for readers that are inside, from `enter_as` to `leave`. So nothing is done there but to share the root and to copy the mark:
-// no memory is taken, no text compared, nothing else counted. No contract says that.
-fn look(lens: Lens) -> (Lens, Option<Found>)
-    requires { (view lens.place).0 ≡ true }
-    ensures knows { ((view result.0.place).0 ≡ true) × ((view result.0.place).1.origin ≡ (view lens.place).1.origin) }
-    ensures found { IfSome result.1 (λ r. (r.0.origin ≡ (view lens.place).1.origin) × IsPrefix (view lens.place).1.front r.0.front × IfOk r.1 (λ v. v.mark ≡ r.0)) }
+// A publish waits for readers that are inside, from `enter_as` to `leave`. So nothing is done there but to share the
+// root and to copy the front: no memory is taken, no string compared, nothing else counted. No contract says that.
+fn current_version(snapshots: SnapshotReader) -> (SnapshotReader, Option<Found>)
+    requires { (view snapshots.place).0 ≡ true }
+    ensures knows { ((view result.0.place).0 ≡ true)
+        × ((view result.0.place).1.origin ≡ (view snapshots.place).1.origin) }
+    ensures found { IfSome result.1 (λ r.
+        (r.0.origin ≡ (view snapshots.place).1.origin)
+        × IsPrefix (view snapshots.place).1.entries r.0.entries × IfOk r.1 (λ v. v.front ≡ r.0)) }
 {
-    match lens.enter_as::<Sees>() {
+    match snapshots.enter_as::<SeeStep>() {
         Ok(reading) => {
             let shown = reading.get();
-            let mark = shown.mark.again();
-            let version = shown.again();
-            (reading.leave(), Some((mark, version)))
+            let raw = shown.front.copy();
+            let version = shown.try_clone();
+            (reading.leave(), Some((raw, version)))
         }
-        Err(lens) => (lens, None),
+        Err(snapshots) => (snapshots, None),
     }
 }
 
-// Sees what was found. NoVersion comes only where nothing was. A version whose root couldn't be shared is want of memory. So is
-// one that lags behind what was seen: there is none, since a stamp is made after its front was published, but no contract says so.
-fn see<M: History>(sight: &mut Sight<M>, found: Option<Found>) -> Result<Shown, ReadFault>
+// Takes note of the version that was found. NoVersion comes only where none was. A version whose root couldn't be
+// shared is want of memory. So is one that lags behind what was seen: there is none, since a stamp is made after its
+// front was published, but no contract says so.
+fn see<M: History>(
+    reader_state: &mut ReaderState<M>,
+    found: Option<Found>,
+) -> Result<Shown, ReadFault>
     requires origin { IfSome found (λ r. r.0.origin ≡ origin_of M.book M.limits) }
-    requires version { IfSome found (λ r. IfOk r.1 (λ v. v.mark ≡ r.0)) }
-    ensures later { IsPrefix sight.old sight.new }
-    ensures shown { IfOk result (λ r. (r.front ≡ length sight.new) × IsLegal M.limits.clients M.limits.comms sight.new × (arc_value r.root ≡ rows (replay M.limits.comms sight.new)) × IsSettled M.limits.comms r.since sight.new) }
+    requires version { IfSome found (λ r. IfOk r.1 (λ v. v.front ≡ r.0)) }
+    ensures later { IsPrefix reader_state.old reader_state.new }
+    ensures shown { IfOk result (λ r.
+        (r.front ≡ length reader_state.new)
+        × IsLegal M.limits.clients M.limits.comms reader_state.new
+        × (arc_value r.root ≡ rows (replay M.limits.comms reader_state.new))
+        × ListsAlikeSince M.limits.comms r.listing_since reader_state.new) }
     ensures nothing { IsErrOf result fault.NoVersion → found ≡ None }
-    ensures none { IsErrOf result fault.NoVersion → sight.new ≡ sight.old }
+    ensures none { IsErrOf result fault.NoVersion → reader_state.new ≡ reader_state.old }
 {
-    let Some((mark, version)) = found else {
+    let Some((raw, version)) = found else {
         return Err(ReadFault::NoVersion);
     };
-    let shown: Front<M> = Front::of(mark);
-    if !sight.front().begins(&shown) {
+    let shown: Stamp<M> = Stamp::from_raw(raw);
+    if !reader_state.front().is_prefix_of(&shown) {
         return Err(ReadFault::Memory);
     }
-    let front = shown.len();
-    sight.advance(shown);
+    let front = shown.number();
+    reader_state.advance(shown);
     match version {
         Ok(version) => Ok(Shown {
             front,
-            since: version.since,
+            listing_since: version.listing_since,
             root: version.into_root(),
         }),
         Err(_) => Err(ReadFault::Memory),
@@ -109,27 +122,36 @@ fn see<M: History>(sight: &mut Sight<M>, found: Option<Found>) -> Result<Shown, 
 }
 
 impl<M: History> VersionReader<M> {
-    pub(crate) fn new(lens: Lens, front: Front<M>) -> VersionReader<M>
-        requires { ((view lens.place).0 ≡ true) × ((view lens.place).1.origin ≡ origin_of M.book M.limits) }
+    /// A reader that has seen this front.
+    pub(crate) fn new(snapshots: SnapshotReader, front: Stamp<M>) -> VersionReader<M>
+        requires { ((view snapshots.place).0 ≡ true)
+            × ((view snapshots.place).1.origin ≡ origin_of M.book M.limits) }
         ensures { result ≡ front }
     {
         VersionReader {
-            lens,
-            sight: Sight::new(front),
+            snapshots,
+            reader_state: ReaderState::new(front),
         }
     }
 
-    // What is shown now. Its front begins with all that was seen before.
+    // What is shown now. Its front includes all that was seen before.
     fn enter(&mut self) -> Result<Shown, ReadFault>
         ensures later { IsPrefix self.old self.new }
-        ensures shown { IfOk result (λ r. (r.front ≡ length self.new) × IsLegal M.limits.clients M.limits.comms self.new × (arc_value r.root ≡ rows (replay M.limits.comms self.new)) × IsSettled M.limits.comms r.since self.new) }
+        ensures shown { IfOk result (λ r.
+            (r.front ≡ length self.new) × IsLegal M.limits.clients M.limits.comms self.new
+            × (arc_value r.root ≡ rows (replay M.limits.comms self.new))
+            × ListsAlikeSince M.limits.comms r.listing_since self.new) }
         ensures none { IsErrOf result fault.NoVersion → self.new ≡ self.old }
     {
-        let found = replace_with(&mut self.lens, (), |lens, _| look(lens));
-        see(&mut self.sight, found)
+        let found = replace_with(
+            &mut self.snapshots,
+            (),
+            |snapshots, _| current_version(snapshots),
+        );
+        see(&mut self.reader_state, found)
     }
 
-    // The comms that are shown and asked for: the list that was read last, where no comm came or went since.
+    // The comms that are shown and asked for: the cached list, where no comm opened or closed since it was read.
     fn list(
         &mut self,
         alloc: Global,
@@ -137,26 +159,29 @@ impl<M: History> VersionReader<M> {
         asked: Option<&Text>,
     ) -> Result<Infos, AllocError>
         requires root { arc_value shown.now.root ≡ rows (replay M.limits.comms self.old) }
-        requires settled { IsSettled M.limits.comms shown.now.since self.old }
+        requires settled { ListsAlikeSince M.limits.comms shown.now.listing_since self.old }
         ensures seen { self.new ≡ self.old }
-        ensures comms { IfOk result (λ i. i ≡ infos (replay M.limits.comms self.old) (option_map (λ t. t.now) asked.entry)) }
+        ensures comms { IfOk result (λ i.
+            i ≡ infos (replay M.limits.comms self.old) (option_map (λ t. t.now) asked.entry)) }
     {
-        if let Some(comms) = self.sight.listed(shown.since, asked) {
+        if let Some(comms) = self.reader_state.cached_infos(shown.listing_since, asked) {
             return comms.copy();
         }
         let comms = shown.root.infos(alloc, asked)?;
-        self.sight.keep(asked, &comms)?;
+        self.reader_state.keep(asked, &comms)?;
         Ok(comms)
     }
 
-    /// The open comms, those of one target where a name is given, after the entries that are then seen. They begin with all
-    /// that was seen before. NoVersion leaves what was seen. Where no comm came or went since this reader last read the same,
-    /// it is the same list, shared.
+    /// The open comms with the names of their targets, all or those of one target, after the entries that are then
+    /// seen; these include all that was seen before. Where no comm opened or closed since this reader last read the
+    /// same, it is the cached list, shared. Err: NoVersion leaves what was seen; Memory may have made it longer.
     pub fn read_infos(&mut self, alloc: Global, asked: Option<&Text>) -> Result<InfoRead, ReadFault>
         ensures later { IsPrefix self.old self.new }
         ensures legal { OnOk result (IsLegal M.limits.clients M.limits.comms self.new) }
         ensures front { IfOk result (λ r. r.front ≡ length self.new) }
-        ensures answer { IfOk result (λ r. r.comms ≡ infos (replay M.limits.comms self.new) (option_map (λ t. t.now) asked.entry)) }
+        ensures answer { IfOk result (λ r.
+            r.comms ≡ infos (replay M.limits.comms self.new)
+            (option_map (λ t. t.now) asked.entry)) }
         ensures none { IsErrOf result fault.NoVersion → self.new ≡ self.old }
     {
         let shown = self.enter()?;
@@ -169,13 +194,14 @@ impl<M: History> VersionReader<M> {
         }
     }
 
-    /// The state of the comm of this id after the entries that are then seen. They begin with all that was seen before.
-    /// NoVersion leaves what was seen.
+    /// The state of the comm of this id after the entries that are then seen; these include all that was seen before.
+    /// Err: NoVersion leaves what was seen; Memory may have made it longer.
     pub fn read_state(&mut self, id: &Text) -> Result<StateRead, ReadFault>
         ensures later { IsPrefix self.old self.new }
         ensures legal { OnOk result (IsLegal M.limits.clients M.limits.comms self.new) }
         ensures front { IfOk result (λ r. r.front ≡ length self.new) }
-        ensures answer { IfOk result (λ r. r.answer ≡ state_of (replay M.limits.comms self.new) id.now) }
+        ensures answer { IfOk result (λ r.
+            r.answer ≡ state_of (replay M.limits.comms self.new) id.now) }
         ensures none { IsErrOf result fault.NoVersion → self.new ≡ self.old }
     {
         replays_are_consistent();
@@ -187,29 +213,31 @@ impl<M: History> VersionReader<M> {
         }
     }
 
-    /// From now on it sees no less than the stamp's front. It takes no memory.
+    /// From now on this reader sees no less than the stamp's front. It takes no memory.
     pub fn hear(&mut self, stamp: &Stamp<M>)
         ensures one { (self.new ≡ self.old) ⊎ (self.new ≡ stamp.now) }
         ensures own { IsPrefix self.old self.new }
         ensures stamp { IsPrefix stamp.now self.new }
     {
-        if self.sight.front().begins(&stamp.front) {
-            self.sight.advance(stamp.front.again());
+        if self.reader_state.front().is_prefix_of(stamp) {
+            self.reader_state.advance(stamp.copy());
         }
     }
 
-    /// All that it has seen stands in a history that has ended.
-    pub fn within(&self, stamp: &Stamp<M>)
+    /// A proof step, which does nothing when it runs: what the reader has seen is a prefix of a history that has
+    /// ended.
+    pub fn learn_ended(&self, stamp: &Stamp<M>)
         ensures { has_end stamp.now ≡ true → IsPrefix self.now stamp.now }
     {
-        self.sight.front().within(&stamp.front)
+        self.reader_state.front().learn_ended(stamp)
     }
 
-    /// How many entries it has seen.
+    /// How many entries it has seen. It takes no memory.
+    #[must_use]
     pub fn seen(&self) -> u64
         ensures length { result ≡ length self.now }
         ensures legal { IsLegal M.limits.clients M.limits.comms self.now }
     {
-        self.sight.front().len()
+        self.reader_state.front().number()
     }
 }

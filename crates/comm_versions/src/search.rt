@@ -1,28 +1,32 @@
-//! Where an id stands among comms in order.
+//! Binary searches for an id among comms in order.
 ghost use Rattle.std.specs.Prelude.{◌≡◌, ◌<◌, ◌≤◌, ◌+◌, IfOk, IfErr, length, take, drop};
-ghost use Rattle.comm_versions.specs.Rows.{AllBelow, AllFilled, IsAbsent, IsFound, IsInOrder, flat};
+ghost use Rattle.comm_versions.specs.Chunks.{AllIdsBelow, AllChunksFilled, IsBelowFirst, StartsWithId, IsInOrder, comms_in};
 
-use crate::keyed::{Keyed, start_of};
+use crate::prefixed_comm::{PrefixedComm, id_prefix};
 use comm_value::Text;
 use std::alloc::Global;
 use std::cmp::Ordering;
 use std::sync::Arc;
 
 /// Some comms that follow one another, at least one. The tables before and after a change share it.
-pub type Piece = Arc<Vec<Keyed, Global>, Global>;
+pub type CommChunk = Arc<Vec<PrefixedComm, Global>, Global>;
 
-/// Where the comm of this id stands, or where it would.
-pub fn place_of(comms: &[Keyed], id: &Text) -> Result<usize, usize>
+/// The index of the comm of this id (Ok), or the index at which it would be inserted (Err).
+pub fn place_of(comms: &[PrefixedComm], id: &Text) -> Result<usize, usize>
     requires { IsInOrder comms.now }
-    ensures found { IfOk result (λ i. (i < length comms.now) × AllBelow id.now (take i comms.now) × IsFound id.now (drop i comms.now)) }
-    ensures absent { IfErr result (λ i. (i ≤ length comms.now) × AllBelow id.now (take i comms.now) × IsAbsent id.now (drop i comms.now)) }
+    ensures found { IfOk result (λ i.
+        (i < length comms.now) × AllIdsBelow id.now (take i comms.now)
+        × StartsWithId id.now (drop i comms.now)) }
+    ensures absent { IfErr result (λ i.
+        (i ≤ length comms.now) × AllIdsBelow id.now (take i comms.now)
+        × IsBelowFirst id.now (drop i comms.now)) }
 {
-    let start = start_of(id);
+    let prefix = id_prefix(id);
     let mut low = 0;
     let mut high = comms.len();
     while low < high {
         let middle = low + (high - low) / 2;
-        match comms[middle].order(&start, id) {
+        match comms[middle].order(&prefix, id) {
             Ordering::Less => high = middle,
             Ordering::Equal => return Ok(middle),
             Ordering::Greater => low = middle + 1,
@@ -31,22 +35,22 @@ pub fn place_of(comms: &[Keyed], id: &Text) -> Result<usize, usize>
     Err(low)
 }
 
-/// The piece in which the comm of this id stands, or would, by a search over the first ids.
-pub fn piece_of(pieces: &[Piece], id: &Text) -> usize
-    requires some { 0 < length pieces.now }
-    requires filled { AllFilled pieces.now }
-    requires ordered { IsInOrder (flat pieces.now) }
-    ensures within { result < length pieces.now }
-    ensures below { AllBelow id.now (flat (take result pieces.now)) }
-    ensures above { IsAbsent id.now (flat (drop (result + 1) pieces.now)) }
+/// The chunk in which the comm of this id stands, or would, by a search over the first ids.
+pub fn chunk_of(chunks: &[CommChunk], id: &Text) -> usize
+    requires some { 0 < length chunks.now }
+    requires filled { AllChunksFilled chunks.now }
+    requires ordered { IsInOrder (comms_in chunks.now) }
+    ensures within { result < length chunks.now }
+    ensures below { AllIdsBelow id.now (comms_in (take result chunks.now)) }
+    ensures above { IsBelowFirst id.now (comms_in (drop (result + 1) chunks.now)) }
 {
-    let start = start_of(id);
+    let prefix = id_prefix(id);
     let mut low = 0;
-    let mut high = pieces.len();
+    let mut high = chunks.len();
     while low + 1 < high {
         let middle = low + (high - low) / 2;
-        let comms = pieces[middle].as_slice();
-        match comms[0].order(&start, id) {
+        let comms = chunks[middle].as_slice();
+        match comms[0].order(&prefix, id) {
             Ordering::Less => high = middle,
             _ => low = middle,
         }

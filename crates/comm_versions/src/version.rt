@@ -3,10 +3,10 @@ ghost use Rattle.std.specs.Prelude.{◌≡◌, IfOk};
 ghost use Rattle.std.specs.Arc.{arc_value};
 ghost use Rattle.comm_core.specs.History.{replay};
 ghost use Rattle.comm_core.specs.Row.{rows};
-ghost use Rattle.comm_versions.specs.Listing.{IsSettled};
+ghost use Rattle.comm_versions.specs.Listing.{ListsAlikeSince};
 
-use crate::mark::Mark;
-use crate::rows::Rows;
+use crate::comm_table::CommTable;
+use crate::raw_front::RawFront;
 use atomic_table::{Join, Split};
 use crossbeam_utils::rule::{Outcome, Protocol};
 use left_right::Absorb;
@@ -15,72 +15,83 @@ use left_right::writer::Writer;
 use std::alloc::{AllocError, Global};
 use std::sync::Arc;
 
-/// The comms after a beginning of the history, beside that beginning. It is what is shown, and what is applied. The beginnings of more
-/// than `since` entries list the same comms.
+/// The table of comms after a front, and that front. It is what is shown, and what is applied. The prefixes of more
+/// than `listing_since` entries list the same comms.
 #[derive(Drop)]
 pub struct Version {
-    pub root: Arc<Rows, Global>,
-    pub since: u64,
-    pub mark: Mark,
-    pub ghost kept: { (arc_value root ≡ rows (replay mark.origin.limit mark.front)) × IsSettled mark.origin.limit since mark.front },
+    pub root: Arc<CommTable, Global>,
+    pub listing_since: u64,
+    pub front: RawFront,
+    pub ghost kept: { (arc_value root ≡ rows (replay front.origin.limit front.entries))
+        × ListsAlikeSince front.origin.limit listing_since front.entries },
 }
 
 impl Version {
-    /// Of comms of which nothing more is known.
-    pub fn of(root: Arc<Rows, Global>, mark: Mark) -> Version
-        requires { arc_value root ≡ rows (replay mark.origin.limit mark.front) }
-        ensures mark { result.mark ≡ mark }
+    /// A version whose listing is taken for new.
+    pub fn new(root: Arc<CommTable, Global>, front: RawFront) -> Version
+        requires { arc_value root ≡ rows (replay front.origin.limit front.entries) }
+        ensures front { result.front ≡ front }
         ensures root { result.root ≡ root }
     {
-        let since = mark.len();
-        Version::settled(root, since, mark)
+        let listing_since = front.len();
+        Version::with_listing_since(root, listing_since, front)
     }
 
-    pub fn settled(root: Arc<Rows, Global>, since: u64, mark: Mark) -> Version
-        requires root { arc_value root ≡ rows (replay mark.origin.limit mark.front) }
-        requires settled { IsSettled mark.origin.limit since mark.front }
-        ensures mark { result.mark ≡ mark }
+    /// A version whose listing is the same after each prefix of more than so many entries.
+    pub fn with_listing_since(
+        root: Arc<CommTable, Global>,
+        listing_since: u64,
+        front: RawFront,
+    ) -> Version
+        requires root { arc_value root ≡ rows (replay front.origin.limit front.entries) }
+        requires settled { ListsAlikeSince front.origin.limit listing_since front.entries }
+        ensures front { result.front ≡ front }
         ensures root { result.root ≡ root }
-        ensures since { result.since ≡ since }
+        ensures listing_since { result.listing_since ≡ listing_since }
     {
-        Version { root, since, mark }
+        Version {
+            root,
+            listing_since,
+            front,
+        }
     }
 
-    pub fn into_root(self) -> Arc<Rows, Global>
+    /// The root of its table.
+    pub fn into_root(self) -> Arc<CommTable, Global>
         ensures { result ≡ self.root }
     {
         let Self {
             root,
-            since: _,
-            mark: _mark,
+            listing_since: _,
+            front: _front,
         } = self;
         root
     }
 
-    /// The same once more: the root is shared, the mark copied. Err: it can't be shared once more.
-    pub fn again(&self) -> Result<Version, AllocError>
-        ensures mark { IfOk result (λ v. v.mark ≡ self.now.mark) }
+    /// A copy that shares the root. Err: its count can't be raised.
+    pub fn try_clone(&self) -> Result<Version, AllocError>
+        ensures front { IfOk result (λ v. v.front ≡ self.now.front) }
         ensures root { IfOk result (λ v. arc_value v.root ≡ arc_value self.now.root) }
     {
         let root = Arc::try_clone(&self.root)?;
         Ok(Version {
             root,
-            since: self.since,
-            mark: self.mark.again(),
+            listing_since: self.listing_since,
+            front: self.front.copy(),
         })
     }
 }
 
-/// A version is replaced by another.
+// A version is replaced by another.
 impl Absorb<Version> for Version {
-    type State = Mark;
+    type State = RawFront;
 
-    ghost state = { λ s. s.mark };
+    ghost state = { λ s. s.front };
 
-    ghost applied = { λ s op. op.mark };
+    ghost applied = { λ s op. op.front };
 
     fn absorb_first(&mut self, op: &Version, _other: &Version) -> Result<(), AllocError> {
-        *self = op.again()?;
+        *self = op.try_clone()?;
         Ok(())
     }
 
@@ -90,40 +101,40 @@ impl Absorb<Version> for Version {
     }
 }
 
-/// Each seat has seen a beginning of the front that is shown.
-pub struct Kept;
+/// The rule of what is shown: each seat has seen a prefix of the front that is shown.
+pub struct PublishRule;
 
-/// What a seat knows. No value of it is made.
-pub type View = (bool, Mark);
+/// What the rule knows of a seat: whether it has seen anything, and which front. No value of it is made.
+pub type SeatView = (bool, RawFront);
 
-impl Protocol<Version, View> for Kept {
+impl Protocol<Version, SeatView> for PublishRule {
     ghost use Rattle.comm_versions.specs.Seats.{IsShown, stranger};
 
-    ghost holds = { λ x views. IsShown x.mark views };
+    ghost holds = { λ x views. IsShown x.front views };
 
     ghost first = { stranger };
 }
 
-/// A seat sees what is shown.
-pub struct Sees;
+/// The step after which a seat has seen what is shown: a read, or a publish.
+pub struct SeeStep;
 
-impl Outcome<Version, View> for Sees {
+impl Outcome<Version, SeatView> for SeeStep {
     ghost use Rattle.std.specs.Prelude.{◌≡◌, true};
     ghost use Rattle.comm_versions.specs.Seats.{Knows};
 
-    ghost then = { λ v x y w. (w ≡ (true, y.mark)) × Knows y.mark v };
+    ghost then = { λ v x y w. (w ≡ (true, y.front)) × Knows y.front v };
 }
 
-/// A new reader is told what the writer knows.
-pub struct Told;
+/// The step that gives a new reader what the writer knows.
+pub struct JoinStep;
 
-impl Split<View> for Told {
+impl Split<SeatView> for JoinStep {
     ghost left = { λ v. v };
 
     ghost right = { λ v. v };
 }
 
-impl Join<View> for Told {
+impl Join<SeatView> for JoinStep {
     ghost use Rattle.comm_versions.specs.Seats.{stranger};
 
     ghost both = { λ v w. w };
@@ -131,6 +142,8 @@ impl Join<View> for Told {
     ghost spent = { stranger };
 }
 
-pub type Shelf = Writer<Version, Version, View, Kept>;
+/// The writer of `left_right` over versions.
+pub type SnapshotWriter = Writer<Version, Version, SeatView, PublishRule>;
 
-pub type Lens = Reader<Version, View, Kept>;
+/// A reader of `left_right` over versions.
+pub type SnapshotReader = Reader<Version, SeatView, PublishRule>;

@@ -1,4 +1,4 @@
-use Rattle.comm_outbox.specs.Carried.{bounds}
+use Rattle.comm_outbox.specs.Order.{bounds}
 use Rattle.comm_outbox.proofs.opening.outbox.Given as goal
 
 abbrev pub ghosts-split : goal.ghosts-split

@@ -6,12 +6,12 @@ use Rattle.comm_versions.proofs.adding.add.Goals as goal
 
 pub show-requires : goal.show-requires
 show-requires g c =
-    let shown = ap (λ (v : Version). v.mark) c.enqueue.ensures.shown ∙ c.requires.shown in
-    let mark = c.version.ensures in
-    let front = ap (λ (k : Known). k.front) mark ∙ (c.extend.ensures ∙ sym (ap (λ (k : Known). k.front ++ arc_value c.args.step.entry ∷ []) shown)) in
+    let shown = ap (λ (v : Version). v.front) c.enqueue.ensures.shown ∙ c.requires.shown in
+    let version = c.version.ensures in
+    let front = ap (λ (k : Known). k.entries) version ∙ (c.extend.ensures ∙ sym (ap (λ (k : Known). k.entries ++ arc_value c.args.pending_entry.entry ∷ []) shown)) in
     record {
       op = c.version.result;
       alone = c.enqueue.ensures.pending ∙ ap (λ (l : List Version). l ++ c.version.result ∷ []) c.requires.pending;
-      origin = ap (λ (k : Known). k.origin) mark ∙ sym (ap (λ (k : Known). k.origin) shown);
-      later = (arc_value c.args.step.entry ∷ [], sym front);
+      origin = ap (λ (k : Known). k.origin) version ∙ sym (ap (λ (k : Known). k.origin) shown);
+      later = (arc_value c.args.pending_entry.entry ∷ [], sym front);
     }

@@ -1,4 +1,4 @@
-use Rattle.comm_versions.proofs.Spots.{set_there, insert_there}
+use Rattle.comm_versions.proofs.Positions.{set_there, insert_there}
 use Rattle.comm_versions.proofs.changing.put_among.Goals as goal
 
 pub returns-in-Ok : goal.returns-in-Ok

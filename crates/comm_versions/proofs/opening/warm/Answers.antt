@@ -7,11 +7,11 @@ use Rattle.comm_versions.proofs.opening.warm.Goals as goal
 
 pub show-requires : goal.show-requires
 show-requires g c =
-    let shown = ap (λ d. d.shown.value.mark) c.in-Ok.ensures.desk ∙ c.requires.shown in
-    let mark = c.of-version.ensures.mark ∙ c.again.ensures ∙ sym shown in
+    let shown = ap (λ d. d.shown.value.front) c.in-Ok.ensures.desk ∙ c.requires.shown in
+    let front = c.new-version.ensures.front ∙ c.copy.ensures ∙ sym shown in
     record {
-      op = c.of-version.result;
-      alone = c.in-Ok.ensures.pending ∙ ap (λ (l : List Version). l ++ c.of-version.result ∷ []) c.requires.waits;
-      origin = ap (λ (k : Known). k.origin) mark;
-      later = subst (λ (k : Known). IsPrefix k.front c.of-version.result.mark.front) mark (prefix_self c.of-version.result.mark.front);
+      op = c.new-version.result;
+      alone = c.in-Ok.ensures.pending ∙ ap (λ (l : List Version). l ++ c.new-version.result ∷ []) c.requires.waits;
+      origin = ap (λ (k : Known). k.origin) front;
+      later = subst (λ (k : Known). IsPrefix k.entries c.new-version.result.front.entries) front (prefix_self c.new-version.result.front.entries);
     }

@@ -2,5 +2,5 @@ use Rattle.std.proofs.Common.{drop}
 use Rattle.comm_versions.proofs.Seats.{shows}
 use Rattle.comm_versions.proofs.showing.try_show.Goals as goal
 
-pub publish_as-shelf-requires : goal.publish_as-shelf-requires
-publish_as-shelf-requires g c next is = shows _ _ c.args.shelf.desk.shown.value next (drop c.args.shelf.behind c.args.shelf.log.items) c.requires is
+pub publish_as-snapshots-requires : goal.publish_as-snapshots-requires
+publish_as-snapshots-requires g c next is = shows _ _ c.args.snapshots.desk.shown.value next (drop c.args.snapshots.behind c.args.snapshots.log.items) c.requires is

@@ -1,13 +1,13 @@
 use Rattle.std.proofs.Common.{◌≡◌, ◌+◌, ◌≤◌, ℕ, zero, suc, [], ◌∷◌, ◌++◌, length, refl, ap, ◌∙◌, subst, arith}
 use Rattle.std.proofs.lemmas.List.{length-append}
 use Rattle.comm_core.specs.Limits.{AreAllowed}
-use Rattle.comm_manager.specs.Who.{all_new, who}
+use Rattle.comm_manager.specs.ClientView.{all_new, client_view}
 use Rattle.shared_script.proofs.running.opened.Goals as goal
 
 so_many : (n : ℕ) → length (all_new n) ≡ n
 so_many zero = refl
 so_many (suc n) =
-    let more : length (all_new n ++ who n 0 [] ∷ []) ≡ length (all_new n) + 1 = length-append (all_new n) (who n 0 [] ∷ []) in
+    let more : length (all_new n ++ client_view n 0 [] ∷ []) ≡ length (all_new n) + 1 = length-append (all_new n) (client_view n 0 [] ∷ []) in
     let fewer : length (all_new n) ≡ n = so_many n in
     omega (arith, more, fewer)
 

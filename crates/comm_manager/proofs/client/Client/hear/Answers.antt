@@ -5,9 +5,9 @@ use Rattle.comm_manager.proofs.client.Client.hear.Goals as goal
 pub invariant_of-self : goal.invariant_of-self
 invariant_of-self g c =
     let i = c.self.inside in
-    (c.self.invariant.0, (made_stays i.ticket.client i.ticket.number i.reader c.hear.new.self c.self.invariant.1 c.hear.ensures.own).0)
+    (c.self.invariant.0, (made_stays i.seq.client i.seq.number i.reader c.hear.new.self c.self.invariant.1 c.hear.ensures.own).0)
 
 pub returns-clause-made : goal.returns-clause-made
 returns-clause-made g c =
     let i = c.self.inside in
-    rw (← c.self.view_is) (refl, refl, (made_stays i.ticket.client i.ticket.number i.reader c.hear.new.self c.self.invariant.1 c.hear.ensures.own).1)
+    rw (← c.self.view_is) (refl, refl, (made_stays i.seq.client i.seq.number i.reader c.hear.new.self c.self.invariant.1 c.hear.ensures.own).1)

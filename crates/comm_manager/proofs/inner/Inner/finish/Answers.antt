@@ -1,20 +1,25 @@
-use Rattle.std.proofs.Common.{List, ap, sym, subst, ◌∙◌}
+use Rattle.std.proofs.Common.{◌≡◌, List, ap, sym, subst, ◌∙◌}
 use Rattle.std.specs.Prelude.{All}
+use Rattle.std.specs.Mem.{manually_drop_value}
 use Rattle.comm_core.specs.History.{has_end}
 use Rattle.comm_core.specs.declared.entry.Entry.{Entry}
-use Rattle.comm_manager.specs.Kept.{counts}
+use Rattle.comm_manager.specs.UnderLock.{counts}
+use Rattle.comm_manager.specs.declared.change_log.ChangeLog.{ChangeLog}
 use Rattle.comm_manager.specs.Mine.{IsSettled}
-use Rattle.comm_manager.specs.Who.{Who}
+use Rattle.comm_manager.specs.ClientView.{ClientView}
 use Rattle.comm_manager.proofs.Growing.{has_end-end, counts-end}
 use Rattle.comm_manager.proofs.inner.Inner.finish.Goals as goal
 
-pub gather-requires-clause-ended : goal.gather-requires-clause-ended
-gather-requires-clause-ended g c = ap has_end c.in-Ok.ensures.stamp.0 ∙ has_end-end c.self.inside.journal.all
+pub settle_clients-requires-clause-ended : goal.settle_clients-requires-clause-ended
+settle_clients-requires-clause-ended g c = ap has_end c.in-Ok.ensures.stamp.0 ∙ has_end-end c.into_inner-log.result.journal.all
 
-pub gather-requires-clause-books : goal.gather-requires-clause-books
-gather-requires-clause-books g c =
-    c.self.invariant.0.totals_are ∙ sym (counts-end c.self.inside.journal.all) ∙ ap counts (sym c.in-Ok.ensures.stamp.0)
+pub settle_clients-requires-clause-totals : goal.settle_clients-requires-clause-totals
+settle_clients-requires-clause-totals g c =
+    let log = c.into_inner-log.result in
+    let same : log ≡ manually_drop_value c.self.inside.log = c.into_inner-log.ensures in
+    let kept : log.totals ≡ counts log.journal.all = subst (λ (l : ChangeLog _). l.totals ≡ counts l.journal.all) (sym same) c.self.invariant.0.totals_are in
+    kept ∙ sym (counts-end log.journal.all) ∙ ap counts (sym c.in-Ok.ensures.stamp.0)
 
 pub returns-in-Ok-clause-settled : goal.returns-in-Ok-clause-settled
 returns-in-Ok-clause-settled g c =
-    subst (λ (l : List Entry). All (λ (w : Who). IsSettled l w) c.args.clients.items) (sym (c.into_list.ensures ∙ c.in-Ok.ensures.history)) c.gather.ensures
+    subst (λ (l : List Entry). All (λ (w : ClientView). IsSettled l w) c.args.clients.items) (sym (c.into_list.ensures ∙ c.in-Ok.ensures.history)) c.settle_clients.ensures

@@ -1,8 +1,0 @@
-use Rattle.std.proofs.Common.{◌≡◌, ◌++◌, take, map, filter}
-use Rattle.std.specs.Prelude.{option_map}
-use Rattle.comm_core.specs.Reads.{info_of, passes}
-use Rattle.comm_versions.specs.Rows.{flat}
-use Rattle.comm_versions.proofs.rows.list_pieces.Given as goal
-
-abbrev pub invariant-loop-piece : goal.invariant-loop-piece
-invariant-loop-piece l = l.all.items ≡ l.initial.all.items ++ map info_of (filter (λ e. passes (option_map (λ t. t.now) l.fn.asked) e.1.target) (flat (take l.piece-index l.pieces)))

@@ -1,0 +1,102 @@
+//! Where the comm of an id stands among comms in chunks.
+ghost use Rattle.std.specs.Prelude.{◌≡◌, ◌<◌, [], IfNone, IfSome, Err, Ok, drop, length, true};
+ghost use Rattle.comm_versions.specs.Chunks.{AllChunksFilled, IsBelowFirst, IsInOrder, IsPosition, comms_in};
+
+use crate::prefixed_comm::id_prefix;
+use crate::search::{CommChunk, chunk_of, place_of};
+use comm_value::Text;
+
+/// The chunk in which the comm of an id stands, and its index there (Ok); or the index at which it would be inserted
+/// (Err).
+#[derive(Clone, Copy)]
+pub struct Position {
+    pub chunk: usize,
+    pub at: Result<usize, usize>,
+}
+
+// Whether the comm at this index of this chunk has the id.
+fn is_found(chunks: &[CommChunk], id: &Text, chunk: usize, i: usize) -> bool
+    requires filled { AllChunksFilled chunks.now }
+    requires ordered { IsInOrder (comms_in chunks.now) }
+    ensures { result ≡ true → IsPosition chunks.now id.now (record { chunk = chunk; at = Ok i }) }
+{
+    if chunks.len() <= chunk {
+        return false;
+    }
+    let comms = chunks[chunk].as_slice();
+    i < comms.len() && comms[i].order(&id_prefix(id), id).is_eq()
+}
+
+// Whether the id is below those of the chunks from this one on.
+fn is_below(chunks: &[CommChunk], id: &Text, from: usize) -> bool
+    requires { AllChunksFilled chunks.now }
+    ensures { result ≡ true → IsBelowFirst id.now (comms_in (drop from chunks.now)) }
+{
+    if chunks.len() <= from {
+        return true;
+    }
+    let comms = chunks[from].as_slice();
+    comms[0].order(&id_prefix(id), id).is_lt()
+}
+
+// Whether a comm of the id would be inserted at this index of this chunk, behind another.
+fn is_gap(chunks: &[CommChunk], id: &Text, chunk: usize, i: usize) -> bool
+    requires filled { AllChunksFilled chunks.now }
+    requires ordered { IsInOrder (comms_in chunks.now) }
+    ensures { result ≡ true → IsPosition chunks.now id.now (record { chunk = chunk; at = Err i }) }
+{
+    if chunks.len() <= chunk {
+        return false;
+    }
+    let comms = chunks[chunk].as_slice();
+    let prefix = id_prefix(id);
+    if i == 0 || comms.len() < i || !comms[i - 1].order(&prefix, id).is_gt() {
+        return false;
+    }
+    if i < comms.len() {
+        comms[i].order(&prefix, id).is_lt()
+    } else {
+        is_below(chunks, id, chunk + 1)
+    }
+}
+
+// Whether this is the position of the id.
+fn is_position(chunks: &[CommChunk], id: &Text, position: Position) -> bool
+    requires filled { AllChunksFilled chunks.now }
+    requires ordered { IsInOrder (comms_in chunks.now) }
+    ensures { result ≡ true → IsPosition chunks.now id.now position }
+{
+    match position.at {
+        Ok(i) => is_found(chunks, id, position.chunk, i),
+        Err(i) => is_gap(chunks, id, position.chunk, i),
+    }
+}
+
+// The position of the id, by two binary searches.
+fn find_position(chunks: &[CommChunk], id: &Text) -> Position
+    requires some { 0 < length chunks.now }
+    requires filled { AllChunksFilled chunks.now }
+    requires ordered { IsInOrder (comms_in chunks.now) }
+    ensures { IsPosition chunks.now id.now result }
+{
+    let chunk = chunk_of(chunks, id);
+    let at = place_of(chunks[chunk].as_slice(), id);
+    Position { chunk, at }
+}
+
+/// The position of the id, None where there is no chunk. The hint is tested first; where it is wrong, two binary
+/// searches follow.
+pub fn position_of(chunks: &[CommChunk], id: &Text, hint: Option<Position>) -> Option<Position>
+    requires filled { AllChunksFilled chunks.now }
+    requires ordered { IsInOrder (comms_in chunks.now) }
+    ensures some { IfSome result (λ s. IsPosition chunks.now id.now s) }
+    ensures none { IfNone result (chunks.now ≡ []) }
+{
+    if chunks.is_empty() {
+        return None;
+    }
+    match hint {
+        Some(position) if is_position(chunks, id, position) => Some(position),
+        _ => Some(find_position(chunks, id)),
+    }
+}

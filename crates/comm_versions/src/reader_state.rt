@@ -1,0 +1,111 @@
+//! What a reader has seen, with its cached listing.
+ghost use Rattle.std.specs.Prelude.{◌≡◌, option_map, true, IfSome};
+ghost use mathlib.Core.List.{IsPrefix};
+ghost use Rattle.comm_core.specs.History.{replay};
+ghost use Rattle.comm_core.specs.Reads.{infos};
+ghost use Rattle.comm_versions.specs.Listing.{ListsAlikeSince};
+
+use crate::history::History;
+use crate::stamp::Stamp;
+use comm_messages::Infos;
+use comm_value::Text;
+use std::alloc::AllocError;
+use std::marker::Model;
+
+// A list of comms that was read after so many entries.
+#[derive(Drop)]
+struct Listing {
+    count: u64,
+    asked: Option<Text>,
+    comms: Infos,
+}
+
+/// The front that a reader has seen, and the list of comms that it read last. Contracts see the front.
+#[derive(Drop)]
+pub struct ReaderState<M: History> {
+    front: Stamp<M>,
+    last: Option<Listing>,
+}
+
+impl<M: History> Model for ReaderState<M> {
+    ghost use Rattle.std.specs.Prelude.{List, IfSome};
+    ghost use Rattle.comm_core.specs.declared.entry.Entry.{Entry};
+    ghost use Rattle.comm_versions.specs.Code.{entries_code};
+    ghost use Rattle.comm_versions.specs.Listing.{WasListed};
+
+    ghost Value = { List Entry };
+
+    ghost coded = { entries_code };
+
+    ghost view = { λ s. s.front };
+
+    ghost invariant = { λ s.
+        IfSome s.last (λ l. WasListed M.limits.comms l.count l.asked l.comms s.front) };
+}
+
+// Whether both filters are the same.
+fn is_same(one: &Option<Text>, other: Option<&Text>) -> bool
+    ensures { result ≡ true → one.now ≡ option_map (λ t. t.now) other.entry }
+{
+    match (one, other) {
+        (None, None) => true,
+        (Some(one), Some(other)) => one == other,
+        _ => false,
+    }
+}
+
+impl<M: History> ReaderState<M> {
+    /// The state of a reader that has seen this front and read no list.
+    pub fn new(front: Stamp<M>) -> ReaderState<M>
+        ensures { result ≡ front }
+    {
+        ReaderState { front, last: None }
+    }
+
+    /// The front that the reader has seen.
+    pub fn front(&self) -> &Stamp<M>
+        ensures { result.now ≡ self.now }
+    {
+        &self.front
+    }
+
+    /// Sees a front that includes what was seen.
+    pub fn advance(&mut self, front: Stamp<M>)
+        requires { IsPrefix self.old front }
+        ensures { self.new ≡ front }
+    {
+        self.front = front;
+    }
+
+    /// The list that was read last, where it has this filter and was read after the listing last changed.
+    pub fn cached_infos(&self, listing_since: u64, asked: Option<&Text>) -> Option<&Infos>
+        requires { ListsAlikeSince M.limits.comms listing_since self.now }
+        ensures { IfSome result (λ i.
+            i.now ≡ infos (replay M.limits.comms self.now) (option_map (λ t. t.now) asked.entry)) }
+    {
+        match &self.last {
+            Some(last) if listing_since < last.count && is_same(&last.asked, asked) => Some(
+                &last.comms,
+            ),
+            _ => None,
+        }
+    }
+
+    /// Caches a list that was read after this front. Err: memory.
+    pub fn keep(&mut self, asked: Option<&Text>, comms: &Infos) -> Result<(), AllocError>
+        requires { comms.now
+            ≡ infos (replay M.limits.comms self.old) (option_map (λ t. t.now) asked) }
+        ensures { self.new ≡ self.old }
+    {
+        let asked = match asked {
+            Some(name) => Some(name.copy()?),
+            None => None,
+        };
+        self.last = Some(Listing {
+            count: self.front.number(),
+            asked,
+            comms: comms.copy()?,
+        });
+        Ok(())
+    }
+}
