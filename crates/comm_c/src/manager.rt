@@ -1,12 +1,10 @@
 //! A manager that stays between the calls of a kernel.
 ghost use Rattle.std.specs.Prelude.{◌≡◌, ◌<◌, ◌^◌, ◌↔◌, ◌≤◌, IsTrue, IfOk, IfErr, IsOk, OnOk, OnErr};
 ghost use Rattle.comm_core.specs.Limits.{AreAllowed};
-ghost use Rattle.comm_c.specs.Kept.{Enters, Plays, Shows, limits_of, opened};
-ghost use Rattle.comm_c.specs.Left.{left_of};
+ghost use Rattle.comm_c.specs.ManagerState.{Plays, RegistersTarget, Shows, limits_of, new_manager};
 
-use crate::desk::Desk;
-use crate::left::Left;
-use crate::sequel::Sequel;
+use crate::call_result::CallResult;
+use crate::counted_core::CountedCore;
 use comm_core::{Core, Limits, NewFault};
 use comm_targets::Kind;
 use comm_value::Text;
@@ -14,36 +12,42 @@ use std::alloc::{AllocError, Global};
 use std::marker::Model;
 use std::mem;
 
-/// How many calls a manager has.
-pub const MOST: u64 = 4_611_686_018_427_387_904;
+/// How many calls a manager takes: lines, messages and registers.
+pub const MAX_CALLS: u64 = 4_611_686_018_427_387_904;
 
-/// What a manager holds, how many calls it has had, and what it said to the last one, as a text and as values. `spare` takes the next text, so
-/// that the last one stays where memory runs out.
+/// A core with its counts, how many calls were made, and the result of the last one, as a text and as values.
+/// The next text is written to `spare`, so that the last one stays where memory runs out.
 pub struct Manager {
-    desk: Desk,
+    counted_core: CountedCore,
     number: u64,
     text: Vec<u8>,
     spare: Vec<u8>,
-    sequel: Sequel,
+    call_result: CallResult,
 }
 
 impl Model for Manager {
-    ghost use Rattle.comm_c.specs.Kept.{IsReady, Kept};
-    ghost use Rattle.comm_c.specs.KeptCode.{kept_code};
+    ghost use Rattle.comm_c.specs.ManagerState.{IsUsable, ManagerState};
+    ghost use Rattle.comm_c.specs.ManagerStateCode.{manager_state_code};
 
-    ghost Value = { Kept };
+    ghost Value = { ManagerState };
 
-    ghost coded = { kept_code };
+    ghost coded = { manager_state_code };
 
-    ghost view = { λ m. record { desk = m.desk; number = m.number; text = m.text.items; sequel = m.sequel } };
+    ghost view = { λ m. record {
+      counted_core = m.counted_core;
+      number = m.number;
+      text = m.text.items;
+      call_result = m.call_result;
+    } };
 
-    ghost invariant = { λ m. IsReady m.desk m.number };
+    ghost invariant = { λ m. IsUsable m.counted_core m.number };
 }
 
 impl Manager {
-    /// A manager that has played nothing. BadLimits exactly where the limit of comms isn't from 1 to 4,096.
-    pub fn open(alloc: Global, left: Left, comms: usize) -> Result<Manager, NewFault>
-        ensures opened { IfOk result (λ m. m ≡ opened left comms) }
+    /// A manager that has had no call, of which at most `comms` comms are open at a time. BadLimits exactly
+    /// where that isn't from 1 to 4,096.
+    pub fn new(alloc: Global, comms: usize) -> Result<Manager, NewFault>
+        ensures opened { IfOk result (λ m. m ≡ new_manager comms) }
         ensures allowed { IsOk result ↔ AreAllowed (limits_of comms) }
         ensures fault { IfErr result (λ e. e ≡ NewFault.BadLimits) }
     {
@@ -55,48 +59,40 @@ impl Manager {
         };
         let core = Core::new(alloc, limits)?;
         Ok(Manager {
-            desk: Desk {
+            counted_core: CountedCore {
                 core,
-                left,
                 changes: 0,
                 made: [0; 4],
             },
             number: 0,
             text: Vec::new(alloc),
             spare: Vec::new(alloc),
-            sequel: Sequel::Nothing,
+            call_result: CallResult::Nothing,
         })
     }
 
-    /// Whether it has had as many calls as it can.
-    pub fn is_full(&self) -> bool
+    /// Whether it has had as many calls as it takes.
+    pub fn is_exhausted(&self) -> bool
         ensures { IsTrue result ↔ (2 ^ 62 ≤ self.now.number) }
     {
-        self.number >= MOST
+        self.number >= MAX_CALLS
     }
 
-    /// How many targets of this kind are left.
-    pub fn left(&self, kind: Kind) -> u32
-        ensures { result ≡ left_of kind self.now.desk.left }
-    {
-        self.desk.left.of(kind)
-    }
-
-    /// What it said to the last call.
+    /// The lines of the last call's answer.
     pub fn text(&self) -> &[u8]
         ensures { result.now ≡ self.now.text }
     {
         &self.text
     }
 
-    /// The same as values.
-    pub fn sequel(&self) -> &Sequel
-        ensures { result.now ≡ self.now.sequel }
+    /// The result of the last call as values; `text` is its text.
+    pub fn call_result(&self) -> &CallResult
+        ensures { result.now ≡ self.now.call_result }
     {
-        &self.sequel
+        &self.call_result
     }
 
-    /// Plays a line. An error says that memory ran out, and leaves everything as it was.
+    /// Plays a line. Err: memory; nothing has changed.
     pub fn line(&mut self, alloc: Global, line: &[u8]) -> Result<(), AllocError>
         requires { self.old.number < 2 ^ 62 }
         ensures plays { OnOk result (Plays self.old line.now self.new) }
@@ -105,25 +101,27 @@ impl Manager {
     {
         self.spare.clear();
         let number = self.number + 1;
-        let sequel = self.desk.line(alloc, number, line, &mut self.spare)?;
-        drop(mem::replace(&mut self.sequel, sequel));
+        let call_result = self
+            .counted_core
+            .line(alloc, number, line, &mut self.spare)?;
+        drop(mem::replace(&mut self.call_result, call_result));
         self.number = number;
         mem::swap(&mut self.text, &mut self.spare);
         Ok(())
     }
 
-    /// Registers a target of a kind of which one is left, for the first client. An error says that memory ran out, and leaves everything as
-    /// it was.
+    /// Registers a new target of the kind, for the first client. Err: memory; nothing has changed.
     pub fn register(&mut self, alloc: Global, kind: Kind, name: Text) -> Result<(), AllocError>
-        requires room { self.old.number < 2 ^ 62 }
-        requires left { 0 < left_of kind self.old.desk.left }
-        ensures enters { OnOk result (Enters self.old kind name self.new) }
+        requires { self.old.number < 2 ^ 62 }
+        ensures registers { OnOk result (RegistersTarget self.old kind name self.new) }
         ensures shows { OnOk result (Shows self.new) }
         ensures same { OnErr result (self.new ≡ self.old) }
     {
         self.spare.clear();
-        let sequel = self.desk.register(alloc, 0, kind, name, &mut self.spare)?;
-        drop(mem::replace(&mut self.sequel, sequel));
+        let call_result = self
+            .counted_core
+            .register(alloc, 0, kind, name, &mut self.spare)?;
+        drop(mem::replace(&mut self.call_result, call_result));
         self.number += 1;
         mem::swap(&mut self.text, &mut self.spare);
         Ok(())
@@ -133,19 +131,18 @@ impl Manager {
 impl Drop for Manager {
     fn drop(self) {
         let Manager {
-            desk,
+            counted_core,
             number: _,
             text: _,
             spare: _,
-            sequel,
+            call_result,
         } = self;
-        drop(sequel);
-        let Desk {
+        drop(call_result);
+        let CountedCore {
             core,
-            left: _,
             changes: _,
             made: _,
-        } = desk;
+        } = counted_core;
         core.stop_all();
     }
 }

@@ -1,6 +1,6 @@
 use Rattle.std.proofs.Common.{◌≡◌, ◌+◌, ap, arith}
-use Rattle.comm_c.specs.Kept.{Kept}
-use Rattle.comm_c.proofs.Within.{turn_within}
+use Rattle.comm_c.specs.ManagerState.{ManagerState}
+use Rattle.comm_c.proofs.Within.{played_within}
 use Rattle.comm_c.proofs.manager.Manager.line.Goals as goal
 
 pub invariant_of-self-2 : goal.invariant_of-self-2
@@ -8,6 +8,6 @@ invariant_of-self-2 c =
     let n = c.self.inside.number in
     record {
       settled = c.line.ensures.settled;
-      within = turn_within n (n + 1) c.self.inside.desk c.line.new.self c.args.line.now c.line.new.text.items c.self.invariant.within c.in_ok-sequel.ensures.turns;
-      room = let e : n ≡ c.args.self.now.number = ap (λ (k : Kept). k.number) c.self.view_is in omega (arith, e, c.requires);
+      within = played_within n (n + 1) c.self.inside.counted_core c.line.new.self c.args.line.now c.line.new.text.items c.self.invariant.within c.in_ok-call_result.ensures.plays;
+      room = let e : n ≡ c.args.self.now.number = ap (λ (k : ManagerState). k.number) c.self.view_is in omega (arith, e, c.requires);
     }
