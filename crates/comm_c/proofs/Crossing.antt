@@ -34,8 +34,8 @@ use Rattle.comm_c.specs.Handle.{heap, handle_owns}
 use Rattle.comm_c.specs.ManagerState.{ManagerState}
 use Rattle.comm_c.specs.contracts.counted_core.CountedCore as counted_core
 use Rattle.comm_c.specs.contracts.handle.Handle as handle
-use Rattle.comm_c.specs.contracts.manager.Manager as manager
-use Rattle.comm_c.specs.contracts.manager.Manager.TheInside as inside
+use Rattle.comm_c.specs.contracts.held_manager.HeldManager as manager
+use Rattle.comm_c.specs.contracts.held_manager.HeldManager.TheInside as inside
 use Rattle.comm_c.specs.contracts.call_result.ChangeMade as made
 use Rattle.comm_c.specs.contracts.call_result.CallResult as call_result
 use Rattle.comm_c.specs.contracts.builtin_target.BuiltinTarget as builtin_target

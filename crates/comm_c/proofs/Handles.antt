@@ -29,7 +29,7 @@ use Rattle.std_alloc.specs.Box.Ownership.{box_owns}
 use Rattle.comm_c.specs.Handle.{handle_owns}
 use Rattle.comm_c.specs.ManagerState.{ManagerState}
 use Rattle.comm_c.specs.declared.handle.Handle.{Handle}
-use Rattle.comm_c.specs.contracts.manager.Manager as manager
+use Rattle.comm_c.specs.contracts.held_manager.HeldManager as manager
 use Rattle.comm_c.specs.contracts.handle.Handle as handle
 
 abbrev pub R : RattleType

@@ -1,6 +1,5 @@
 -- Each call makes one change more of a legal history, or none.
 use Rattle.std.proofs.Common.{◌≡◌, ℕ, ◌+◌, ◌<◌, List, [], ◌∷◌, ◌++◌, length, get_or, Bool, true, false, Option, Some, Ok, Err, refl, sym, ap, subst, ◌∙◌, inl, inr, length-append, append-nil, length-set, arith}
-use Rattle.std.specs.Prelude.{◌==◌}
 use Rattle.std.proofs.lemmas.Bool.Decides.{eqb_tells}
 use Rattle.comm_core.specs.declared.call.Call.{Call}
 use Rattle.comm_core.specs.History.{mine, next_of, replay, has_end, IsLegal, Follows}
@@ -16,7 +15,7 @@ use Rattle.comm_script.specs.declared.asked.Request.{Request}
 use Rattle.comm_script.specs.declared.asked.Request.TheVariants as asks_for
 use Rattle.comm_c.specs.CountedCore.{Changes}
 use Rattle.comm_c.specs.Legal.{HasMade, MakesOne, CallsMakeLegalHistories}
-use Rattle.comm_c.specs.PlaysLine.{Says, Obeys, Answers, PlaysLineIf, PlaysLine}
+use Rattle.comm_c.specs.PlaysLine.{SaysOnly, Obeys, AnswersLine, PlaysLineIf, PlaysLine}
 use Rattle.comm_c.specs.declared.counted_core.CountedCore.{CountedCore}
 use Rattle.comm_c.proofs.Counting.{Grows, own_made, other_made, zeros}
 
@@ -56,7 +55,7 @@ change_one legal grows h d client c after said has ch =
       };
     }
 
-says_none : (h : List Entry) (d after : CountedCore) (text said : List ℕ) → HasMade h d → Says d text after said → MakesOne h after
+says_none : (h : List Entry) (d after : CountedCore) (text said : List ℕ) → HasMade h d → SaysOnly d text after said → MakesOne h after
 says_none h d after text said has s = record {
   more = [];
   one = omega arith;
@@ -69,7 +68,7 @@ obey_one legal grows h d client (asks_for.Register kind name) after said has o =
 obey_one legal grows h d client (asks_for.Infos target) after said has o = says_none h d after _ said has o
 obey_one legal grows h d client (asks_for.State id) after said has o = says_none h d after _ said has o
 
-answer_one : GrowsLegal → Grows → (h : List Entry) (d : CountedCore) (number : ℕ) (r : Reading (ℕ × Request)) (after : CountedCore) (said : List ℕ) → HasMade h d → Answers d number r after said → MakesOne h after
+answer_one : GrowsLegal → Grows → (h : List Entry) (d : CountedCore) (number : ℕ) (r : Reading (ℕ × Request)) (after : CountedCore) (said : List ℕ) → HasMade h d → AnswersLine d number r after said → MakesOne h after
 answer_one legal grows h d number (Ok m) after said has a = obey_one legal grows h d m.0 m.1 after said has a
 answer_one legal grows h d number (Err fault) after said has a = says_none h d after _ said has a
 

@@ -1,5 +1,5 @@
 -- A line does what the definitions of scripts say, over a stock that has enough targets.
-use Rattle.std.proofs.Common.{◌≡◌, ℕ, ◌+◌, ◌<◌, ◌≤◌, List, [], ◌∷◌, ◌++◌, length, get_or, Bool, true, false, Option, Some, Ok, Err, refl, sym, ap, subst, ◌∙◌, inl, inr, length-append, length-set, arith}
+use Rattle.std.proofs.Common.{◌≡◌, ℕ, ◌+◌, ◌<◌, List, [], ◌∷◌, ◌++◌, length, get_or, Bool, true, false, Option, Some, Ok, Err, refl, sym, ap, subst, ◌∙◌, inl, inr, length-append, length-set, arith}
 use Rattle.std.specs.Prelude.{if◌then◌else◌}
 use Rattle.std.proofs.lemmas.Bool.Decides.{eqb_tells}
 use Rattle.comm_messages.specs.declared.outgoing.Outgoing.TheVariants as out
@@ -26,8 +26,8 @@ use Rattle.comm_script.specs.declared.stock.StockKind.{StockKind}
 use Rattle.comm_script.specs.declared.stock.StockKind.TheVariants as stock_kind
 use Rattle.comm_c.specs.CountedCore.{Changes, fresh_counted_core}
 use Rattle.comm_c.specs.ManagerState.{ManagerState, limits_of, new_manager}
-use Rattle.comm_c.specs.PlaysLine.{Says, Registers, Obeys, Answers, PlaysLineIf, PlaysLine, target_kind}
-use Rattle.comm_c.specs.Scripts.{HasEnough, LinesPlayScripts, Played, Runs, lines_in, one_if, registered_by, registered_by_reading, registered_by_request, said_in, stock_of}
+use Rattle.comm_c.specs.PlaysLine.{SaysOnly, Registers, Obeys, AnswersLine, PlaysLineIf, PlaysLine, target_kind}
+use Rattle.comm_c.specs.Scripts.{HasEnough, LinesPlayScripts, PlayedLine, Runs, lines_in, one_if, registered_by, registered_by_reading, registered_by_request, said_in, stock_of}
 use Rattle.comm_c.specs.declared.counted_core.CountedCore.{CountedCore}
 use Rattle.comm_c.proofs.Counting.{Grows, own_made, other_made, zeros}
 use Rattle.comm_c.proofs.EnoughTargets.{at_most_sum, first_is_fresh, less, rest_has_enough, stock_has_enough}
@@ -117,7 +117,7 @@ change_turn law keeps grows comms more now d client c after said stock stands ke
 -- ---- what a line asks for
 
 says_turn : (comms : ℕ) (more : StockKind → ℕ) (now : Standing) (d after : CountedCore) (text wanted said : List ℕ) → StandsAt comms now d → text ≡ wanted
-    → HasEnough now.stock more → Says d text after said → Turned comms more (says now wanted) after said
+    → HasEnough now.stock more → SaysOnly d text after said → Turned comms more (says now wanted) after said
 says_turn comms more now d after text wanted said stands is enough s =
     (s.1 ∙ is, (subst (λ (e : CountedCore). StandsAt comms now e) (sym s.0) stands, enough))
 
@@ -161,7 +161,7 @@ obey_turn law keeps grows comms more now d number client (asks_for.State id) aft
 -- ---- a line
 
 answer_turn : NoChoice → KeepsExact → Grows → (comms : ℕ) (more : StockKind → ℕ) (now : Standing) (d : CountedCore) (number : ℕ) (r : Reading (ℕ × Request))
-    (after : CountedCore) (said : List ℕ) → StandsAt comms now d → HasEnough now.stock (λ w. registered_by_reading w r + more w) → Answers d number r after said
+    (after : CountedCore) (said : List ℕ) → StandsAt comms now d → HasEnough now.stock (λ w. registered_by_reading w r + more w) → AnswersLine d number r after said
     → Turned comms more (answered (limits_of comms) now number r) after said
 answer_turn law keeps grows comms more now d number (Ok m) after said stands enough a =
     obey_turn law keeps grows comms more now d number m.0 m.1 after said stands enough a
@@ -189,7 +189,7 @@ turned law keeps grows comms more now d number line after said stands enough t =
 
 -- ---- lines one after another
 
-run_turns : NoChoice → KeepsExact → Grows → (comms : ℕ) (now : Standing) (k : ManagerState) (ps : List Played) (n : ℕ) → StandsAt comms now k.counted_core
+run_turns : NoChoice → KeepsExact → Grows → (comms : ℕ) (now : Standing) (k : ManagerState) (ps : List PlayedLine) (n : ℕ) → StandsAt comms now k.counted_core
     → HasEnough now.stock (λ w. registered_by w (lines_in ps)) → k.number ≡ n → Runs k ps → said_in ps ≡ (played_from (limits_of comms) now n (lines_in ps)).text
 run_turns law keeps grows comms now k [] n stands enough is runs = refl
 run_turns law keeps grows comms now k (p ∷ ps) n stands enough is runs =
@@ -201,7 +201,7 @@ run_turns law keeps grows comms now k (p ∷ ps) n stands enough is runs =
     ap (λ (x : List ℕ). x ++ said_in ps) t.0
     ∙ ap (λ (x : List ℕ). first.text ++ x) (run_turns law keeps grows comms first.after p.1 ps (n + 1) t.1.0 t.1.1 (runs.0.0 ∙ ap (λ (i : ℕ). i + 1) is) runs.1)
 
-runs_play : NoChoice → KeepsExact → Grows → (comms : ℕ) (ps : List Played) (input : List ℕ) (stock : List Registered) → Runs (new_manager comms) ps
+runs_play : NoChoice → KeepsExact → Grows → (comms : ℕ) (ps : List PlayedLine) (input : List ℕ) (stock : List Registered) → Runs (new_manager comms) ps
     → lines_of input ≡ lines_in ps → HasEnough stock (λ w. registered_by w (lines_in ps)) → said_in ps ≡ played (limits_of comms) stock input
 runs_play law keeps grows comms ps input stock runs is enough =
     let start : Standing = record { history = []; stock = stock } in

@@ -10,7 +10,7 @@ use Rattle.comm_script.specs.Words.{reply_line, out_lines}
 use Rattle.comm_c.specs.declared.counted_core.CountedCore.{CountedCore}
 
 -- it has made at most n changes
-pub record IsWithin (n : ℕ) (d : CountedCore) : Type 0 where
+pub record HasMadeAtMost (n : ℕ) (d : CountedCore) : Type 0 where
   pub changes : d.changes ≤ n
   pub made : (c : ℕ) → slice_index d.made c ≤ n
 

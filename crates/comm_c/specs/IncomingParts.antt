@@ -26,8 +26,9 @@ message_line client header metadata content buffers =
     ++ (codes ",\"buffers\":[" ++ (buffer_list_text buffers
     ++ (codes ",\"client\":" ++ (decimal client ++ codes "}")))))))))
 
-abbrev pub line_of : IncomingParts → List ℕ
-line_of p = message_line p.client p.header.now p.metadata.now p.content.now (split_buffers p.buffers.now p.sizes.now)
+abbrev pub line_of_parts : IncomingParts → List ℕ
+line_of_parts p =
+    message_line p.client p.header.now p.metadata.now p.content.now (split_buffers p.buffers.now p.sizes.now)
 
 -- the sizes are those of the buffers, which stand one after another
 abbrev pub AddUp : (sizes buffers : List ℕ) → Type 0

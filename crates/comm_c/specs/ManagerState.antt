@@ -3,7 +3,7 @@ use Rattle.std.specs.Prelude.{◌≡◌, ℕ, ◌+◌, ◌≤◌, ◌^◌, true,
 use Rattle.comm_core.specs.declared.limits.Limits.{Limits}
 use Rattle.comm_core.specs.Machine.{Name}
 use Rattle.comm_targets.specs.declared.kind.Kind.{Kind}
-use Rattle.comm_c.specs.CountedCore.{IsWithin, fresh_counted_core}
+use Rattle.comm_c.specs.CountedCore.{HasMadeAtMost, fresh_counted_core}
 use Rattle.comm_c.specs.CallResult.{result_text}
 use Rattle.comm_c.specs.PlaysLine.{PlaysLine, Registers}
 use Rattle.comm_c.specs.declared.counted_core.CountedCore.{CountedCore}
@@ -21,7 +21,7 @@ pub record ManagerState : Type 0 where
 -- it has had at most 2^62 calls
 pub record IsUsable (d : CountedCore) (n : ℕ) : Type 0 where
   pub settled : d.core.settled ≡ true
-  pub within : IsWithin n d
+  pub within : HasMadeAtMost n d
   pub room : n ≤ 2 ^ 62
 
 -- with no call made, and this limit of comms

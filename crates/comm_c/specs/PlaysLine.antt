@@ -27,8 +27,8 @@ target_kind Widget = kinds.Widget
 target_kind WidgetEcho = kinds.WidgetEcho
 
 -- nothing changes, and this is the answer
-abbrev pub Says : CountedCore → List ℕ → CountedCore → List ℕ → Type 0
-Says d text after said = (after ≡ d) × (said ≡ text)
+abbrev pub SaysOnly : CountedCore → List ℕ → CountedCore → List ℕ → Type 0
+SaysOnly d text after said = (after ≡ d) × (said ≡ text)
 
 -- a new target is registered, as a change
 abbrev pub Registers : CountedCore → ℕ → Kind → Name → CountedCore → List ℕ → Type 0
@@ -39,17 +39,17 @@ abbrev pub Obeys : CountedCore → ℕ → Request → CountedCore → List ℕ 
 Obeys d client (Change asked) after said = HandsNothingIn asked × Changes d client asked after said
 Obeys d client (Register kind name) after said = Registers d client (target_kind kind) name after said
 Obeys d client (Infos target) after said =
-    Says d (out_line (out.InfoReply (infos (machine d.core) target)) (parent.Read client d.changes)) after said
-Obeys d client (State id) after said = Says d (state_line d.changes (state_of (machine d.core) id)) after said
+    SaysOnly d (out_line (out.InfoReply (infos (machine d.core) target)) (parent.Read client d.changes)) after said
+Obeys d client (State id) after said = SaysOnly d (state_line d.changes (state_of (machine d.core) id)) after said
 
-abbrev pub Answers : CountedCore → ℕ → Reading (ℕ × Request) → CountedCore → List ℕ → Type 0
-Answers d number (Ok m) after said = Obeys d m.0 m.1 after said
-Answers d number (Err fault) after said = Says d (bad_line number fault) after said
+abbrev pub AnswersLine : CountedCore → ℕ → Reading (ℕ × Request) → CountedCore → List ℕ → Type 0
+AnswersLine d number (Ok m) after said = Obeys d m.0 m.1 after said
+AnswersLine d number (Err fault) after said = SaysOnly d (bad_line number fault) after said
 
 -- by whether the line is blank
 abbrev pub PlaysLineIf : Bool → CountedCore → ℕ → List ℕ → CountedCore → List ℕ → Type 0
-PlaysLineIf true d number line after said = Says d [] after said
-PlaysLineIf false d number line after said = Answers d number (asked 4 line) after said
+PlaysLineIf true d number line after said = SaysOnly d [] after said
+PlaysLineIf false d number line after said = AnswersLine d number (asked 4 line) after said
 
 -- the line of this number, of one of four clients
 unfoldable pub PlaysLine : CountedCore → ℕ → List ℕ → CountedCore → List ℕ → Type 0

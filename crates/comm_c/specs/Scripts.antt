@@ -17,19 +17,19 @@ use Rattle.comm_c.specs.ManagerState.{ManagerState, Plays, limits_of, new_manage
 use Rattle.comm_c.specs.PlaysLine.{target_kind}
 
 -- a line, and the manager once it has played it
-abbrev pub Played : Type 0
-Played = List ℕ × ManagerState
+abbrev pub PlayedLine : Type 0
+PlayedLine = List ℕ × ManagerState
 
 -- it plays these lines, one after the other
-abbrev pub Runs : ManagerState → List Played → Type 0
+abbrev pub Runs : ManagerState → List PlayedLine → Type 0
 Runs k [] = Unit {0}
 Runs k (p ∷ ps) = Plays k p.0 p.1 × Runs p.1 ps
 
-abbrev pub lines_in : List Played → List (List ℕ)
+abbrev pub lines_in : List PlayedLine → List (List ℕ)
 lines_in ps = map (λ p. p.0) ps
 
 -- what it says to them in all
-abbrev pub said_in : List Played → List ℕ
+abbrev pub said_in : List PlayedLine → List ℕ
 said_in [] = []
 said_in (p ∷ ps) = p.1.text ++ said_in ps
 
@@ -88,9 +88,9 @@ pub record HasEnough (stock : List Registered) (wanted : StockKind → ℕ) : Ty
 -- gives: over a stock of just as many new targets of each kind as they register, and over any stock that has
 -- at least as many.
 pub record LinesPlayScripts : Type 0 where
-  pub exact : (comms : ℕ) (ps : List Played) (input : List ℕ) → Runs (new_manager comms) ps
+  pub exact : (comms : ℕ) (ps : List PlayedLine) (input : List ℕ) → Runs (new_manager comms) ps
       → lines_of input ≡ lines_in ps
       → said_in ps ≡ played (limits_of comms) (stock_of (λ w. registered_by w (lines_in ps))) input
-  pub at_least : (comms : ℕ) (ps : List Played) (input : List ℕ) (stock : List Registered) → Runs (new_manager comms) ps
-      → lines_of input ≡ lines_in ps → HasEnough stock (λ w. registered_by w (lines_in ps))
+  pub at_least : (comms : ℕ) (ps : List PlayedLine) (input : List ℕ) (stock : List Registered)
+      → Runs (new_manager comms) ps → lines_of input ≡ lines_in ps → HasEnough stock (λ w. registered_by w (lines_in ps))
       → said_in ps ≡ played (limits_of comms) stock input

@@ -8,7 +8,7 @@ ghost use Rattle.comm_messages.specs.declared.outgoing.Parent.TheVariants as par
 ghost use Rattle.comm_core.specs.Ready.{HandsNothingIn, IsReady, machine, undone};
 ghost use Rattle.comm_core.specs.Step.{step};
 ghost use Rattle.comm_script.specs.Words.{reply_line, out_lines};
-ghost use Rattle.comm_c.specs.CountedCore.{Changes, IsWithin, change_text};
+ghost use Rattle.comm_c.specs.CountedCore.{Changes, HasMadeAtMost, change_text};
 ghost use Rattle.comm_c.specs.CallResult.{result_text};
 ghost use Rattle.comm_c.specs.PlaysLine.{Registers};
 ghost use Rattle.comm_c.specs.declared.call_result.CallResult.TheVariants as call_result;
@@ -74,7 +74,7 @@ impl CountedCore {
     ) -> Result<ChangeMade, AllocError>
         requires client { client < 4 }
         requires ready { IsReady self.old.core ready }
-        requires room { IsWithin (2 ^ 63) self.old }
+        requires room { HasMadeAtMost (2 ^ 63) self.old }
         requires empty { text.old.items ≡ [] }
         ensures step { OnOk result
             (step self.old.core.limit (machine self.old.core) ready.call ready.outcome
@@ -130,7 +130,7 @@ impl CountedCore {
         text: &mut Vec<u8>,
     ) -> Result<CallResult, AllocError>
         requires client { client < 4 }
-        requires room { IsWithin (2 ^ 63) self.old }
+        requires room { HasMadeAtMost (2 ^ 63) self.old }
         requires settled { self.old.core.settled ≡ true }
         requires call { HandsNothingIn call }
         requires empty { text.old.items ≡ [] }
@@ -155,7 +155,7 @@ impl CountedCore {
         text: &mut Vec<u8>,
     ) -> Result<CallResult, AllocError>
         requires client { client < 4 }
-        requires room { IsWithin (2 ^ 63) self.old }
+        requires room { HasMadeAtMost (2 ^ 63) self.old }
         requires settled { self.old.core.settled ≡ true }
         requires empty { text.old.items ≡ [] }
         ensures registers { OnOk result

@@ -6,7 +6,7 @@ ghost use Rattle.base64.specs.Engines.{standard};
 ghost use Rattle.json.specs.Print.{quoted};
 ghost use Rattle.serde_json.specs.Written.{comma_if};
 ghost use Rattle.comm_messages.specs.Parts.{GrowsBy};
-ghost use Rattle.comm_c.specs.IncomingParts.{AddUp, AreJson, IsJson, split_buffers, buffer_list_text, line_of};
+ghost use Rattle.comm_c.specs.IncomingParts.{AddUp, AreJson, IsJson, split_buffers, buffer_list_text, line_of_parts};
 
 use crate::content::append;
 use base64::engine::general_purpose::STANDARD;
@@ -121,7 +121,7 @@ impl IncomingParts<'_> {
     /// The line that they make. Err: memory.
     pub fn line(&self, alloc: Global) -> Result<Vec<u8>, AllocError>
         requires { AddUp self.now.sizes.now self.now.buffers.now }
-        ensures { IfOk result (λ line. line.items ≡ line_of self.now) }
+        ensures { IfOk result (λ line. line.items ≡ line_of_parts self.now) }
     {
         let mut line = Vec::new(alloc);
         append(b"{\"header\":", &mut line)?;

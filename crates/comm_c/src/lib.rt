@@ -12,10 +12,10 @@ mod codes;
 mod content;
 mod counted_core;
 mod handle;
+mod held_manager;
 mod incoming_parts;
 mod laws;
 mod line;
-mod manager;
 mod part_bytes;
 mod parts_api;
 mod raw_box;
@@ -33,8 +33,8 @@ ghost use Rattle.comm_c.specs.Exports.{reply_part_of, sent_part_of};
 
 use crate::codes::{ALREADY_OPEN, BAD_LIMIT, CLOSED, MEMORY, OK};
 use crate::handle::Handle;
+use crate::held_manager::HeldManager;
 use crate::incoming_parts::IncomingParts;
-use crate::manager::Manager;
 use crate::parts_api::{copy_reply_part, copy_sent_part, play_message, write_result};
 use crate::text_api::{copy_text, play_line, put, register, take};
 pub use laws::{calls_make_legal_histories, lines_play_scripts};
@@ -59,7 +59,7 @@ pub extern "C" fn rolgunai_new(alloc: Global, handle: &mut Handle, comms: usize)
             ALREADY_OPEN
         }
         None => {
-            let Ok(manager) = Manager::new(alloc, comms) else {
+            let Ok(manager) = HeldManager::new(alloc, comms) else {
                 return BAD_LIMIT;
             };
             match Box::new(alloc, manager) {

@@ -6,7 +6,7 @@ ghost use Rattle.comm_core.specs.Ready.{machine};
 ghost use Rattle.comm_core.specs.Reads.{infos, state_of};
 ghost use Rattle.comm_script.specs.Command.{HandsNothing};
 ghost use Rattle.comm_script.specs.Words.{bad_line, out_line, state_line};
-ghost use Rattle.comm_c.specs.CountedCore.{IsWithin};
+ghost use Rattle.comm_c.specs.CountedCore.{HasMadeAtMost};
 ghost use Rattle.comm_c.specs.CallResult.{result_text};
 ghost use Rattle.comm_c.specs.PlaysLine.{Obeys, PlaysLine, target_kind};
 
@@ -106,7 +106,7 @@ impl CountedCore {
         text: &mut Vec<u8>,
     ) -> Result<CallResult, AllocError>
         requires client { client < 4 }
-        requires room { IsWithin (2 ^ 63) self.old }
+        requires room { HasMadeAtMost (2 ^ 63) self.old }
         requires settled { self.old.core.settled ≡ true }
         requires handless { HandsNothing asked }
         requires empty { text.old.items ≡ [] }
@@ -137,7 +137,7 @@ impl CountedCore {
         line: &[u8],
         text: &mut Vec<u8>,
     ) -> Result<CallResult, AllocError>
-        requires room { IsWithin (2 ^ 63) self.old }
+        requires room { HasMadeAtMost (2 ^ 63) self.old }
         requires settled { self.old.core.settled ≡ true }
         requires empty { text.old.items ≡ [] }
         ensures plays { OnOk result (PlaysLine self.old number line.now self.new text.new.items) }

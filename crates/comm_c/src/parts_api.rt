@@ -2,22 +2,22 @@
 ghost use Rattle.std.specs.Prelude.{◌≡◌, ◌≢◌, ◌⊎◌, ◌≤◌, ◌^◌, None, length, option_map};
 ghost use Rattle.comm_c.specs.Codes.{ok, memory, buffer_too_small, exhausted, bad_sizes, not_json, no_part};
 ghost use Rattle.comm_c.specs.ManagerState.{Plays, Shows};
-ghost use Rattle.comm_c.specs.IncomingParts.{AddUp, AreJson, line_of};
+ghost use Rattle.comm_c.specs.IncomingParts.{AddUp, AreJson, line_of_parts};
 ghost use Rattle.comm_c.specs.PartBytes.{bytes_of_part};
 ghost use Rattle.comm_c.specs.Exports.{FillsPart, IsLongerPart};
 ghost use Rattle.comm_c.specs.CallResult.{part_replied, part_sent, sent, result_number};
 
 use crate::codes::{BAD_SIZES, EXHAUSTED, MEMORY, NO_PART, NOT_JSON, OK};
+use crate::held_manager::HeldManager;
 use crate::incoming_parts::IncomingParts;
-use crate::manager::Manager;
 use crate::part_bytes::PartBytes;
 use crate::text_api::copy_to_buffer;
 use std::alloc::Global;
 
 /// Plays a message by its parts. The sizes are tested first, then whether the texts are JSON, then whether
 /// the manager can have another call.
-pub fn play_message(manager: &mut Manager, alloc: Global, parts: &IncomingParts<'_>) -> u32
-    ensures plays { result ≡ ok → Plays manager.old (line_of parts.now) manager.new }
+pub fn play_message(manager: &mut HeldManager, alloc: Global, parts: &IncomingParts<'_>) -> u32
+    ensures plays { result ≡ ok → Plays manager.old (line_of_parts parts.now) manager.new }
     ensures shows { result ≡ ok → Shows manager.new }
     ensures sizes { result ≢ bad_sizes → AddUp parts.now.sizes.now parts.now.buffers.now }
     ensures json { (result ≡ ok) ⊎ (result ≡ exhausted)
@@ -52,7 +52,7 @@ pub fn play_message(manager: &mut Manager, alloc: Global, parts: &IncomingParts<
 }
 
 /// Writes the number of the last call's result to `reply`, and to `count` how many messages that call sends.
-pub fn write_result(manager: &Manager, reply: &mut u32, count: &mut usize)
+pub fn write_result(manager: &HeldManager, reply: &mut u32, count: &mut usize)
     ensures reply { reply.new ≡ result_number manager.now.call_result }
     ensures count { count.new ≡ length (sent manager.now.call_result) }
 {
@@ -80,7 +80,7 @@ fn copy_part(part: &Option<PartBytes<'_>>, out: &mut [u8], size: &mut usize) -> 
 /// Copies a part of a message that the last call sends to `out`. Content and metadata are written as JSON for
 /// it.
 pub fn copy_sent_part(
-    manager: &Manager,
+    manager: &HeldManager,
     alloc: Global,
     message: usize,
     part: usize,
@@ -105,7 +105,7 @@ pub fn copy_sent_part(
 
 /// Copies a part of the reply to the last call to `out`. Content is written as JSON for it.
 pub fn copy_reply_part(
-    manager: &Manager,
+    manager: &HeldManager,
     alloc: Global,
     part: usize,
     out: &mut [u8],

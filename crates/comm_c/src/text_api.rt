@@ -6,13 +6,13 @@ ghost use Rattle.comm_c.specs.Exports.{Fills, RegistersKind};
 
 use crate::codes::{BAD_KIND, BAD_NAME, BUFFER_TOO_SMALL, EXHAUSTED, MEMORY, OK, kind_numbered};
 use crate::handle::Handle;
-use crate::manager::Manager;
+use crate::held_manager::HeldManager;
 use comm_value::Text;
 use std::alloc::Global;
 use std::{mem, str};
 
 /// Takes the manager out of the handle, which has none afterwards.
-pub fn take(handle: &mut Handle, alloc: Global) -> Option<Box<Manager>>
+pub fn take(handle: &mut Handle, alloc: Global) -> Option<Box<HeldManager>>
     ensures taken { option_map (λ b. b.value) result ≡ handle.old.value }
     ensures none { handle.new.value ≡ None }
 {
@@ -20,14 +20,14 @@ pub fn take(handle: &mut Handle, alloc: Global) -> Option<Box<Manager>>
 }
 
 /// Puts the manager into the handle. A manager that was there is freed.
-pub fn put(handle: &mut Handle, alloc: Global, manager: Box<Manager>)
+pub fn put(handle: &mut Handle, alloc: Global, manager: Box<HeldManager>)
     ensures { handle.new.value ≡ Some manager.value }
 {
     let _freed = mem::replace(handle, Handle::of(manager)).into_box(alloc);
 }
 
 /// Copies the text of the last call to `out` if it fits, and writes its length to `size` in any case.
-pub fn copy_text(manager: &Manager, out: &mut [u8], size: &mut usize) -> u32
+pub fn copy_text(manager: &HeldManager, out: &mut [u8], size: &mut usize) -> u32
     ensures whole { result ≡ ok → Fills manager.now.text out.old out.new }
     ensures size { size.new ≡ length manager.now.text }
     ensures longer { result ≡ buffer_too_small → length out.old < length manager.now.text }
@@ -56,7 +56,7 @@ pub fn copy_to_buffer(bytes: &[u8], out: &mut [u8], size: &mut usize) -> u32
 
 /// Plays a line, and copies its answer to `out`. EXHAUSTED is tested first.
 pub fn play_line(
-    manager: &mut Manager,
+    manager: &mut HeldManager,
     alloc: Global,
     line: &[u8],
     out: &mut [u8],
@@ -88,7 +88,7 @@ pub fn play_line(
 /// Registers a new target of the kind that has this number under a name, and copies the answer to `out`. The
 /// kind is tested first, then the name, then whether the manager can have another call.
 pub fn register(
-    manager: &mut Manager,
+    manager: &mut HeldManager,
     alloc: Global,
     kind: u32,
     name: &[u8],

@@ -1,7 +1,7 @@
 use Rattle.std.proofs.Common.{◌≡◌, ◌+◌, ap, arith}
 use Rattle.comm_c.specs.ManagerState.{ManagerState}
 use Rattle.comm_c.proofs.Within.{played_within}
-use Rattle.comm_c.proofs.manager.Manager.line.Goals as goal
+use Rattle.comm_c.proofs.held_manager.HeldManager.line.Goals as goal
 
 pub invariant_of-self-2 : goal.invariant_of-self-2
 invariant_of-self-2 c =

@@ -17,7 +17,7 @@ pub const MAX_CALLS: u64 = 4_611_686_018_427_387_904;
 
 /// A core with its counts, how many calls were made, and the result of the last one, as a text and as values.
 /// The next text is written to `spare`, so that the last one stays where memory runs out.
-pub struct Manager {
+pub struct HeldManager {
     counted_core: CountedCore,
     number: u64,
     text: Vec<u8>,
@@ -25,7 +25,7 @@ pub struct Manager {
     call_result: CallResult,
 }
 
-impl Model for Manager {
+impl Model for HeldManager {
     ghost use Rattle.comm_c.specs.ManagerState.{IsUsable, ManagerState};
     ghost use Rattle.comm_c.specs.ManagerStateCode.{manager_state_code};
 
@@ -43,10 +43,10 @@ impl Model for Manager {
     ghost invariant = { λ m. IsUsable m.counted_core m.number };
 }
 
-impl Manager {
+impl HeldManager {
     /// A manager that has had no call, of which at most `comms` comms are open at a time. BadLimits exactly
     /// where that isn't from 1 to 4,096.
-    pub fn new(alloc: Global, comms: usize) -> Result<Manager, NewFault>
+    pub fn new(alloc: Global, comms: usize) -> Result<HeldManager, NewFault>
         ensures opened { IfOk result (λ m. m ≡ new_manager comms) }
         ensures allowed { IsOk result ↔ AreAllowed (limits_of comms) }
         ensures fault { IfErr result (λ e. e ≡ NewFault.BadLimits) }
@@ -58,7 +58,7 @@ impl Manager {
             outbox: 65_536,
         };
         let core = Core::new(alloc, limits)?;
-        Ok(Manager {
+        Ok(HeldManager {
             counted_core: CountedCore {
                 core,
                 changes: 0,
@@ -128,9 +128,9 @@ impl Manager {
     }
 }
 
-impl Drop for Manager {
+impl Drop for HeldManager {
     fn drop(self) {
-        let Manager {
+        let HeldManager {
             counted_core,
             number: _,
             text: _,
