@@ -1,5 +1,5 @@
-/* A heap in place of the kit's object, by the same three names: the allocation of a number fails, or those from it on, and blocks are
- * counted. */
+/* A heap in place of the kit's object, by the same three names: the allocation of a number fails, or those from it on,
+ * and blocks are counted. */
 #include <stdint.h>
 #include <stdlib.h>
 

@@ -1,11 +1,12 @@
 /* Plays a script of JSON lines through the library, as the program does: play FILE writes what is said to it. */
-#include "comm.h"
+#include "rolgunai.h"
 
 #include <stdio.h>
 #include <stdlib.h>
 #include <string.h>
 
-/* A buffer that grows to the longest answer. It begins short, so that the first answers take the way by comm_text. */
+/* A buffer that grows to the longest answer. It begins short, so that the first answers take the way by
+ * rolgunai_last_text. */
 static uint8_t *out;
 static size_t room = 16;
 
@@ -17,20 +18,20 @@ static int grown(size_t size) {
   return 1;
 }
 
-static uint32_t played(comm_handle *handle, const uint8_t *line, size_t length, size_t *size) {
-  uint32_t status = comm_line(handle, line, length, out, room, size);
-  if (status == COMM_SHORT) {
-    if (!grown(*size)) return COMM_MEMORY;
-    status = comm_text(handle, out, room, size);
+static uint32_t played(rolgunai_handle *handle, const uint8_t *line, size_t length, size_t *size) {
+  uint32_t status = rolgunai_handle_line(handle, line, length, out, room, size);
+  if (status == ROLGUNAI_BUFFER_TOO_SMALL) {
+    if (!grown(*size)) return ROLGUNAI_MEMORY;
+    status = rolgunai_last_text(handle, out, room, size);
   }
   return status;
 }
 
-static int play(comm_handle *handle, const uint8_t *text, size_t length) {
+static int play(rolgunai_handle *handle, const uint8_t *text, size_t length) {
   for (size_t from = 0; from < length;) {
     const uint8_t *end = memchr(text + from, '\n', length - from);
     size_t to = end ? (size_t)(end - text) : length, size;
-    if (played(handle, text + from, to - from, &size) != COMM_OK) return 2;
+    if (played(handle, text + from, to - from, &size) != ROLGUNAI_OK) return 2;
     if (fwrite(out, 1, size, stdout) != size) return 1;
     from = to + 1;
   }
@@ -55,10 +56,10 @@ int main(int count, char **words) {
   uint8_t *text = whole(words[1], &length);
   out = malloc(room);
   if (!text || !out) return 1;
-  comm_handle handle = {0};
-  if (comm_open(&handle, 2, 2, 2, 2, 0, 4096) != COMM_OK) return 2;
+  rolgunai_handle handle = {0};
+  if (rolgunai_new(&handle, 4096) != ROLGUNAI_OK) return 2;
   int status = play(&handle, text, length);
-  comm_end(&handle);
+  rolgunai_free(&handle);
   free(out);
   free(text);
   return status;

@@ -1,8 +1,11 @@
-"""Calls a second from Python, beside ipykernel's own comm manager on the same messages in one run: bench.py LIBRARY [SECONDS]
+"""Calls a second from Python, beside ipykernel's own comm manager on the same messages in one run.
 
-Each message comes as the wire has it, its header, metadata and content as JSON texts and its buffers as bytes; it is played; and what goes out is
-made into such parts again. ipykernel's widget keeps its state as ipywidgets does, without traits. SECONDS is how long each measurement takes (1), of
-which there are three, in turn; the best of each counts. /usr/bin/python3 has Debian's ipykernel.
+bench.py LIBRARY [SECONDS]
+
+Each message comes as the wire has it, its header, metadata and content as JSON texts and its buffers as bytes; it is
+played; and what is sent is made into such parts again. ipykernel's widget keeps its state as ipywidgets does, without
+traits. SECONDS is how long each measurement takes (1), of which there are three, in turn; the best of each counts.
+/usr/bin/python3 has Debian's ipykernel.
 """
 
 import base64
@@ -24,15 +27,15 @@ class Parts:
     name = "by parts"
 
     def __init__(self, library):
-        self.manager = Manager(widget=1, plain=1, library=library)
+        self.manager = Manager(library=library)
         self.manager.register(Kind.WIDGET, "jupyter.widget")
         self.manager.register(Kind.PLAIN, "plain")
 
     def play(self, header, metadata, content, buffers):
         answer = self.manager.message(header, metadata, content, buffers)
         # For the kernel, which has the message in hand.
-        heard = (json.loads(content)["data"], buffers) if answer.reply == Reply.CUSTOM else None
-        return [(sent.content, sent.frames) for sent in answer.sent], heard
+        heard = (json.loads(content)["data"], buffers) if answer.reply == Reply.FOR_KERNEL else None
+        return [(sent.content, sent.buffers) for sent in answer.sent], heard
 
 
 class Lines(Parts):
@@ -42,7 +45,8 @@ class Lines(Parts):
 
     def play(self, header, metadata, content, buffers):
         texts = b",".join(b'"%s"' % base64.b64encode(buffer) for buffer in buffers)
-        answer = self.manager.line(b'{"header":%s,"metadata":%s,"content":%s,"buffers":[%s]}' % (header, metadata, content, texts))
+        line = b'{"header":%s,"metadata":%s,"content":%s,"buffers":[%s]}' % (header, metadata, content, texts)
+        answer = self.manager.line(line)
         sent, heard = [], None
         for said in answer.splitlines():
             word, rest = said.split(b" ", 1)
@@ -105,7 +109,7 @@ class Ipykernel:
         sent = self.sent = []
 
         class Sends(Session):
-            def send(self, stream, kind, content=None, parent=None, ident=None, buffers=None, track=False, header=None, metadata=None):
+            def send(self, stream, kind, content=None, parent=None, ident=None, buffers=None, **others):
                 sent.append((dumps(content), buffers or []))
 
         class Alone(Kernel):
@@ -127,7 +131,8 @@ class Ipykernel:
     def play(self, header, metadata, content, buffers):
         self.sent.clear()
         self.heard = None
-        message = {"header": json.loads(header), "metadata": json.loads(metadata), "content": json.loads(content), "buffers": buffers}
+        header, metadata, content = map(json.loads, (header, metadata, content))
+        message = {"header": header, "metadata": metadata, "content": content, "buffers": buffers}
         if message["header"]["msg_type"] == "comm_open":
             self.manager.comm_open(None, None, message)
         else:
@@ -159,8 +164,10 @@ def workloads(buffers):
 def same(one, other):
     """Whether two managers said the same: the JSON of what went out, its bytes, and what the kernel heard."""
     (sent, heard), (other_sent, other_heard) = one, other
-    parts = [[(json.loads(content), [bytes(b) for b in buffers]) for content, buffers in list(out)] for out in (sent, other_sent)]
-    return parts[0] == parts[1] and heard == other_heard
+    def parts(out):
+        return [(json.loads(content), [bytes(buffer) for buffer in buffers]) for content, buffers in list(out)]
+
+    return parts(sent) == parts(other_sent) and heard == other_heard
 
 
 def a_second(manager, parts, seconds):
@@ -178,7 +185,8 @@ def a_second(manager, parts, seconds):
 def main(path, seconds=1.0):
     logging.disable(logging.CRITICAL)
     library = load(path)
-    print("calls a second        buffer " + "".join(f"{kind.name:>11}" for kind in (Parts, Lines, Ipykernel)) + "  by parts / ipykernel")
+    names = "".join(f"{kind.name:>11}" for kind in (Parts, Lines, Ipykernel))
+    print(f"calls a second        buffer {names}  by parts / ipykernel")
     for size in (0, 1024, 65536):
         buffers = [bytes(n % 251 for n in range(size))] if size else []
         managers = [Parts(library), Lines(library), Ipykernel()]
@@ -188,8 +196,10 @@ def main(path, seconds=1.0):
         for name, parts in workloads(buffers):
             by_parts, by_lines, ipykernel = (manager.play(*parts) for manager in managers)
             assert same(by_parts, ipykernel) and same(by_lines, ipykernel), (name, size)
-            best = [max(counts) for counts in zip(*([a_second(manager, parts, seconds) for manager in managers] for _ in range(3)))]
-            print(f"{name:20} {size:7} " + "".join(f"{count:11.0f}" for count in best) + f"{best[0] / best[2]:8.2f}", flush=True)
+            runs = [[a_second(manager, parts, seconds) for manager in managers] for _ in range(3)]
+            best = [max(counts) for counts in zip(*runs)]
+            counts = "".join(f"{count:11.0f}" for count in best)
+            print(f"{name:20} {size:7} {counts}{best[0] / best[2]:8.2f}", flush=True)
 
 
 if __name__ == "__main__":

@@ -1,4 +1,4 @@
-"""Plays a script of JSON lines through the library, as the program does: play.py LIBRARY FILE writes what is said to it."""
+"""Plays a script of JSON lines through the library, as the program does: play.py LIBRARY FILE writes its answers."""
 
 import sys
 
@@ -6,7 +6,7 @@ from rolgunai import Manager, load
 
 
 def main(library: str, script: str) -> None:
-    with open(script, "rb") as file, Manager(echo=2, counter=2, widget=2, widget_echo=2, library=load(library)) as manager:
+    with open(script, "rb") as file, Manager(library=load(library)) as manager:
         for line in file.read().split(b"\n"):
             sys.stdout.buffer.write(manager.line(line))
 

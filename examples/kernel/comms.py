@@ -1,7 +1,7 @@
 """ipykernel's comms over the proved manager, for ipykernel 6.17.
 
-Which comms are open, whom a message goes to, what state a widget has and what goes out is said by the proved manager alone. Python keeps what
-it can't have: the callbacks of targets and comms.
+Which comms are open, whom a message goes to, what state a widget has and what goes out is said by the proved manager
+alone. Python keeps what it can't have: the callbacks of targets and comms.
 """
 
 import collections
@@ -19,8 +19,7 @@ from rolgunai import Answer, Kind, Manager, Reply, Sent
 from wire import command, dumps, hear, texts, words
 
 WIDGET = "jupyter.widget"
-ANY_NUMBER = 2**32 - 1
-DONE = {Reply.OPENED, Reply.LAUNCHED, Reply.DELIVERED, Reply.CUSTOM, Reply.CLOSED, Reply.UNREGISTERED}
+DONE = {Reply.OPENED, Reply.LAUNCHED, Reply.DELIVERED, Reply.FOR_KERNEL, Reply.CLOSED, Reply.UNREGISTERED}
 LATER = Answer(Reply.NONE, [])
 
 
@@ -33,12 +32,13 @@ class ProvedComms(CommManager):
 
     def __init__(self, library, **kwargs):
         super().__init__(**kwargs)
-        self.proved = Manager(widget=1, plain=ANY_NUMBER, library=library)
+        self.proved = Manager(library=library)
         self.names = set()
         self.lock, self.is_busy, self.late = threading.RLock(), False, collections.deque()
 
     def play(self, call, parent, send):
-        """Has the manager play what the call hands it, and sends what goes out in its order. Gives its answer; raises where it is a refusal."""
+        """Has the manager play what the call hands it, and sends what goes out in its order. Gives its answer;
+        raises where it is a refusal."""
         with self.lock:
             # The garbage collector ends a comm amid a call of this thread: its close is played after that.
             if self.is_busy:
@@ -67,7 +67,8 @@ class ProvedComms(CommManager):
         topic = ("comm-" + sent.comm_id).encode()
         metadata = {**json.loads(sent.metadata), **(metadata or {})}
         session, socket = self.kernel.session, self.kernel.iopub_socket
-        session.send(socket, sent.kind, sent.content, parent=parent, ident=topic, metadata=metadata, buffers=sent.frames)
+        keys = {"parent": parent, "ident": topic, "metadata": metadata, "buffers": sent.buffers}
+        session.send(socket, sent.kind, sent.content, **keys)
 
     def hear(self, message):
         """Plays a message of a frontend; tells whether the kernel's own code is to have it."""
@@ -186,5 +187,7 @@ class ProvedComm(Comm):
             return {"call": "push", **shared, **state} if is_update else {"call": "send", **shared, "data": data}
         if self.target_name == WIDGET:
             return {"call": "launch", **shared, **state, "name": WIDGET, "uuid": self.comm_id}
-        # The kernel opens widgets alone by a command: any other comm is opened to the manager as a frontend opens it, and told by the kernel itself.
-        return {"header": {"msg_type": "comm_open"}, "content": {"comm_id": self.comm_id, "target_name": self.target_name}}
+        # By a command the kernel opens only widgets: the manager opens any other comm as a frontend's, and the kernel
+        # itself sends its open.
+        content = {"comm_id": self.comm_id, "target_name": self.target_name}
+        return {"header": {"msg_type": "comm_open"}, "content": content}

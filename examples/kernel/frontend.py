@@ -1,4 +1,5 @@
-"""A frontend over ZeroMQ, by jupyter_client: starts the kernel, sends what a notebook sends, and gathers what comes back."""
+"""A frontend over ZeroMQ, by jupyter_client: starts the kernel, sends what a notebook sends, and gathers what comes
+back."""
 
 import pathlib
 import tempfile
@@ -25,7 +26,8 @@ class Frontend:
         folder = pathlib.Path(self.specs.name) / spec.NAME
         folder.mkdir()
         spec.write(folder)
-        self.kernel = KernelManager(kernel_name=spec.NAME, kernel_spec_manager=KernelSpecManager(kernel_dirs=[self.specs.name]))
+        specs = KernelSpecManager(kernel_dirs=[self.specs.name])
+        self.kernel = KernelManager(kernel_name=spec.NAME, kernel_spec_manager=specs)
         self.kernel.start_kernel()
         self.client = self.connected()
 
@@ -49,7 +51,8 @@ class Frontend:
             if got["msg_type"] == "status" and got["content"]["execution_state"] == "idle":
                 return came
             if got["msg_type"] not in ("status", "execute_input"):
-                came.append(Message(got["msg_type"], got["content"], got["metadata"], [bytes(frame) for frame in got["buffers"]]))
+                buffers = [bytes(buffer) for buffer in got["buffers"]]
+                came.append(Message(got["msg_type"], got["content"], got["metadata"], buffers))
 
     def run(self, code):
         """Runs a cell. Gives what it prints, with the error that it ends in, and the comms' messages."""

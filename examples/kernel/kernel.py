@@ -1,6 +1,7 @@
 """The IPython kernel, with the proved manager in the place of its comm manager.
 
-/usr/bin/python3 kernel.py -f CONNECTION_FILE, as a kernel is started. COMM_LIBRARY names the library, if it isn't where tools/c_library builds it.
+/usr/bin/python3 kernel.py -f CONNECTION_FILE, as a kernel is started. ROLGUNAI_LIBRARY names the library, if it isn't
+where tools/c_library builds it.
 """
 
 import os
@@ -19,7 +20,7 @@ from ipykernel.kernelapp import IPKernelApp
 from comms import ProvedComm, ProvedComms
 from rolgunai import load
 
-LIBRARY = os.environ.get("COMM_LIBRARY") or TOP / "crates/comm_c/out/bindings/libcomm.so"
+LIBRARY = os.environ.get("ROLGUNAI_LIBRARY") or TOP / "crates/comm_c/out/bindings/librolgunai.so"
 
 
 class ProvedKernel(IPythonKernel):

@@ -1,5 +1,5 @@
-"""ipywidgets 6, as Debian 12 has it, says in Python what version 1 of the widget protocol says; the manager and the frontends speak version 2. Widgets of
-ipywidgets 7 or 8, and a user's own that speak version 2, pass as they are."""
+"""ipywidgets 6, as Debian 12 has it, says in Python what version 1 of the widget protocol says; the manager and the
+frontends speak version 2. Widgets of ipywidgets 7 or 8, and a user's own that speak version 2, pass as they are."""
 
 
 def is_old(data):
@@ -20,4 +20,5 @@ def heard(data):
     """What a frontend says to such a widget, in version 1."""
     if data["method"] != "update":
         return data
-    return {"method": "backbone", "sync_data": data["state"], "buffer_keys": [path[0] for path in data.get("buffer_paths", [])]}
+    buffer_keys = [path[0] for path in data.get("buffer_paths", [])]
+    return {"method": "backbone", "sync_data": data["state"], "buffer_keys": buffer_keys}

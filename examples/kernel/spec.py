@@ -1,4 +1,5 @@
-"""The kernelspec. /usr/bin/python3 spec.py installs it for the user who runs it: Jupyter then offers the kernel 'Python, proved comms'."""
+"""The kernelspec. /usr/bin/python3 spec.py installs it for the user who runs it: Jupyter then offers the kernel
+'Python, proved comms'."""
 
 import json
 import pathlib

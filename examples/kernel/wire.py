@@ -1,6 +1,7 @@
 """Between Jupyter's messages and the manager: all the glue that a kernel in Python needs, with no Jupyter in it.
 
-A message goes in and out by its parts, so that its buffers stay bytes. A command of the kernel is a line (docs/FORMATS.md).
+A message goes in and out by its parts, so that its buffers stay bytes. A command of the kernel is a line
+(docs/FORMATS.md).
 """
 
 import base64

@@ -31,14 +31,14 @@ use Rattle.plain_target.specs.contracts.plain.PlainTarget as plain
 use Rattle.widget_target.proofs.Sends.{widget_sends}
 use Rattle.widget_target.specs.contracts.widget.WidgetTarget as widget
 use Rattle.comm_c.specs.Handle.{heap, handle_owns}
-use Rattle.comm_c.specs.Kept.{Kept}
-use Rattle.comm_c.specs.contracts.desk.Desk as desk
+use Rattle.comm_c.specs.ManagerState.{ManagerState}
+use Rattle.comm_c.specs.contracts.counted_core.CountedCore as counted_core
 use Rattle.comm_c.specs.contracts.handle.Handle as handle
-use Rattle.comm_c.specs.contracts.manager.Manager as manager
-use Rattle.comm_c.specs.contracts.manager.Manager.TheInside as inside
-use Rattle.comm_c.specs.contracts.sequel.Made as made
-use Rattle.comm_c.specs.contracts.sequel.Sequel as sequel
-use Rattle.comm_c.specs.contracts.stocked.Stocked as stocked
+use Rattle.comm_c.specs.contracts.held_manager.HeldManager as manager
+use Rattle.comm_c.specs.contracts.held_manager.HeldManager.TheInside as inside
+use Rattle.comm_c.specs.contracts.call_result.ChangeMade as made
+use Rattle.comm_c.specs.contracts.call_result.CallResult as call_result
+use Rattle.comm_c.specs.contracts.builtin_target.BuiltinTarget as builtin_target
 use Rattle.comm_core.specs.contracts.reply.StateAnswer as state_answer
 use Rattle.comm_script.specs.contracts.asked.LineFault as line_fault
 
@@ -64,17 +64,17 @@ widget_field_send = widget_sends
 plain_field_send : IsSend (as_row plain.the_field)
 plain_field_send = plain_sends
 
-pub stocked_send : IsSend stocked.the_row
-stocked_send = variants_send stocked.enum (search (sendable, crosses, echo_field_send, counter_field_send, widget_field_send, plain_field_send) depth 40)
+pub builtin_target_send : IsSend builtin_target.the_row
+builtin_target_send = variants_send builtin_target.enum (search (sendable, crosses, echo_field_send, counter_field_send, widget_field_send, plain_field_send) depth 40)
 
-desk_send : IsSend desk.the_row
-desk_send = search (sendable, crosses, stocked_send, core_send) depth 60 fits 20000
+counted_core_send : IsSend counted_core.the_row
+counted_core_send = search (sendable, crosses, builtin_target_send, core_send) depth 60 fits 20000
 
-desk_field_send : IsSend (as_row desk.the_field)
-desk_field_send = desk_send
+counted_core_field_send : IsSend (as_row counted_core.the_field)
+counted_core_field_send = counted_core_send
 
-made_send : IsSend made.the_row
-made_send = declared_send made.the_type (
+change_made_send : IsSend made.the_row
+change_made_send = declared_send made.the_type (
   search (sendable, crosses) depth 40,
   (
     search (sendable, crosses) depth 40,
@@ -85,8 +85,8 @@ made_send = declared_send made.the_type (
   ),
 )
 
-made_field_send : IsSend (as_row made.the_field)
-made_field_send = made_send
+change_made_field_send : IsSend (as_row made.the_field)
+change_made_field_send = change_made_send
 
 state_answer_send : IsSend state_answer.the_row
 state_answer_send = search values depth 40
@@ -100,22 +100,22 @@ line_fault_send = search (sendable, crosses) depth 40
 line_fault_field_send : IsSend (as_row line_fault.the_field)
 line_fault_field_send = line_fault_send
 
-sequel_send : IsSend sequel.the_row
-sequel_send = variants_send sequel.enum (search (sendable, crosses, made_field_send, outgoings_send, state_answer_field_send, line_fault_field_send) depth 40)
+call_result_send : IsSend call_result.the_row
+call_result_send = variants_send call_result.enum (search (sendable, crosses, change_made_field_send, outgoings_send, state_answer_field_send, line_fault_field_send) depth 40)
 
-sequel_field_send : IsSend (as_row sequel.the_field)
-sequel_field_send = sequel_send
+call_result_field_send : IsSend (as_row call_result.the_field)
+call_result_field_send = call_result_send
 
 inside_send : IsSend inside.the_row
 inside_send = declared_send inside.the_type (
-  search (sendable, crosses, desk_field_send) depth 40,
+  search (sendable, crosses, counted_core_field_send) depth 40,
   (
     search (sendable, crosses) depth 40,
     (
       search (sendable, crosses) depth 40,
       (
         search (sendable, crosses) depth 40,
-        (search (sendable, crosses, sequel_field_send) depth 40, tt),
+        (search (sendable, crosses, call_result_field_send) depth 40, tt),
       ),
     ),
   ),
@@ -125,7 +125,7 @@ manager_send : IsSend manager.the_row
 manager_send = search (sendable, inside_send) depth 60 fits 20000
 
 -- what a handle owns says the same to every thread
-owned : (p : Ptr) (x : Option Kept) → Keyless (handle_owns manager.the_row p x)
+owned : (p : Ptr) (x : Option ManagerState) → Keyless (handle_owns manager.the_row p x)
 owned p None = tt
 owned p (Some k) = (lies manager.the_row manager_send p k, frees.frees heap (raw (lone manager.the_row.mir)) p)
 

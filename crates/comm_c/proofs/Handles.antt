@@ -27,15 +27,15 @@ use Rattle.std.proofs.GlobalToken.{dealloc_token-Testable}
 use Rattle.comm_c.specs.Handle.{heap as c_heap}
 use Rattle.std_alloc.specs.Box.Ownership.{box_owns}
 use Rattle.comm_c.specs.Handle.{handle_owns}
-use Rattle.comm_c.specs.Kept.{Kept}
+use Rattle.comm_c.specs.ManagerState.{ManagerState}
 use Rattle.comm_c.specs.declared.handle.Handle.{Handle}
-use Rattle.comm_c.specs.contracts.manager.Manager as manager
+use Rattle.comm_c.specs.contracts.held_manager.HeldManager as manager
 use Rattle.comm_c.specs.contracts.handle.Handle as handle
 
 abbrev pub R : RattleType
 R = manager.the_row
 
-abbrev pub boxed : Ptr → Kept → base.Fml.Fml
+abbrev pub boxed : Ptr → ManagerState → base.Fml.Fml
 boxed p x = box_owns (ghosts.dealloc_token c_heap) R p x
 
 abbrev pub al : Al
@@ -45,7 +45,7 @@ abbrev pub word : Val → Val
 word v = vstruct (vcons v vnil)
 
 module _ {M : Type 1} {𝓤 : Ura M} {𝓛 : Logic 𝓤} {K : Type 0} {Γ : List (Item 𝓤)} {G : Goal 𝓤 𝓛.H} where
-  pub handle_in : K → (p : Ptr) (x : Option Kept)
+  pub handle_in : K → (p : Ptr) (x : Option ManagerState)
       → Step K 𝓛 (‵ (handle.the_row.own_val (record { at = p; value = x }) (word (ptr_val p) ∷ [])) ∷ Γ) G (‵ (handle_owns R p x) ∷ Γ) G
   handle_in t p x = step (λ s. let v : Val = word (ptr_val p) in
       nothing t $ feq_i t (List Val) (ptr_val p ∷ []) (ptr_val p ∷ []) refl $ fjoin t $ feq_i t (List Val) (v ∷ []) (v ∷ []) refl $ fjoin t $
@@ -59,8 +59,8 @@ module _ {M : Type 1} {𝓤 : Ura M} {𝓛 : Logic 𝓤} {K : Type 0} {Γ : List
       k (subst (λ (ps : List Val). vs ≡ vstruct (of_list (ps ++ [])) ∷ []) ep ev))))
 
   -- at null nothing is owned, and else the box
-  pub either : K → (a : Global) (p : Ptr) (x : Option Kept) → (p ≡ null_ptr → x ≡ None → Seq K 𝓛 Γ G)
-      → ((b o : ℕ) (y : Kept) → p ≡ block_ptr b o → x ≡ Some y → Testable (block_ptr b o) → Seq K 𝓛 (‵ (boxed (block_ptr b o) y) ∷ Γ) G)
+  pub either : K → (a : Global) (p : Ptr) (x : Option ManagerState) → (p ≡ null_ptr → x ≡ None → Seq K 𝓛 Γ G)
+      → ((b o : ℕ) (y : ManagerState) → p ≡ block_ptr b o → x ≡ Some y → Testable (block_ptr b o) → Seq K 𝓛 (‵ (boxed (block_ptr b o) y) ∷ Γ) G)
       → Seq K 𝓛 (‵ (handle_owns R p x) ∷ Γ) G
   either t a p None none one = feq_l t (λ e. none e refl)
   either t a p (Some y) none one =

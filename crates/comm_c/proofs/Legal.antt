@@ -1,10 +1,9 @@
 -- Each call makes one change more of a legal history, or none.
 use Rattle.std.proofs.Common.{◌≡◌, ℕ, ◌+◌, ◌<◌, List, [], ◌∷◌, ◌++◌, length, get_or, Bool, true, false, Option, Some, Ok, Err, refl, sym, ap, subst, ◌∙◌, inl, inr, length-append, append-nil, length-set, arith}
-use Rattle.std.specs.Prelude.{◌==◌}
 use Rattle.std.proofs.lemmas.Bool.Decides.{eqb_tells}
 use Rattle.comm_core.specs.declared.call.Call.{Call}
 use Rattle.comm_core.specs.History.{mine, next_of, replay, has_end, IsLegal, Follows}
-use Rattle.comm_core.specs.Machine.{Machine, Name}
+use Rattle.comm_core.specs.Machine.{Machine}
 use Rattle.comm_core.specs.Ready.{machine}
 use Rattle.comm_core.specs.Step.{Outcome, Stepped, step, asks, Allowed}
 use Rattle.comm_core.specs.declared.entry.Entry.{Entry}
@@ -14,12 +13,10 @@ use Rattle.comm_script.specs.Line.{Reading}
 use Rattle.comm_script.specs.Lines.{is_blank}
 use Rattle.comm_script.specs.declared.asked.Request.{Request}
 use Rattle.comm_script.specs.declared.asked.Request.TheVariants as asks_for
-use Rattle.comm_targets.specs.declared.kind.Kind.{Kind}
-use Rattle.comm_c.specs.Desk.{Changes}
-use Rattle.comm_c.specs.Left.{kind_of, left_of}
+use Rattle.comm_c.specs.CountedCore.{Changes}
 use Rattle.comm_c.specs.Legal.{HasMade, MakesOne, CallsMakeLegalHistories}
-use Rattle.comm_c.specs.Turns.{Says, RegistersFrom, Obeys, Answers, TurnsIf, Turns}
-use Rattle.comm_c.specs.declared.desk.Desk.{Desk}
+use Rattle.comm_c.specs.PlaysLine.{SaysOnly, Obeys, AnswersLine, PlaysLineIf, PlaysLine}
+use Rattle.comm_c.specs.declared.counted_core.CountedCore.{CountedCore}
 use Rattle.comm_c.proofs.Counting.{Grows, own_made, other_made, zeros}
 
 -- a legal history grows
@@ -31,7 +28,7 @@ still_open [] client number c o S none = refl
 still_open (End ∷ es) client number c o S none = cc
 still_open (Change k n a p r g ∷ es) client number c o S none = still_open es client number c o S none
 
-change_one : GrowsLegal → Grows → (h : List Entry) (d : Desk) (client : ℕ) (c : Call) (after : Desk) (said : List ℕ) → HasMade h d → Changes d client c after said → MakesOne h after
+change_one : GrowsLegal → Grows → (h : List Entry) (d : CountedCore) (client : ℕ) (c : Call) (after : CountedCore) (said : List ℕ) → HasMade h d → Changes d client c after said → MakesOne h after
 change_one legal grows h d client c after said has ch =
     let S : Stepped = record { reply = ch.reply; outgoing = ch.outgoing; next = machine after.core } in
     let number : ℕ = length (mine h client) + 1 in
@@ -58,39 +55,34 @@ change_one legal grows h d client c after said has ch =
       };
     }
 
-says_none : (h : List Entry) (d after : Desk) (text said : List ℕ) → HasMade h d → Says d text after said → MakesOne h after
+says_none : (h : List Entry) (d after : CountedCore) (text said : List ℕ) → HasMade h d → SaysOnly d text after said → MakesOne h after
 says_none h d after text said has s = record {
   more = [];
   one = omega arith;
-  has = subst (λ (es : List Entry). HasMade es after) (sym (append-nil h)) (subst (λ (e : Desk). HasMade h e) (sym s.0) has);
+  has = subst (λ (es : List Entry). HasMade es after) (sym (append-nil h)) (subst (λ (e : CountedCore). HasMade h e) (sym s.0) has);
 }
 
-register_one : GrowsLegal → Grows → (h : List Entry) (d : Desk) (number client : ℕ) (kind : Kind) (name : Name) (after : Desk) (said : List ℕ) → HasMade h d → (b : Bool)
-    → RegistersFrom b d number client kind name after said → MakesOne h after
-register_one legal grows h d number client kind name after said has true s = says_none h d after _ said has s
-register_one legal grows h d number client kind name after said has false ch = change_one legal grows h d client _ after said has ch
+obey_one : GrowsLegal → Grows → (h : List Entry) (d : CountedCore) (client : ℕ) (a : Request) (after : CountedCore) (said : List ℕ) → HasMade h d → Obeys d client a after said → MakesOne h after
+obey_one legal grows h d client (asks_for.Change c) after said has o = change_one legal grows h d client c after said has o.1
+obey_one legal grows h d client (asks_for.Register kind name) after said has o = change_one legal grows h d client _ after said has o
+obey_one legal grows h d client (asks_for.Infos target) after said has o = says_none h d after _ said has o
+obey_one legal grows h d client (asks_for.State id) after said has o = says_none h d after _ said has o
 
-obey_one : GrowsLegal → Grows → (h : List Entry) (d : Desk) (number client : ℕ) (a : Request) (after : Desk) (said : List ℕ) → HasMade h d → Obeys d number client a after said → MakesOne h after
-obey_one legal grows h d number client (asks_for.Change c) after said has o = change_one legal grows h d client c after said has o.1
-obey_one legal grows h d number client (asks_for.Register kind name) after said has o = register_one legal grows h d number client (kind_of kind) name after said has (left_of (kind_of kind) d.left == 0) o
-obey_one legal grows h d number client (asks_for.Infos target) after said has o = says_none h d after _ said has o
-obey_one legal grows h d number client (asks_for.State id) after said has o = says_none h d after _ said has o
-
-answer_one : GrowsLegal → Grows → (h : List Entry) (d : Desk) (number : ℕ) (r : Reading (ℕ × Request)) (after : Desk) (said : List ℕ) → HasMade h d → Answers d number r after said → MakesOne h after
-answer_one legal grows h d number (Ok m) after said has a = obey_one legal grows h d number m.0 m.1 after said has a
+answer_one : GrowsLegal → Grows → (h : List Entry) (d : CountedCore) (number : ℕ) (r : Reading (ℕ × Request)) (after : CountedCore) (said : List ℕ) → HasMade h d → AnswersLine d number r after said → MakesOne h after
+answer_one legal grows h d number (Ok m) after said has a = obey_one legal grows h d m.0 m.1 after said has a
 answer_one legal grows h d number (Err fault) after said has a = says_none h d after _ said has a
 
-line_one : GrowsLegal → Grows → (h : List Entry) (d : Desk) (number : ℕ) (line : List ℕ) (after : Desk) (said : List ℕ) → HasMade h d → (b : Bool) → TurnsIf b d number line after said → MakesOne h after
+line_one : GrowsLegal → Grows → (h : List Entry) (d : CountedCore) (number : ℕ) (line : List ℕ) (after : CountedCore) (said : List ℕ) → HasMade h d → (b : Bool) → PlaysLineIf b d number line after said → MakesOne h after
 line_one legal grows h d number line after said has true t = says_none h d after [] said has t
 line_one legal grows h d number line after said has false t = answer_one legal grows h d number (asked 4 line) after said has t
 
-turn_one : GrowsLegal → Grows → (h : List Entry) (d : Desk) (number : ℕ) (line : List ℕ) (after : Desk) (said : List ℕ) → HasMade h d → Turns d number line after said → MakesOne h after
-unfolding Turns
-turn_one legal grows h d number line after said has t = line_one legal grows h d number line after said has (is_blank line) t
+played_one : GrowsLegal → Grows → (h : List Entry) (d : CountedCore) (number : ℕ) (line : List ℕ) (after : CountedCore) (said : List ℕ) → HasMade h d → PlaysLine d number line after said → MakesOne h after
+unfolding PlaysLine
+played_one legal grows h d number line after said has t = line_one legal grows h d number line after said has (is_blank line) t
 
 pub calls : GrowsLegal → Grows → CallsMakeLegalHistories
 calls legal grows = record {
-  first = λ left comms. record {
+  first = λ comms. record {
     legal = tt;
     goes_on = refl;
     machine_is = refl;
@@ -98,6 +90,6 @@ calls legal grows = record {
     made = λ c few. zeros c;
     clients = refl;
   };
-  line = λ h k line after has plays. turn_one legal grows h k.desk (k.number + 1) line after.desk after.text has plays.1;
-  register = λ h k kind name after has enters. change_one legal grows h k.desk 0 _ after.desk after.text has enters.1;
+  line = λ h k line after has plays. played_one legal grows h k.counted_core (k.number + 1) line after.counted_core after.text has plays.1;
+  register = λ h k kind name after has enters. change_one legal grows h k.counted_core 0 _ after.counted_core after.text has enters.1;
 }

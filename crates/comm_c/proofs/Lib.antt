@@ -1,9 +1,9 @@
 pub mod Contents
 pub mod Counting
 pub mod Crossing
+pub mod EnoughTargets
 pub mod Handles
 pub mod Legal
-pub mod Shelves
-pub mod Turning
+pub mod ScriptLines
 pub mod Values
 pub mod Within

@@ -1,9 +1,9 @@
--- What a call from C answers: a number with a name. `comm.h` has the same.
+-- The status of an exported call: a number with a name. `rolgunai.h` has the same.
 use Rattle.std.specs.Prelude.{ℕ, ◌==◌, Option, Some, None, if◌then◌else◌}
 use Rattle.comm_targets.specs.declared.kind.Kind.{Kind}
-use Rattle.comm_targets.specs.declared.kind.Kind.TheVariants.{Echo, Counter, Widget, WidgetEcho, Free}
+use Rattle.comm_targets.specs.declared.kind.Kind.TheVariants.{Widget, WidgetEcho, Free}
 
--- all went well
+-- the call was made
 abbrev pub ok : ℕ
 ok = 0
 
@@ -11,7 +11,7 @@ ok = 0
 abbrev pub closed : ℕ
 closed = 1
 
--- memory ran out, and nothing happened
+-- out of memory, and nothing has changed
 abbrev pub memory : ℕ
 memory = 2
 
@@ -20,16 +20,16 @@ abbrev pub bad_limit : ℕ
 bad_limit = 3
 
 -- the handle has a manager already
-abbrev pub busy : ℕ
-busy = 4
+abbrev pub already_open : ℕ
+already_open = 4
 
--- the call was made, and its text, which is kept, is longer than the buffer
-abbrev pub short : ℕ
-short = 5
+-- the call was made, and its text, which is kept, is longer than the caller's buffer
+abbrev pub buffer_too_small : ℕ
+buffer_too_small = 5
 
--- as many calls were made as may be
-abbrev pub full : ℕ
-full = 6
+-- as many calls were made as a manager takes
+abbrev pub exhausted : ℕ
+exhausted = 6
 
 -- the name isn't UTF-8
 abbrev pub bad_name : ℕ
@@ -39,28 +39,22 @@ bad_name = 7
 abbrev pub bad_kind : ℕ
 bad_kind = 8
 
--- no target of the kind is left
-abbrev pub no_stock : ℕ
-no_stock = 9
-
--- the sizes aren't those of the frames
+-- the sizes aren't those of the binary buffers
 abbrev pub bad_sizes : ℕ
-bad_sizes = 10
+bad_sizes = 9
 
 -- a part of the message isn't JSON
 abbrev pub not_json : ℕ
-not_json = 11
+not_json = 10
 
 -- there is no such message, or it has no such part
 abbrev pub no_part : ℕ
-no_part = 12
+no_part = 11
 
--- the kinds of targets by their numbers
+-- the kinds of targets that C registers, by their numbers
 abbrev pub kind_numbered : ℕ → Option Kind
 kind_numbered n =
-    if n == 0 then Some Echo
-    else if n == 1 then Some Counter
-    else if n == 2 then Some Widget
+    if n == 2 then Some Widget
     else if n == 3 then Some Free
     else if n == 4 then Some WidgetEcho
     else None

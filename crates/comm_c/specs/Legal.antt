@@ -1,16 +1,16 @@
--- What calls since the open come to, whatever their targets answer: a legal history, so that the core's laws over whole runs hold of it.
+-- The changes of a manager since it was made are a legal history, whatever its targets answer, so that the
+-- core's laws over whole runs hold of it.
 use Rattle.std.specs.Prelude.{◌≡◌, ℕ, ◌≤◌, ◌<◌, false, List, [], ◌++◌, length, slice_index}
 use Rattle.comm_targets.specs.declared.kind.Kind.{Kind}
 use Rattle.comm_core.specs.History.{IsLegal, has_end, mine, replay}
 use Rattle.comm_core.specs.Machine.{Name}
 use Rattle.comm_core.specs.Ready.{machine}
 use Rattle.comm_core.specs.declared.entry.Entry.{Entry}
-use Rattle.comm_c.specs.Kept.{Kept, Plays, Enters, opened}
-use Rattle.comm_c.specs.declared.desk.Desk.{Desk}
-use Rattle.comm_c.specs.declared.left.Left.{Left}
+use Rattle.comm_c.specs.ManagerState.{ManagerState, Plays, RegistersTarget, new_manager}
+use Rattle.comm_c.specs.declared.counted_core.CountedCore.{CountedCore}
 
--- it holds what this legal history has left, and has counted its changes
-pub record HasMade (history : List Entry) (d : Desk) : Type 0 where
+-- it is in the state after this legal history, and has counted its changes
+pub record HasMade (history : List Entry) (d : CountedCore) : Type 0 where
   pub legal : IsLegal 4 d.core.limit history
   pub goes_on : has_end history ≡ false
   pub machine_is : machine d.core ≡ replay d.core.limit history
@@ -19,13 +19,14 @@ pub record HasMade (history : List Entry) (d : Desk) : Type 0 where
   pub clients : length d.made ≡ 4
 
 -- after this history it has made one change more, or none
-pub record MakesOne (history : List Entry) (after : Desk) : Type 0 where
+pub record MakesOne (history : List Entry) (after : CountedCore) : Type 0 where
   pub more : List Entry
   pub one : length more ≤ 1
   pub has : HasMade (history ++ more) after
 
 pub record CallsMakeLegalHistories : Type 0 where
-  pub first : (left : Left) (comms : ℕ) → HasMade [] (opened left comms).desk
-  pub line : (history : List Entry) (k : Kept) (line : List ℕ) (after : Kept) → HasMade history k.desk → Plays k line after → MakesOne history after.desk
-  pub register : (history : List Entry) (k : Kept) (kind : Kind) (name : Name) (after : Kept) → HasMade history k.desk → Enters k kind name after
-      → MakesOne history after.desk
+  pub first : (comms : ℕ) → HasMade [] (new_manager comms).counted_core
+  pub line : (history : List Entry) (k : ManagerState) (line : List ℕ) (after : ManagerState)
+      → HasMade history k.counted_core → Plays k line after → MakesOne history after.counted_core
+  pub register : (history : List Entry) (k : ManagerState) (kind : Kind) (name : Name) (after : ManagerState)
+      → HasMade history k.counted_core → RegistersTarget k kind name after → MakesOne history after.counted_core

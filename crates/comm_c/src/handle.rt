@@ -1,11 +1,11 @@
 //! A manager as C holds it: a pointer, null where there is none.
 ghost use Rattle.std.specs.Prelude.{◌≡◌, None, Some, Option, option_map};
-ghost use Rattle.comm_c.specs.Kept.{Kept};
-ghost use Rattle.comm_c.specs.contracts.manager.Manager.{the_row};
+ghost use Rattle.comm_c.specs.ManagerState.{ManagerState};
+ghost use Rattle.comm_c.specs.contracts.held_manager.HeldManager.{the_row};
 ghost use Rattle.std.specs.Coded.{coded_option};
 
-use crate::loose::Loose;
-use crate::manager::Manager;
+use crate::held_manager::HeldManager;
+use crate::raw_box::RawBox;
 use std::alloc::Global;
 use std::marker::Model;
 use std::ptr;
@@ -14,18 +14,18 @@ use std::ptr;
 #[repr(C)]
 pub struct Handle {
     at: *mut u8,
-    pub ghost value: { Option Kept } by { coded_option the_row.coded },
+    pub ghost value: { Option ManagerState } by { coded_option the_row.coded },
 }
 
 impl Model for Handle {
-    ghost use Rattle.comm_c.specs.contracts.manager.Manager.{the_row};
+    ghost use Rattle.comm_c.specs.contracts.held_manager.HeldManager.{the_row};
     ghost use Rattle.comm_c.specs.Handle.{handle_owns};
 
     ghost also_owns = { λ s. handle_owns the_row s.at s.value };
 }
 
 impl Handle {
-    /// None.
+    /// A handle that has no manager.
     pub fn empty() -> Handle
         ensures { result.value ≡ None }
     {
@@ -34,40 +34,40 @@ impl Handle {
         }
     }
 
-    fn of_loose(loose: Loose<Manager, Global>) -> Handle
-        ensures { result.value ≡ Some loose.value }
+    fn of_raw_box(raw_box: RawBox<HeldManager, Global>) -> Handle
+        ensures { result.value ≡ Some raw_box.value }
     {
-        let Loose { at, alloc: _ } = loose;
+        let RawBox { at, alloc: _ } = raw_box;
         Handle { at: at as *mut u8 }
     }
 
-    fn into_loose(self, alloc: Global) -> Option<Loose<Manager, Global>>
+    fn into_raw_box(self, alloc: Global) -> Option<RawBox<HeldManager, Global>>
         ensures { option_map (λ l. l.value) result ≡ self.value }
     {
         let Handle { at } = self;
         if at.is_null() {
             None
         } else {
-            Some(Loose {
-                at: at as *mut Manager,
+            Some(RawBox {
+                at: at as *mut HeldManager,
                 alloc,
             })
         }
     }
 
-    /// The manager in the box.
-    pub fn of(boxed: Box<Manager>) -> Handle
+    /// A handle that has the manager in the box.
+    pub fn of(boxed: Box<HeldManager>) -> Handle
         ensures { result.value ≡ Some boxed.value }
     {
-        Handle::of_loose(Loose::of(boxed))
+        Handle::of_raw_box(RawBox::of(boxed))
     }
 
-    /// The manager, where there is one.
-    pub fn into_box(self, alloc: Global) -> Option<Box<Manager>>
+    /// The manager in its box; None where the handle has none.
+    pub fn into_box(self, alloc: Global) -> Option<Box<HeldManager>>
         ensures { option_map (λ b. b.value) result ≡ self.value }
     {
-        match self.into_loose(alloc) {
-            Some(loose) => Some(loose.into_box()),
+        match self.into_raw_box(alloc) {
+            Some(raw_box) => Some(raw_box.into_box()),
             None => None,
         }
     }

@@ -1,12 +1,13 @@
-//! What calls one after another come to.
+//! What holds of calls one after another.
 ghost use Rattle.comm_c.specs.Legal.{CallsMakeLegalHistories};
-ghost use Rattle.comm_c.specs.Since.{LinesPlayScripts};
+ghost use Rattle.comm_c.specs.Scripts.{LinesPlayScripts};
 
 use comm_core::{
     exact_machines_leave_no_choice, legal_histories_grow, replays_grow, steps_keep_machines_exact,
 };
 
-/// What a manager says to lines one after another, from its opening on, is what the script of these lines gives.
+/// What a new manager says to lines one after another is what the script of these lines gives, over any stock
+/// that has as many targets of each kind as the lines register.
 pub fn lines_play_scripts()
     ensures { LinesPlayScripts }
 {
@@ -15,8 +16,9 @@ pub fn lines_play_scripts()
     replays_grow();
 }
 
-/// From its opening on a manager holds what a legal history has left, to which each call, a line or a register, adds one change or none. So the
-/// laws that the core has of whole runs hold of it, whatever its targets answer.
+/// The changes of a manager since it was made are a legal history, to which each call, a line or a register,
+/// adds one change or none. So the laws that the core has of whole runs hold of it, whatever its targets
+/// answer.
 pub fn calls_make_legal_histories()
     ensures { CallsMakeLegalHistories }
 {

@@ -1,76 +1,65 @@
-//! The comm manager for kernels in C, and in whatever calls C; `bindings/c/comm.h` declares what is exported, and says what its caller owes.
+//! The library for C, and for whatever calls C: a comm manager behind a handle. `bindings/c/rolgunai.h`
+//! declares each exported function, and says what its caller owes.
 //!
-//! No call asks for anything by a contract, since nothing would check that C keeps it: a handle that has no manager, a buffer that is too
-//! short, a name that isn't text, all give a number. Where a call answers that memory ran out, nothing has happened.
+//! No exported function has a `requires`, since nothing would check that C keeps it: a handle that has no
+//! manager, a buffer that is too small, a name that isn't UTF-8, all give a status. After `MEMORY` nothing
+//! has changed. A target takes no memory until a comm is open, so any number of targets may be registered.
 #![tactic(auto)]
 
-mod answers;
+mod builtin_target;
+mod call_result;
 mod codes;
 mod content;
-mod desk;
-mod given;
+mod counted_core;
 mod handle;
+mod held_manager;
+mod incoming_parts;
 mod laws;
-mod left;
-mod loose;
-mod manager;
-mod part;
-mod parts;
-mod sequel;
-mod stocked;
-mod turn;
+mod line;
+mod part_bytes;
+mod parts_api;
+mod raw_box;
+mod text_api;
 
 ghost use Rattle.std.specs.Prelude.{◌≡◌, ◌≢◌, ◌⊎◌, ◌↔◌, Some, None, IsSome, IsUtf8};
 ghost use Rattle.comm_core.specs.Limits.{AreAllowed};
-ghost use Rattle.comm_c.specs.Codes.{ok, closed, memory, bad_limit, busy, short, full, bad_name, bad_kind, no_stock, bad_sizes, not_json, no_part, kind_numbered};
-ghost use Rattle.comm_c.specs.Kept.{limits_of, opened};
-ghost use Rattle.comm_c.specs.Parted.{AddUp, AreJson, frames_in, message_line};
-ghost use Rattle.comm_c.specs.Said.{FillsPart, HasAnswered, HasEntered, HasPlayed, HasShown, IsFull, IsLonger, IsOut, Tells, Waits, part_of, reply_part_of};
+ghost use Rattle.comm_c.specs.Codes.{ok, closed, memory, bad_limit, already_open, buffer_too_small};
+ghost use Rattle.comm_c.specs.Codes.{exhausted, bad_name, bad_kind, bad_sizes, not_json, no_part, kind_numbered};
+ghost use Rattle.comm_c.specs.ManagerState.{limits_of, new_manager};
+ghost use Rattle.comm_c.specs.IncomingParts.{AddUp, AreJson, split_buffers, message_line};
+ghost use Rattle.comm_c.specs.Exports.{FillsPart, FillsText, IsExhausted, IsLongerPart, IsLongerText};
+ghost use Rattle.comm_c.specs.Exports.{HasHandled, HasLastResult, HasRegisteredTarget, HasShown};
+ghost use Rattle.comm_c.specs.Exports.{reply_part_of, sent_part_of};
 
-use crate::answers::{entered, played, put, take, told};
-use crate::codes::{BAD_LIMIT, BUSY, CLOSED, MEMORY, OK};
-use crate::given::{answered, part, played_by_parts, reply_part};
+use crate::codes::{ALREADY_OPEN, BAD_LIMIT, CLOSED, MEMORY, OK};
 use crate::handle::Handle;
-use crate::left::Left;
-use crate::manager::Manager;
-use crate::parts::Parts;
+use crate::held_manager::HeldManager;
+use crate::incoming_parts::IncomingParts;
+use crate::parts_api::{copy_reply_part, copy_sent_part, play_message, write_result};
+use crate::text_api::{copy_text, play_line, put, register, take};
 pub use laws::{calls_make_legal_histories, lines_play_scripts};
 use std::alloc::Global;
 
-/// Makes a manager that has played nothing, with so many targets of each kind to register, of which so many comms may be open at a time, and puts
-/// it into a handle that has none.
+/// Makes a manager of which at most `comms` comms are open at a time (1 to 4,096), and puts it into a handle
+/// that has none. BAD_LIMIT: `comms` is out of these bounds. ALREADY_OPEN: the handle has a manager, which
+/// stays; this is tested first.
 #[unsafe(no_mangle)]
-pub extern "C" fn comm_open(
-    alloc: Global,
-    handle: &mut Handle,
-    echo: u32,
-    counter: u32,
-    widget: u32,
-    widget_echo: u32,
-    plain: u32,
-    comms: usize,
-) -> u32
-    ensures opened { result ≡ ok → handle.new.value ≡ Some (opened (record { echo = echo; counter = counter; widget = widget; widget_echo = widget_echo; plain = plain }) comms) }
+pub extern "C" fn rolgunai_new(alloc: Global, handle: &mut Handle, comms: usize) -> u32
+    ensures opened { result ≡ ok → handle.new.value ≡ Some (new_manager comms) }
     ensures same { result ≢ ok → handle.new.value ≡ handle.old.value }
-    ensures busy { result ≡ busy ↔ IsSome handle.old.value }
+    ensures already_open { result ≡ already_open ↔ IsSome handle.old.value }
     ensures limit { result ≡ bad_limit → ¬ (AreAllowed (limits_of comms)) }
     ensures allowed { (result ≡ ok) ⊎ (result ≡ memory) → AreAllowed (limits_of comms) }
-    ensures codes { (result ≡ ok) ⊎ (result ≡ memory) ⊎ (result ≡ bad_limit) ⊎ (result ≡ busy) }
+    ensures codes { (result ≡ ok) ⊎ (result ≡ memory) ⊎ (result ≡ bad_limit)
+        ⊎ (result ≡ already_open) }
 {
     match take(handle, alloc) {
         Some(held) => {
             put(handle, alloc, held);
-            BUSY
+            ALREADY_OPEN
         }
         None => {
-            let left = Left {
-                echo,
-                counter,
-                widget,
-                widget_echo,
-                plain,
-            };
-            let Ok(manager) = Manager::open(alloc, left, comms) else {
+            let Ok(manager) = HeldManager::new(alloc, comms) else {
                 return BAD_LIMIT;
             };
             match Box::new(alloc, manager) {
@@ -84,30 +73,34 @@ pub extern "C" fn comm_open(
     }
 }
 
-/// Plays a line, a message or a command, and writes what is said to it into the buffer. At SHORT the line is played, and `comm_text`
-/// gives the text; its length stands in `size`.
+/// Plays a line, a message of a frontend or a command of the kernel, and writes the lines of its answer to
+/// `out` and their length to `size`. At BUFFER_TOO_SMALL the line is played too: `size` is the length, and
+/// `rolgunai_last_text` gives the lines. At any other error `size` is 0.
 #[unsafe(no_mangle)]
-pub extern "C" fn comm_line(
+pub extern "C" fn rolgunai_handle_line(
     alloc: Global,
     handle: &mut Handle,
     line: &[u8],
     out: &mut [u8],
     size: &mut usize,
 ) -> u32
-    ensures played { (result ≡ ok) ⊎ (result ≡ short) → HasPlayed handle.old.value line.now handle.new.value }
-    ensures shown { (result ≡ ok) ⊎ (result ≡ short) → HasShown handle.new.value }
-    ensures told { result ≡ ok → Tells handle.new.value out.old out.new size.new }
-    ensures waits { result ≡ short → Waits handle.new.value out.old size.new }
+    ensures played { (result ≡ ok) ⊎ (result ≡ buffer_too_small)
+        → HasHandled handle.old.value line.now handle.new.value }
+    ensures shown { (result ≡ ok) ⊎ (result ≡ buffer_too_small) → HasShown handle.new.value }
+    ensures text { result ≡ ok → FillsText handle.new.value out.old out.new size.new }
+    ensures longer { result ≡ buffer_too_small → IsLongerText handle.new.value out.old size.new }
     ensures kept { result ≢ ok → out.new ≡ out.old }
-    ensures same { result ≢ ok → result ≢ short → handle.new.value ≡ handle.old.value }
+    ensures no_size { result ≢ ok → result ≢ buffer_too_small → size.new ≡ 0 }
+    ensures same { result ≢ ok → result ≢ buffer_too_small → handle.new.value ≡ handle.old.value }
     ensures closed { result ≡ closed ↔ (handle.old.value ≡ None) }
-    ensures full { result ≡ full → IsFull handle.old.value }
-    ensures codes { (result ≡ ok) ⊎ (result ≡ closed) ⊎ (result ≡ memory) ⊎ (result ≡ short) ⊎ (result ≡ full) }
+    ensures exhausted { result ≡ exhausted → IsExhausted handle.old.value }
+    ensures codes { (result ≡ ok) ⊎ (result ≡ closed) ⊎ (result ≡ memory)
+        ⊎ (result ≡ buffer_too_small) ⊎ (result ≡ exhausted) }
 {
     *size = 0;
     match take(handle, alloc) {
         Some(mut manager) => {
-            let status = played(&mut manager, alloc, line, out, size);
+            let status = play_line(&mut manager, alloc, line, out, size);
             put(handle, alloc, manager);
             status
         }
@@ -115,10 +108,10 @@ pub extern "C" fn comm_line(
     }
 }
 
-/// Registers a target of a kind under a name, UTF-8, as the command `register` of a line does for the first client, and writes what is said to
-/// it. The plain kind can be registered by this call alone.
+/// Registers a new target of a kind (`ROLGUNAI_WIDGET`, `_PLAIN`, `_WIDGET_ECHO`) under a name, UTF-8, for
+/// the first client. `out` and `size` as of `rolgunai_handle_line`.
 #[unsafe(no_mangle)]
-pub extern "C" fn comm_register(
+pub extern "C" fn rolgunai_register(
     alloc: Global,
     handle: &mut Handle,
     kind: u32,
@@ -126,26 +119,28 @@ pub extern "C" fn comm_register(
     out: &mut [u8],
     size: &mut usize,
 ) -> u32
-    ensures entered { (result ≡ ok) ⊎ (result ≡ short) → HasEntered handle.old.value (kind_numbered kind) name.now handle.new.value }
-    ensures shown { (result ≡ ok) ⊎ (result ≡ short) → HasShown handle.new.value }
-    ensures told { result ≡ ok → Tells handle.new.value out.old out.new size.new }
-    ensures waits { result ≡ short → Waits handle.new.value out.old size.new }
+    ensures registered { (result ≡ ok) ⊎ (result ≡ buffer_too_small)
+        → HasRegisteredTarget handle.old.value (kind_numbered kind) name.now handle.new.value }
+    ensures shown { (result ≡ ok) ⊎ (result ≡ buffer_too_small) → HasShown handle.new.value }
+    ensures text { result ≡ ok → FillsText handle.new.value out.old out.new size.new }
+    ensures longer { result ≡ buffer_too_small → IsLongerText handle.new.value out.old size.new }
     ensures kept { result ≢ ok → out.new ≡ out.old }
-    ensures same { result ≢ ok → result ≢ short → handle.new.value ≡ handle.old.value }
+    ensures no_size { result ≢ ok → result ≢ buffer_too_small → size.new ≡ 0 }
+    ensures same { result ≢ ok → result ≢ buffer_too_small → handle.new.value ≡ handle.old.value }
     ensures closed { result ≡ closed ↔ (handle.old.value ≡ None) }
-    ensures full { result ≡ full → IsFull handle.old.value }
+    ensures exhausted { result ≡ exhausted → IsExhausted handle.old.value }
     ensures kind { result ≡ bad_kind → kind_numbered kind ≡ None }
     ensures known { result ≢ closed → result ≢ bad_kind → IsSome (kind_numbered kind) }
     ensures name { result ≡ bad_name → ¬ (IsUtf8 name.now) }
     ensures utf8 { result ≢ closed → result ≢ bad_kind → result ≢ bad_name → IsUtf8 name.now }
-    ensures stock { result ≡ no_stock → IsOut handle.old.value (kind_numbered kind) }
-    ensures stocked { (result ≡ ok) ⊎ (result ≡ short) ⊎ (result ≡ memory) ⊎ (result ≡ full) → ¬ (IsOut handle.old.value (kind_numbered kind)) }
-    ensures codes { (result ≡ ok) ⊎ (result ≡ closed) ⊎ (result ≡ memory) ⊎ (result ≡ short) ⊎ (result ≡ full) ⊎ (result ≡ bad_name) ⊎ (result ≡ bad_kind) ⊎ (result ≡ no_stock) }
+    ensures codes { (result ≡ ok) ⊎ (result ≡ closed) ⊎ (result ≡ memory)
+        ⊎ (result ≡ buffer_too_small) ⊎ (result ≡ exhausted) ⊎ (result ≡ bad_name)
+        ⊎ (result ≡ bad_kind) }
 {
     *size = 0;
     match take(handle, alloc) {
         Some(mut manager) => {
-            let status = entered(&mut manager, alloc, kind, name, out, size);
+            let status = register(&mut manager, alloc, kind, name, out, size);
             put(handle, alloc, manager);
             status
         }
@@ -153,49 +148,55 @@ pub extern "C" fn comm_register(
     }
 }
 
-/// Plays a message of a client by its parts, JSON texts and frames that stand one after another with their sizes beside: it is as if the line
-/// that they make were played. Tells what it came to by a number, and how many messages it sent.
+/// Plays a message of a client by its parts: three JSON texts, and binary buffers that stand one after
+/// another with their sizes beside. It is played as the line that these parts make. `reply` gets the number
+/// of its result, and `sent` how many messages it sends; both are 0 after an error.
 #[unsafe(no_mangle)]
-pub extern "C" fn comm_message(
+pub extern "C" fn rolgunai_handle_message(
     alloc: Global,
     handle: &mut Handle,
     client: u32,
     header: &[u8],
     metadata: &[u8],
     content: &[u8],
-    frames: &[u8],
+    buffers: &[u8],
     sizes: &[usize],
     reply: &mut u32,
     sent: &mut usize,
 ) -> u32
-    ensures played { result ≡ ok → HasPlayed handle.old.value (message_line client header.now metadata.now content.now (frames_in frames.now sizes.now)) handle.new.value }
+    ensures played { result ≡ ok → HasHandled handle.old.value
+        (message_line client header.now metadata.now content.now
+        (split_buffers buffers.now sizes.now))
+        handle.new.value }
     ensures shown { result ≡ ok → HasShown handle.new.value }
-    ensures answered { result ≡ ok → HasAnswered handle.new.value reply.new sent.new }
-    ensures sizes { result ≢ closed → result ≢ bad_sizes → AddUp sizes.now frames.now }
-    ensures json { (result ≡ ok) ⊎ (result ≡ full) → AreJson header.now metadata.now content.now }
+    ensures result_is { result ≡ ok → HasLastResult handle.new.value reply.new sent.new }
+    ensures sizes { result ≢ closed → result ≢ bad_sizes → AddUp sizes.now buffers.now }
+    ensures json { (result ≡ ok) ⊎ (result ≡ exhausted)
+        → AreJson header.now metadata.now content.now }
     ensures same { result ≢ ok → handle.new.value ≡ handle.old.value }
     ensures nothing { result ≢ ok → (reply.new ≡ 0) × (sent.new ≡ 0) }
     ensures closed { result ≡ closed ↔ (handle.old.value ≡ None) }
-    ensures full { result ≡ full → IsFull handle.old.value }
-    ensures bad_sizes { result ≡ bad_sizes → ¬ (AddUp sizes.now frames.now) }
+    ensures exhausted { result ≡ exhausted → IsExhausted handle.old.value }
+    ensures bad_sizes { result ≡ bad_sizes → ¬ (AddUp sizes.now buffers.now) }
     ensures not_json { result ≡ not_json → ¬ (AreJson header.now metadata.now content.now) }
-    ensures codes { (result ≡ ok) ⊎ (result ≡ closed) ⊎ (result ≡ memory) ⊎ (result ≡ full) ⊎ (result ≡ bad_sizes) ⊎ (result ≡ not_json) }
+    ensures codes { (result ≡ ok) ⊎ (result ≡ closed) ⊎ (result ≡ memory) ⊎ (result ≡ exhausted)
+        ⊎ (result ≡ bad_sizes) ⊎ (result ≡ not_json) }
 {
     *reply = 0;
     *sent = 0;
     match take(handle, alloc) {
         Some(mut manager) => {
-            let parts = Parts {
+            let parts = IncomingParts {
                 client,
                 header,
                 metadata,
                 content,
-                frames,
+                buffers,
                 sizes,
             };
-            let status = played_by_parts(&mut manager, alloc, &parts);
+            let status = play_message(&mut manager, alloc, &parts);
             if status == OK {
-                answered(&manager, reply, sent);
+                write_result(&manager, reply, sent);
             }
             put(handle, alloc, manager);
             status
@@ -204,15 +205,16 @@ pub extern "C" fn comm_message(
     }
 }
 
-/// Tells what the last call came to by a number, and how many messages it sent.
+/// Writes the number of the last call's result to `reply`, and to `sent` how many messages that call sends; 0
+/// where the handle has no manager.
 #[unsafe(no_mangle)]
-pub extern "C" fn comm_answer(
+pub extern "C" fn rolgunai_last_result(
     alloc: Global,
     handle: &mut Handle,
     reply: &mut u32,
     sent: &mut usize,
 ) -> u32
-    ensures answered { result ≡ ok → HasAnswered handle.new.value reply.new sent.new }
+    ensures result_is { result ≡ ok → HasLastResult handle.new.value reply.new sent.new }
     ensures same { handle.new.value ≡ handle.old.value }
     ensures closed { result ≡ closed ↔ (handle.old.value ≡ None) }
     ensures codes { (result ≡ ok) ⊎ (result ≡ closed) }
@@ -221,7 +223,7 @@ pub extern "C" fn comm_answer(
     *sent = 0;
     match take(handle, alloc) {
         Some(manager) => {
-            answered(&manager, reply, sent);
+            write_result(&manager, reply, sent);
             put(handle, alloc, manager);
             OK
         }
@@ -229,9 +231,11 @@ pub extern "C" fn comm_answer(
     }
 }
 
-/// Writes a part of a message that the last call sent into the buffer. Its length stands in `size`, at SHORT too.
+/// Writes a part of a message that the last call sends to `out`, and its length to `size`. BUFFER_TOO_SMALL:
+/// `size` is the length, and `out` stays. NO_PART: there is no message of this number, or it has no part of
+/// this number. `size` is 0 after any other error.
 #[unsafe(no_mangle)]
-pub extern "C" fn comm_part(
+pub extern "C" fn rolgunai_sent_part(
     alloc: Global,
     handle: &mut Handle,
     message: usize,
@@ -239,18 +243,22 @@ pub extern "C" fn comm_part(
     out: &mut [u8],
     size: &mut usize,
 ) -> u32
-    ensures told { result ≡ ok → FillsPart (part_of handle.old.value message number) out.old out.new size.new }
-    ensures waits { result ≡ short → IsLonger (part_of handle.old.value message number) out.old size.new }
-    ensures none { result ≡ no_part → part_of handle.old.value message number ≡ None }
+    ensures part { result ≡ ok
+        → FillsPart (sent_part_of handle.old.value message number) out.old out.new size.new }
+    ensures longer { result ≡ buffer_too_small
+        → IsLongerPart (sent_part_of handle.old.value message number) out.old size.new }
+    ensures none { result ≡ no_part → sent_part_of handle.old.value message number ≡ None }
     ensures kept { result ≢ ok → out.new ≡ out.old }
+    ensures no_size { result ≢ ok → result ≢ buffer_too_small → size.new ≡ 0 }
     ensures same { handle.new.value ≡ handle.old.value }
     ensures closed { result ≡ closed ↔ (handle.old.value ≡ None) }
-    ensures codes { (result ≡ ok) ⊎ (result ≡ closed) ⊎ (result ≡ memory) ⊎ (result ≡ short) ⊎ (result ≡ no_part) }
+    ensures codes { (result ≡ ok) ⊎ (result ≡ closed) ⊎ (result ≡ memory)
+        ⊎ (result ≡ buffer_too_small) ⊎ (result ≡ no_part) }
 {
     *size = 0;
     match take(handle, alloc) {
         Some(manager) => {
-            let status = part(&manager, alloc, message, number, out, size);
+            let status = copy_sent_part(&manager, alloc, message, number, out, size);
             put(handle, alloc, manager);
             status
         }
@@ -258,27 +266,32 @@ pub extern "C" fn comm_part(
     }
 }
 
-/// Writes a part of the reply to the last call into the buffer. Its length stands in `size`, at SHORT too.
+/// Writes a part of the reply to the last call to `out`, and its length to `size`. Errors, and `size` after
+/// them, as of `rolgunai_sent_part`.
 #[unsafe(no_mangle)]
-pub extern "C" fn comm_reply_part(
+pub extern "C" fn rolgunai_reply_part(
     alloc: Global,
     handle: &mut Handle,
     number: usize,
     out: &mut [u8],
     size: &mut usize,
 ) -> u32
-    ensures told { result ≡ ok → FillsPart (reply_part_of handle.old.value number) out.old out.new size.new }
-    ensures waits { result ≡ short → IsLonger (reply_part_of handle.old.value number) out.old size.new }
+    ensures part { result ≡ ok
+        → FillsPart (reply_part_of handle.old.value number) out.old out.new size.new }
+    ensures longer { result ≡ buffer_too_small
+        → IsLongerPart (reply_part_of handle.old.value number) out.old size.new }
     ensures none { result ≡ no_part → reply_part_of handle.old.value number ≡ None }
     ensures kept { result ≢ ok → out.new ≡ out.old }
+    ensures no_size { result ≢ ok → result ≢ buffer_too_small → size.new ≡ 0 }
     ensures same { handle.new.value ≡ handle.old.value }
     ensures closed { result ≡ closed ↔ (handle.old.value ≡ None) }
-    ensures codes { (result ≡ ok) ⊎ (result ≡ closed) ⊎ (result ≡ memory) ⊎ (result ≡ short) ⊎ (result ≡ no_part) }
+    ensures codes { (result ≡ ok) ⊎ (result ≡ closed) ⊎ (result ≡ memory)
+        ⊎ (result ≡ buffer_too_small) ⊎ (result ≡ no_part) }
 {
     *size = 0;
     match take(handle, alloc) {
         Some(manager) => {
-            let status = reply_part(&manager, alloc, number, out, size);
+            let status = copy_reply_part(&manager, alloc, number, out, size);
             put(handle, alloc, manager);
             status
         }
@@ -286,25 +299,27 @@ pub extern "C" fn comm_reply_part(
     }
 }
 
-/// Writes what was said to the last call into the buffer, once more.
+/// Writes the lines of the last call's answer to `out`, and their length to `size`: at BUFFER_TOO_SMALL the
+/// length alone, and 0 where the handle has no manager.
 #[unsafe(no_mangle)]
-pub extern "C" fn comm_text(
+pub extern "C" fn rolgunai_last_text(
     alloc: Global,
     handle: &mut Handle,
     out: &mut [u8],
     size: &mut usize,
 ) -> u32
-    ensures told { result ≡ ok → Tells handle.new.value out.old out.new size.new }
-    ensures waits { result ≡ short → Waits handle.new.value out.old size.new }
+    ensures text { result ≡ ok → FillsText handle.new.value out.old out.new size.new }
+    ensures longer { result ≡ buffer_too_small → IsLongerText handle.new.value out.old size.new }
     ensures kept { result ≢ ok → out.new ≡ out.old }
+    ensures no_size { result ≢ ok → result ≢ buffer_too_small → size.new ≡ 0 }
     ensures same { handle.new.value ≡ handle.old.value }
     ensures closed { result ≡ closed ↔ (handle.old.value ≡ None) }
-    ensures codes { (result ≡ ok) ⊎ (result ≡ closed) ⊎ (result ≡ short) }
+    ensures codes { (result ≡ ok) ⊎ (result ≡ closed) ⊎ (result ≡ buffer_too_small) }
 {
     *size = 0;
     match take(handle, alloc) {
         Some(manager) => {
-            let status = told(&manager, out, size);
+            let status = copy_text(&manager, out, size);
             put(handle, alloc, manager);
             status
         }
@@ -312,9 +327,10 @@ pub extern "C" fn comm_text(
     }
 }
 
-/// Ends the manager: it closes the comms, then ends the targets, then frees everything. Afterwards the handle has none.
+/// Frees the manager: closes its comms, then stops its targets, then frees all memory. Afterwards the handle
+/// has none, and `rolgunai_new` may give it another.
 #[unsafe(no_mangle)]
-pub extern "C" fn comm_end(alloc: Global, handle: &mut Handle) -> u32
+pub extern "C" fn rolgunai_free(alloc: Global, handle: &mut Handle) -> u32
     ensures none { handle.new.value ≡ None }
     ensures closed { result ≡ closed ↔ (handle.old.value ≡ None) }
     ensures codes { (result ≡ ok) ⊎ (result ≡ closed) }

@@ -1,4 +1,4 @@
-use Rattle.comm_c.proofs.Turning.{scripts}
+use Rattle.comm_c.proofs.ScriptLines.{scripts}
 use Rattle.comm_c.proofs.laws.lines_play_scripts.Goals as goal
 
 pub returns : goal.returns

@@ -18,7 +18,7 @@ use Rattle.std.specs.declared.option.Option.{Option}
 use Rattle.std.specs.declared.option.Option.TheVariants.{None}
 use Rattle.std.proofs.raw_atomic.Walks.{proved_at, leaves}
 use Rattle.comm_c.proofs.Handles.{word, handle_in}
-use Rattle.comm_c.specs.Kept.{Kept}
+use Rattle.comm_c.specs.ManagerState.{ManagerState}
 use Rattle.comm_c.specs.contracts.handle.Handle.empty.{ended, clauses}
 use Rattle.comm_c.specs.contracts.handle.Handle.empty.Key.{name as #self}
 use Rattle.comm_c.proofs.handle.Handle.empty.Statement.{statement}
@@ -30,7 +30,7 @@ empty_spec 𝓤 𝓛 𝓜 𝓡 wired =
     let hs : Stays ended.signature.params ended.kept = tt in
     proved_at 𝓛 ended hs c 𝓜 𝓡 tt #self fn (code.unfolded 𝓤 H 𝓜 𝓡 wired) (λ z are.
     let κs = z.0.0 in let Post : Val → SProp 𝓤 = (walk_of 𝓛 ended hs c).post z in
-    let e : Option Kept = None in
+    let e : Option ManagerState = None in
     qed 𝓛 ((‵ ftrue ⊛ ‵ (owns (types_at ended.signature.params κs) z.0.3 z.0.4)) ∷ raw ((c κs z.0.3).requires z.1) ∷ []) ∵ split ! $ drop ! $ drop ! $ drop ! $
     enter ! 𝓣.C 𝓣.Λ fn [] Post $ alloc_all ! (λ l. pass_all ! refl tt $
     sets ! (agg ! (and_then ! (lit ! tt) (no_more !))) refl (tt, (record { fits = lit< tt }, tt)) $

@@ -1,0 +1,6 @@
+use denote.Param.Send.{sendable}
+use Rattle.comm_c.proofs.Crossing.{builtin_target_send}
+use Rattle.comm_c.proofs.counted_core.CountedCore.state.Goals as goal
+
+pub state-requires-send-T : goal.state-requires-send-T
+state-requires-send-T c κs = search (sendable, builtin_target_send) depth 40

@@ -1,6 +1,0 @@
-use denote.Param.Send.{sendable}
-use Rattle.comm_c.proofs.Crossing.{stocked_send}
-use Rattle.comm_c.proofs.manager.Manager.drop.Goals as goal
-
-pub stop_all-requires-send-T : goal.stop_all-requires-send-T
-stop_all-requires-send-T c κs = search (sendable, stocked_send) depth 40

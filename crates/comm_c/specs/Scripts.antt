@@ -1,0 +1,96 @@
+-- The lines that a manager has played since it was made, and what it said to them: a script, and what
+-- `played` gives for it.
+use Rattle.std.specs.Prelude.{◌≡◌, ℕ, ◌+◌, ◌≤◌, List, [], ◌∷◌, ◌++◌, map, replicate, Bool, true, false}
+use Rattle.std.specs.Prelude.{Ok, Err, if◌then◌else◌}
+use Rattle.comm_targets.specs.declared.kind.Kind.{Kind}
+use Rattle.comm_core.specs.Machine.{Registered}
+use Rattle.comm_script.specs.Command.{asked}
+use Rattle.comm_script.specs.Line.{Reading}
+use Rattle.comm_script.specs.Lines.{is_blank, lines_of}
+use Rattle.comm_script.specs.Played.{played}
+use Rattle.comm_script.specs.Stock.{has_kind}
+use Rattle.comm_script.specs.declared.asked.Request.{Request}
+use Rattle.comm_script.specs.declared.asked.Request.TheVariants.{Change, Register, Infos, State}
+use Rattle.comm_script.specs.declared.stock.StockKind.{StockKind}
+use Rattle.comm_script.specs.declared.stock.StockKind.TheVariants.{Echo, Counter, Widget, WidgetEcho}
+use Rattle.comm_c.specs.ManagerState.{ManagerState, Plays, limits_of, new_manager}
+use Rattle.comm_c.specs.PlaysLine.{target_kind}
+
+-- a line, and the manager once it has played it
+abbrev pub PlayedLine : Type 0
+PlayedLine = List ℕ × ManagerState
+
+-- it plays these lines, one after the other
+abbrev pub Runs : ManagerState → List PlayedLine → Type 0
+Runs k [] = Unit {0}
+Runs k (p ∷ ps) = Plays k p.0 p.1 × Runs p.1 ps
+
+abbrev pub lines_in : List PlayedLine → List (List ℕ)
+lines_in ps = map (λ p. p.0) ps
+
+-- what it says to them in all
+abbrev pub said_in : List PlayedLine → List ℕ
+said_in [] = []
+said_in (p ∷ ps) = p.1.text ++ said_in ps
+
+-- ---- the targets that the lines register
+
+abbrev pub one_if : Bool → ℕ
+one_if true = 1
+one_if false = 0
+
+abbrev pub registered_by_request : StockKind → Request → ℕ
+registered_by_request w (Change call) = 0
+registered_by_request w (Register kind name) = one_if (has_kind w (target_kind kind))
+registered_by_request w (Infos target) = 0
+registered_by_request w (State id) = 0
+
+abbrev pub registered_by_reading : StockKind → Reading (ℕ × Request) → ℕ
+registered_by_reading w (Ok m) = registered_by_request w m.1
+registered_by_reading w (Err fault) = 0
+
+-- how many targets of the kind these lines register
+abbrev pub registered_by : StockKind → List (List ℕ) → ℕ
+registered_by w [] = 0
+registered_by w (line ∷ lines) =
+    (if is_blank line then 0 else registered_by_reading w (asked 4 line)) + registered_by w lines
+
+-- ---- stocks for scripts
+
+-- a target that no message has come to
+abbrev pub fresh : Kind → Registered
+fresh kind = record { kind = kind; notes = 0 }
+
+-- just so many new targets of each kind
+abbrev pub stock_of : (StockKind → ℕ) → List Registered
+stock_of wanted =
+    replicate (wanted Echo) (fresh (target_kind Echo)) ++ (replicate (wanted Counter) (fresh (target_kind Counter))
+    ++ (replicate (wanted Widget) (fresh (target_kind Widget))
+    ++ replicate (wanted WidgetEcho) (fresh (target_kind WidgetEcho))))
+
+-- how many targets of the kind there are
+abbrev pub count_in : StockKind → List Registered → ℕ
+count_in w [] = 0
+count_in w (r ∷ rs) = one_if (has_kind w r.kind) + count_in w rs
+
+abbrev pub AreFresh : List Registered → Type 0
+AreFresh [] = Unit {0}
+AreFresh (r ∷ rs) = (r.notes ≡ 0) × AreFresh rs
+
+-- new targets, of each kind at least so many
+pub record HasEnough (stock : List Registered) (wanted : StockKind → ℕ) : Type 0 where
+  pub are_fresh : AreFresh stock
+  pub enough : (w : StockKind) → wanted w ≤ count_in w stock
+
+-- ---- the law
+
+-- The lines that were played since the manager was made are a script's, and what was said is what that script
+-- gives: over a stock of just as many new targets of each kind as they register, and over any stock that has
+-- at least as many.
+pub record LinesPlayScripts : Type 0 where
+  pub exact : (comms : ℕ) (ps : List PlayedLine) (input : List ℕ) → Runs (new_manager comms) ps
+      → lines_of input ≡ lines_in ps
+      → said_in ps ≡ played (limits_of comms) (stock_of (λ w. registered_by w (lines_in ps))) input
+  pub at_least : (comms : ℕ) (ps : List PlayedLine) (input : List ℕ) (stock : List Registered)
+      → Runs (new_manager comms) ps → lines_of input ≡ lines_in ps → HasEnough stock (λ w. registered_by w (lines_in ps))
+      → said_in ps ≡ played (limits_of comms) stock input
