@@ -1,7 +1,7 @@
 -- What a call from C answers: a number with a name. `comm.h` has the same.
 use Rattle.std.specs.Prelude.{ℕ, ◌==◌, Option, Some, None, if◌then◌else◌}
 use Rattle.comm_targets.specs.declared.kind.Kind.{Kind}
-use Rattle.comm_targets.specs.declared.kind.Kind.TheVariants.{Echo, Counter, Widget, WidgetEcho, Free}
+use Rattle.comm_targets.specs.declared.kind.Kind.TheVariants.{Echo, Counter, Widget, WidgetEcho, Plain}
 
 -- all went well
 abbrev pub ok : ℕ
@@ -61,6 +61,6 @@ kind_numbered n =
     if n == 0 then Some Echo
     else if n == 1 then Some Counter
     else if n == 2 then Some Widget
-    else if n == 3 then Some Free
+    else if n == 3 then Some Plain
     else if n == 4 then Some WidgetEcho
     else None

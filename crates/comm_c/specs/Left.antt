@@ -1,7 +1,7 @@
--- How many targets of each kind are left to register.
+-- How many targets of each kind are left to register; of Free none, since its targets are the caller's own.
 use Rattle.std.specs.Prelude.{ℕ, ◌-◌}
 use Rattle.comm_targets.specs.declared.kind.Kind.{Kind}
-use Rattle.comm_targets.specs.declared.kind.Kind.TheVariants.{Echo, Counter, Widget, WidgetEcho, Free}
+use Rattle.comm_targets.specs.declared.kind.Kind.TheVariants.{Echo, Counter, Widget, WidgetEcho, Plain, Free}
 use Rattle.comm_core.specs.declared.call.Call.{Call}
 use Rattle.comm_core.specs.declared.call.Call.TheVariants.{Register}
 use Rattle.comm_script.specs.declared.stock.StockKind.{StockKind}
@@ -13,7 +13,8 @@ left_of Echo l = l.echo
 left_of Counter l = l.counter
 left_of Widget l = l.widget
 left_of WidgetEcho l = l.widget_echo
-left_of Free l = l.plain
+left_of Plain l = l.plain
+left_of Free l = 0
 
 -- one of the kind is gone
 abbrev pub without_one : Kind → Left → Left
@@ -21,7 +22,8 @@ without_one Echo l = record { echo = l.echo - 1; counter = l.counter; widget = l
 without_one Counter l = record { echo = l.echo; counter = l.counter - 1; widget = l.widget; widget_echo = l.widget_echo; plain = l.plain }
 without_one Widget l = record { echo = l.echo; counter = l.counter; widget = l.widget - 1; widget_echo = l.widget_echo; plain = l.plain }
 without_one WidgetEcho l = record { echo = l.echo; counter = l.counter; widget = l.widget; widget_echo = l.widget_echo - 1; plain = l.plain }
-without_one Free l = record { echo = l.echo; counter = l.counter; widget = l.widget; widget_echo = l.widget_echo; plain = l.plain - 1 }
+without_one Plain l = record { echo = l.echo; counter = l.counter; widget = l.widget; widget_echo = l.widget_echo; plain = l.plain - 1 }
+without_one Free l = l
 
 -- the kind that a line asks for
 abbrev pub kind_of : StockKind → Kind

@@ -2,7 +2,7 @@
 use Rattle.comm_targets.specs.Meaning.{Meaning}
 use Rattle.comm_targets.specs.contracts.counter.CounterTarget.TheImpl as counter
 use Rattle.comm_targets.specs.contracts.echo.EchoTarget.TheImpl as echo
-use Rattle.plain_target.specs.contracts.plain.PlainTargetTarget.TheImpl as plain
+use Rattle.comm_targets.specs.contracts.plain.PlainTargetTarget.TheImpl as plain
 use Rattle.widget_target.specs.contracts.widget.WidgetTargetTarget.TheImpl as widget
 use Rattle.comm_c.specs.declared.stocked.Stocked.{Stocked}
 use Rattle.comm_c.specs.declared.stocked.Stocked.TheVariants.{Echo, Counter, Widget, Plain}

@@ -54,7 +54,7 @@ pub fn kind_numbered(number: u32) -> Option<Kind>
     } else if number == 2 {
         Some(Kind::Widget)
     } else if number == 3 {
-        Some(Kind::Free)
+        Some(Kind::Plain)
     } else if number == 4 {
         Some(Kind::WidgetEcho)
     } else {

@@ -156,7 +156,7 @@ impl Desk {
         ensures settled { self.new.core.settled ≡ true }
         ensures same { OnErr result (self.new ≡ self.old) }
     {
-        let target = Stocked::new(alloc, kind);
+        let target = Stocked::new(alloc, kind, &self.left);
         match self.core.begin_register(name, target) {
             Ok(ready) => {
                 let made = self.conclude(alloc, client, ready, text)?;

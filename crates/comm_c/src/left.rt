@@ -25,7 +25,8 @@ impl Left {
             Kind::Counter => self.counter,
             Kind::Widget => self.widget,
             Kind::WidgetEcho => self.widget_echo,
-            Kind::Free => self.plain,
+            Kind::Plain => self.plain,
+            Kind::Free => 0,
         }
     }
 
@@ -39,7 +40,8 @@ impl Left {
             Kind::Counter => self.counter -= 1,
             Kind::Widget => self.widget -= 1,
             Kind::WidgetEcho => self.widget_echo -= 1,
-            Kind::Free => self.plain -= 1,
+            Kind::Plain => self.plain -= 1,
+            Kind::Free => unreachable!(),
         }
     }
 }

@@ -1,10 +1,11 @@
 //! A target of the stock, without a box: what C holds can't have a `dyn` in it.
-ghost use Rattle.std.specs.Prelude.{◌≡◌, [], None};
+ghost use Rattle.std.specs.Prelude.{◌≡◌, ◌<◌, [], None};
+ghost use Rattle.comm_c.specs.Left.{left_of};
 ghost use Rattle.comm_c.specs.Stocked.{means_of};
 
-use comm_targets::{Answer, Counter, Echo, Event, Kind, Target, TargetFault};
+use crate::left::Left;
+use comm_targets::{Answer, Counter, Echo, Event, Kind, PlainTarget, Target, TargetFault};
 use comm_value::Dict;
-use plain_target::PlainTarget;
 use std::alloc::Global;
 use widget_target::WidgetTarget;
 
@@ -18,8 +19,9 @@ pub enum Stocked {
 }
 
 impl Stocked {
-    /// A target of this kind, with no comm; the free one is plain. It takes no memory.
-    pub fn new(alloc: Global, kind: Kind) -> Stocked
+    /// A target of a kind of which one is left, with no comm. It takes no memory.
+    pub fn new(alloc: Global, kind: Kind, left: &Left) -> Stocked
+        requires { 0 < left_of kind left.now }
         ensures { means_of result ≡ record { kind = kind; notes = 0; ids = []; staged = None } }
     {
         match kind {
@@ -27,7 +29,8 @@ impl Stocked {
             Kind::Counter => Stocked::Counter(Counter::new(alloc)),
             Kind::Widget => Stocked::Widget(WidgetTarget::new(alloc)),
             Kind::WidgetEcho => Stocked::Widget(WidgetTarget::with_echo(alloc)),
-            Kind::Free => Stocked::Plain(PlainTarget::new(alloc)),
+            Kind::Plain => Stocked::Plain(PlainTarget::new(alloc)),
+            Kind::Free => unreachable!(),
         }
     }
 }

@@ -17,8 +17,8 @@ use crate::journal::Journal;
 use crate::ledger::{Books, Ticket};
 use crate::manager_id::ManagerId;
 use comm_core::{
-    Begun, Call, Core, Entry, Finished, Limits, Unavailable, legal_histories_grow, replays_grow,
-    rows_are_what_entries_change,
+    Call, Core, Entry, Finished, Limits, PreparedChange, Unavailable, legal_histories_grow,
+    replays_grow, rows_are_what_entries_change,
 };
 use comm_outbox::Outbox;
 use comm_targets::{Held, Target};
@@ -37,7 +37,7 @@ pub struct Made<M: ManagerId, T: Target> {
 fn grow<M: ManagerId, T: Target>(
     alloc: Global,
     call: Call,
-    begun: &Begun<T>,
+    begun: &PreparedChange<T>,
     writer: &mut VersionWriter<M>,
     ticket: &Ticket<M>,
 ) -> Result<(Arc<Entry, Global>, Arc<Entry, Global>), AllocError>
@@ -233,7 +233,7 @@ pub fn ask<M: ManagerId, T: Target, R: Wait>(
         drop(call);
         return Err(Unavailable::Memory);
     };
-    let Ok(begun) = core.begin_spent(call) else {
+    let Ok(begun) = core.prepare(call) else {
         drop(copy);
         return Err(Unavailable::Memory);
     };
@@ -243,7 +243,7 @@ pub fn ask<M: ManagerId, T: Target, R: Wait>(
                 reply,
                 outgoing: _outgoing,
                 ended,
-            } = core.finish_begun(begun);
+            } = core.commit(begun);
             let (number, stamp) = announce(
                 rt, journal, writer, outbox, books, reader, ticket, kept, sent,
             );
@@ -257,7 +257,7 @@ pub fn ask<M: ManagerId, T: Target, R: Wait>(
             })
         }
         Err(_) => {
-            let _none = core.withdraw_begun(begun);
+            let _none = core.abort(begun);
             Err(Unavailable::Memory)
         }
     }
@@ -311,7 +311,7 @@ pub fn register<M: ManagerId, T: Target, R: Wait>(
                 reply,
                 outgoing: _outgoing,
                 ended,
-            } = core.finish_begun(begun);
+            } = core.commit(begun);
             let (number, stamp) = announce(
                 rt, journal, writer, outbox, books, reader, ticket, kept, sent,
             );
@@ -324,7 +324,7 @@ pub fn register<M: ManagerId, T: Target, R: Wait>(
                 ended,
             })
         }
-        Err(_) => match core.withdraw_begun(begun) {
+        Err(_) => match core.abort(begun) {
             Some(boxed) => Err((Unavailable::Memory, boxed)),
             None => unreachable!(),
         },

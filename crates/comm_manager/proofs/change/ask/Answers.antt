@@ -18,9 +18,9 @@ grow-requires-clause-number g c κs within =
 pub grow-requires-clause-legal : goal.grow-requires-clause-legal
 grow-requires-clause-legal g c κs within =
     let m = c.admit.new in
-    let b = c.in-Ok-begin_spent.ensures in
+    let b = c.in-Ok-prepare.ensures in
     let a = admitted g.M.History.limits c.args.journal.now.all m.journal.all c.args.core.now c.args.writer.now c.args.books.now m.books c.args.ticket.now m.ticket c.admit.ensures.history c.admit.ensures.same c.requires.kept c.in_default.ensures.known c.requires.below in
-    may_follow g.M.History.limits m.journal.all c.args.core.now c.begin_spent.new.self c.args.writer.now m.books m.ticket.client m.ticket.number c.in-Ok-begin_spent.begun a.0 a.1 a.2 b.ready b.machine c.begin_spent.ensures.limit
+    may_follow g.M.History.limits m.journal.all c.args.core.now c.prepare.new.self c.args.writer.now m.books m.ticket.client m.ticket.number c.in-Ok-prepare.begun a.0 a.1 a.2 b.ready b.machine c.prepare.ensures.limit
     c.legal_histories_grow.ensures a.3
 
 pub announce-number-requires-clause-number : goal.announce-number-requires-clause-number
@@ -34,14 +34,14 @@ announce-number-requires-clause-number g c =
 pub returns-in-Ok-grow-clause-kept : goal.returns-in-Ok-grow-clause-kept
 returns-in-Ok-grow-clause-kept g c =
     let m = c.admit.new in
-    let b = c.in-Ok-begin_spent.ensures in
-    let f = c.finish_begun-reply in
+    let b = c.in-Ok-prepare.ensures in
+    let f = c.commit-reply in
     let n = c.announce-number in
     let a = admitted g.M.History.limits c.args.journal.now.all m.journal.all c.args.core.now c.args.writer.now c.args.books.now m.books c.args.ticket.now m.ticket c.admit.ensures.history c.admit.ensures.same c.requires.kept c.in_default.ensures.known c.requires.below in
     let room = subst (λ (l : List Entry). length l < g.M.History.limits.history) (sym c.admit.ensures.history) c.in_default.ensures.room.2 in
     let done = f.ensures.step ∙ ap (λ (x : Reply × List Outgoing). Some (record { reply = x.0; outgoing = x.1; next = machine f.new.self })) (λ i. (f.ensures.reply i, f.ensures.outgoing i)) in
     let his = n.ensures.history ∙ ap (λ (e : Entry). m.journal.all ++ e ∷ []) c.in-Ok-grow.ensures.kept in
-    kept_after g.M.History.limits m.journal.all c.args.core.now c.begin_spent.new.self c.args.writer.now m.books m.ticket.client m.ticket.number c.in-Ok-begin_spent.begun a.0 a.1 a.2 b.ready b.machine c.begin_spent.ensures.limit
+    kept_after g.M.History.limits m.journal.all c.args.core.now c.prepare.new.self c.args.writer.now m.books m.ticket.client m.ticket.number c.in-Ok-prepare.begun a.0 a.1 a.2 b.ready b.machine c.prepare.ensures.limit
     n.new.journal.all f.new.self n.new.writer n.new.books c.legal_histories_grow.ensures c.replays_grow.ensures a.3 room done f.ensures.settled f.ensures.limit his n.ensures.front.0 n.ensures.front.1 n.ensures.books
 
 pub returns-in-Ok-grow-clause-ticket : goal.returns-in-Ok-grow-clause-ticket
