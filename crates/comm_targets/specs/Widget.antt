@@ -1,6 +1,6 @@
 -- What a widget answers ('Jupyter widgets messaging protocol' 2.1.0). One that echoes repeats to the frontends what a
 -- frontend's update brought.
-use Rattle.std.specs.Prelude.{ℕ, List, [], ◌∷◌, Bool, true, false, ◌==◌, if◌then◌else◌, Option, None, Some}
+use Rattle.std.specs.Prelude.{ℕ, List, [], ◌∷◌, Bool, ◌==◌, if◌then◌else◌, Option, None, Some}
 use Rattle.std.specs.Prelude.{unwrap_or, Result, Ok, Err, codes}
 use Rattle.std.specs.Result.{result_map_both}
 use Rattle.std.specs.List.{before_first}
