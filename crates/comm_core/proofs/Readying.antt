@@ -1,5 +1,5 @@
 -- From what came of a call to what stands ready, and back to the state before it.
-use Rattle.std.proofs.Common.{◌≡◌, ◌<◌, ℕ, Bool, true, false, cond, List, [], Option, None, Some, option_map, refl, ap, sym, ◌∙◌, subst, true≢false}
+use Rattle.std.proofs.Common.{◌≡◌, ◌<◌, ℕ, Bool, true, false, cond, List, Option, None, Some, option_map, refl, ap, sym, ◌∙◌, subst, true≢false}
 use Rattle.comm_messages.specs.declared.outgoing.Outgoing.{Outgoing}
 use Rattle.comm_targets.specs.Meaning.{Meaning, IsIdle}
 use Rattle.comm_targets.specs.declared.kind.Kind.{Kind}

@@ -1,5 +1,5 @@
 -- A manager between its calls, and what stands ready between `prepare` and `commit`.
-use Rattle.std.specs.Prelude.{◌≡◌, ℕ, Bool, true, false, List, Option, None, Some}
+use Rattle.std.specs.Prelude.{◌≡◌, ℕ, Bool, true, false, List, Option, Some}
 use Rattle.comm_messages.specs.declared.outgoing.Outgoing.{Outgoing}
 use Rattle.comm_targets.specs.Meaning.{Meaning}
 use Rattle.comm_core.specs.Machine.{Name, Machine}

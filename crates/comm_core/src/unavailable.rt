@@ -32,4 +32,4 @@ impl<S> fmt::Debug for Unavailable<S> {
     }
 }
 
-impl<S> Error for Unavailable<S> {}
+impl<S: Drop> Error for Unavailable<S> {}

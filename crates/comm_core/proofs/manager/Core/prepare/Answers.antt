@@ -1,4 +1,4 @@
-use Rattle.std.proofs.Common.{ap, ◌∙◌, refl}
+use Rattle.std.proofs.Common.{ap, ◌∙◌}
 use Rattle.comm_core.specs.Ready.{CoreValue}
 use Rattle.comm_core.proofs.Readying.{sound-settled, call_ready, ready_allowed, ready_staged, ready_step, came_machine, undone_is}
 use Rattle.comm_core.proofs.manager.Core.prepare.Goals as goal
