@@ -14,20 +14,19 @@ use Rattle.std.proofs.Crossing.{crosses, frees}
 use Rattle.std.specs.declared.option.Option.{Option}
 use Rattle.std.specs.declared.option.Option.TheVariants.{None, Some}
 use Rattle.std_alloc.proofs.SendSync.{quiet, lies}
-use Rattle.comm_core.proofs.boxes.Boxes.TheSendSync as Boxes
+use Rattle.comm_core.proofs.target_table.TargetTable.TheSendSync as Boxes
 use Rattle.comm_core.proofs.Crossing.{dict_send, outgoings_send, reply_field_send, values}
 use Rattle.comm_core.specs.contracts.manager.Core as core
 use Rattle.comm_core.specs.contracts.comms.Comms as comms
 use Rattle.comm_core.specs.contracts.comm.Comm as comm
 use Rattle.comm_messages.proofs.infos.Infos.TheSendSync as Infos
 use Rattle.ordered_table.proofs.table.Table.TheSendSync as Table
-use Rattle.comm_targets.proofs.Sends.{echo_sends, counter_sends}
+use Rattle.comm_targets.proofs.Sends.{echo_sends, counter_sends, plain_sends}
 use Rattle.comm_targets.specs.contracts.counter.Counter as counter
 use Rattle.comm_targets.specs.contracts.echo.Echo as echo
+use Rattle.comm_targets.specs.contracts.plain.PlainTarget as plain
 use Rattle.comm_targets.specs.declared.target.Target as target
 use Rattle.comm_value.proofs.text.Text.TheSendSync as Text
-use Rattle.plain_target.proofs.Sends.{plain_sends}
-use Rattle.plain_target.specs.contracts.plain.PlainTarget as plain
 use Rattle.widget_target.proofs.Sends.{widget_sends}
 use Rattle.widget_target.specs.contracts.widget.WidgetTarget as widget
 use Rattle.comm_c.specs.Handle.{heap, handle_owns}

@@ -14,21 +14,25 @@ kind_is Echo kind.Echo h = refl
 kind_is Echo kind.Counter h = cc
 kind_is Echo kind.Widget h = cc
 kind_is Echo kind.WidgetEcho h = cc
+kind_is Echo kind.Plain h = cc
 kind_is Echo kind.Free h = cc
 kind_is Counter kind.Echo h = cc
 kind_is Counter kind.Counter h = refl
 kind_is Counter kind.Widget h = cc
 kind_is Counter kind.WidgetEcho h = cc
+kind_is Counter kind.Plain h = cc
 kind_is Counter kind.Free h = cc
 kind_is Widget kind.Echo h = cc
 kind_is Widget kind.Counter h = cc
 kind_is Widget kind.Widget h = refl
 kind_is Widget kind.WidgetEcho h = cc
+kind_is Widget kind.Plain h = cc
 kind_is Widget kind.Free h = cc
 kind_is WidgetEcho kind.Echo h = cc
 kind_is WidgetEcho kind.Counter h = cc
 kind_is WidgetEcho kind.Widget h = cc
 kind_is WidgetEcho kind.WidgetEcho h = refl
+kind_is WidgetEcho kind.Plain h = cc
 kind_is WidgetEcho kind.Free h = cc
 
 own_kind : (w : StockKind) → one_if (has_kind w (target_kind w)) ≡ 1

@@ -1,7 +1,7 @@
 -- The status of an exported call: a number with a name. `rolgunai.h` has the same.
 use Rattle.std.specs.Prelude.{ℕ, ◌==◌, Option, Some, None, if◌then◌else◌}
 use Rattle.comm_targets.specs.declared.kind.Kind.{Kind}
-use Rattle.comm_targets.specs.declared.kind.Kind.TheVariants.{Widget, WidgetEcho, Free}
+use Rattle.comm_targets.specs.declared.kind.Kind.TheVariants.{Widget, WidgetEcho, Plain}
 
 -- the call was made
 abbrev pub ok : ℕ
@@ -55,6 +55,6 @@ no_part = 11
 abbrev pub kind_numbered : ℕ → Option Kind
 kind_numbered n =
     if n == 2 then Some Widget
-    else if n == 3 then Some Free
+    else if n == 3 then Some Plain
     else if n == 4 then Some WidgetEcho
     else None

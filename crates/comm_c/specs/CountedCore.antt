@@ -21,7 +21,7 @@ change_text d client reply outgoing =
     reply_line (d.changes + 1) reply ++ out_lines outgoing (parent.Call client (slice_index d.made client + 1))
 
 -- A change of one of four clients: one step of the machine, with an outcome that the target's kind allows,
--- its text, and the counts. Of each kind but Free one outcome at most is allowed.
+-- its text, and the counts. One outcome at most is allowed, since no built-in kind is free.
 pub record Changes (before : CountedCore) (client : ℕ) (call : Call) (after : CountedCore) (said : List ℕ)
     : Type 0 where
   pub below : client < 4

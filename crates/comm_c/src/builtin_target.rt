@@ -1,12 +1,21 @@
 //! The targets that the library has, as one type without a box: what C holds can't have a `dyn` in it.
 ghost use Rattle.std.specs.Prelude.{◌≡◌, [], None};
-ghost use Rattle.comm_c.specs.BuiltinTarget.{means_of};
+ghost use Rattle.comm_c.specs.BuiltinTarget.{kind_of, means_of};
 
-use comm_targets::{Answer, Counter, Echo, Event, Kind, Target, TargetFault};
+use comm_targets::{Answer, Counter, Echo, Event, Kind, PlainTarget, Target, TargetFault};
 use comm_value::Dict;
-use plain_target::PlainTarget;
 use std::alloc::Global;
 use widget_target::WidgetTarget;
+
+/// The kinds of targets that the library has.
+#[derive(Drop)]
+pub enum BuiltinKind {
+    Echo,
+    Counter,
+    Widget,
+    WidgetEcho,
+    Plain,
+}
 
 /// A target of any of the five kinds.
 #[derive(Drop)]
@@ -18,16 +27,16 @@ pub enum BuiltinTarget {
 }
 
 impl BuiltinTarget {
-    /// A new target of this kind, with no comm. `Kind::Free` gives a plain one. It allocates nothing.
-    pub fn new(alloc: Global, kind: Kind) -> BuiltinTarget
-        ensures { means_of result ≡ record { kind = kind; notes = 0; ids = []; staged = None } }
+    /// A new target of this kind, with no comm. It allocates nothing.
+    pub fn new(alloc: Global, kind: BuiltinKind) -> BuiltinTarget
+        ensures { means_of result ≡ record { kind = kind_of kind; notes = 0; ids = []; staged = None } }
     {
         match kind {
-            Kind::Echo => BuiltinTarget::Echo(Echo::new(alloc)),
-            Kind::Counter => BuiltinTarget::Counter(Counter::new(alloc)),
-            Kind::Widget => BuiltinTarget::Widget(WidgetTarget::new(alloc)),
-            Kind::WidgetEcho => BuiltinTarget::Widget(WidgetTarget::with_echo(alloc)),
-            Kind::Free => BuiltinTarget::Plain(PlainTarget::new(alloc)),
+            BuiltinKind::Echo => BuiltinTarget::Echo(Echo::new(alloc)),
+            BuiltinKind::Counter => BuiltinTarget::Counter(Counter::new(alloc)),
+            BuiltinKind::Widget => BuiltinTarget::Widget(WidgetTarget::new(alloc)),
+            BuiltinKind::WidgetEcho => BuiltinTarget::Widget(WidgetTarget::with_echo(alloc)),
+            BuiltinKind::Plain => BuiltinTarget::Plain(PlainTarget::new(alloc)),
         }
     }
 }

@@ -1,8 +1,9 @@
 //! The status numbers that C gets. `rolgunai.h` has the same.
-ghost use Rattle.std.specs.Prelude.{◌≡◌};
+ghost use Rattle.std.specs.Prelude.{◌≡◌, option_map};
+ghost use Rattle.comm_c.specs.BuiltinTarget.{kind_of};
 ghost use Rattle.comm_c.specs.Codes.{kind_numbered};
 
-use comm_targets::Kind;
+use crate::builtin_target::BuiltinKind;
 
 /// The call was made.
 pub const OK: u32 = 0;
@@ -42,15 +43,15 @@ pub const NO_PART: u32 = 11;
 
 /// The kind of target that has this number; `Echo` and `Counter` have none, since they are for scripts and
 /// tests.
-pub fn kind_numbered(number: u32) -> Option<Kind>
-    ensures { result ≡ kind_numbered number }
+pub fn kind_numbered(number: u32) -> Option<BuiltinKind>
+    ensures { option_map kind_of result ≡ kind_numbered number }
 {
     if number == 2 {
-        Some(Kind::Widget)
+        Some(BuiltinKind::Widget)
     } else if number == 3 {
-        Some(Kind::Free)
+        Some(BuiltinKind::Plain)
     } else if number == 4 {
-        Some(Kind::WidgetEcho)
+        Some(BuiltinKind::WidgetEcho)
     } else {
         None
     }

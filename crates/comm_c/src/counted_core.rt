@@ -10,15 +10,15 @@ ghost use Rattle.comm_core.specs.Step.{step};
 ghost use Rattle.comm_script.specs.Words.{reply_line, out_lines};
 ghost use Rattle.comm_c.specs.CountedCore.{Changes, HasMadeAtMost, change_text};
 ghost use Rattle.comm_c.specs.CallResult.{result_text};
+ghost use Rattle.comm_c.specs.BuiltinTarget.{kind_of};
 ghost use Rattle.comm_c.specs.PlaysLine.{Registers};
 ghost use Rattle.comm_c.specs.declared.call_result.CallResult.TheVariants as call_result;
 
-use crate::builtin_target::BuiltinTarget;
+use crate::builtin_target::{BuiltinKind, BuiltinTarget};
 use crate::call_result::{CallResult, ChangeMade};
 use comm_core::{Call, Core, Entry, Finished, Outgoings, Ready};
 use comm_messages::Parent;
 use comm_script::{append_outs, append_reply};
-use comm_targets::Kind;
 use comm_value::Text;
 use std::alloc::{AllocError, Global};
 
@@ -150,7 +150,7 @@ impl CountedCore {
         &mut self,
         alloc: Global,
         client: u8,
-        kind: Kind,
+        kind: BuiltinKind,
         name: Text,
         text: &mut Vec<u8>,
     ) -> Result<CallResult, AllocError>
@@ -159,7 +159,7 @@ impl CountedCore {
         requires settled { self.old.core.settled ≡ true }
         requires empty { text.old.items ≡ [] }
         ensures registers { OnOk result
-            (Registers self.old client kind name self.new text.new.items) }
+            (Registers self.old client (kind_of kind) name self.new text.new.items) }
         ensures shows { IfOk result (λ s. text.new.items ≡ result_text s) }
         ensures settled { self.new.core.settled ≡ true }
         ensures same { OnErr result (self.new ≡ self.old) }

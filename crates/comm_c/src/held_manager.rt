@@ -1,12 +1,13 @@
 //! A manager that stays between the calls of a kernel.
 ghost use Rattle.std.specs.Prelude.{◌≡◌, ◌<◌, ◌^◌, ◌↔◌, ◌≤◌, IsTrue, IfOk, IfErr, IsOk, OnOk, OnErr};
 ghost use Rattle.comm_core.specs.Limits.{AreAllowed};
+ghost use Rattle.comm_c.specs.BuiltinTarget.{kind_of};
 ghost use Rattle.comm_c.specs.ManagerState.{Plays, RegistersTarget, Shows, limits_of, new_manager};
 
+use crate::builtin_target::BuiltinKind;
 use crate::call_result::CallResult;
 use crate::counted_core::CountedCore;
 use comm_core::{Core, Limits, NewFault};
-use comm_targets::Kind;
 use comm_value::Text;
 use std::alloc::{AllocError, Global};
 use std::marker::Model;
@@ -111,9 +112,14 @@ impl HeldManager {
     }
 
     /// Registers a new target of the kind, for the first client. Err: memory; nothing has changed.
-    pub fn register(&mut self, alloc: Global, kind: Kind, name: Text) -> Result<(), AllocError>
+    pub fn register(
+        &mut self,
+        alloc: Global,
+        kind: BuiltinKind,
+        name: Text,
+    ) -> Result<(), AllocError>
         requires { self.old.number < 2 ^ 62 }
-        ensures registers { OnOk result (RegistersTarget self.old kind name self.new) }
+        ensures registers { OnOk result (RegistersTarget self.old (kind_of kind) name self.new) }
         ensures shows { OnOk result (Shows self.new) }
         ensures same { OnErr result (self.new ≡ self.old) }
     {

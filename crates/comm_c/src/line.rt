@@ -8,8 +8,10 @@ ghost use Rattle.comm_script.specs.Command.{HandsNothing};
 ghost use Rattle.comm_script.specs.Words.{bad_line, out_line, state_line};
 ghost use Rattle.comm_c.specs.CountedCore.{HasMadeAtMost};
 ghost use Rattle.comm_c.specs.CallResult.{result_text};
+ghost use Rattle.comm_c.specs.BuiltinTarget.{kind_of};
 ghost use Rattle.comm_c.specs.PlaysLine.{Obeys, PlaysLine, target_kind};
 
+use crate::builtin_target::BuiltinKind;
 use crate::call_result::CallResult;
 use crate::counted_core::CountedCore;
 use comm_core::Outgoings;
@@ -18,7 +20,6 @@ use comm_messages::{MessageFault, Outgoing, Parent};
 use comm_script::{
     LineFault, Request, StockKind, append_bad, append_outs, append_state_line, is_blank, parse_line,
 };
-use comm_targets::Kind;
 use comm_value::{Text, ValueFault};
 use std::alloc::{AllocError, Global};
 
@@ -26,14 +27,14 @@ use std::alloc::{AllocError, Global};
 const MAX_CLIENTS: u8 = 4;
 
 // The kind of target that a line registers.
-fn target_kind(kind: StockKind) -> Kind
-    ensures { result ≡ target_kind kind }
+fn target_kind(kind: StockKind) -> BuiltinKind
+    ensures { kind_of result ≡ target_kind kind }
 {
     match kind {
-        StockKind::Echo => Kind::Echo,
-        StockKind::Counter => Kind::Counter,
-        StockKind::Widget => Kind::Widget,
-        StockKind::WidgetEcho => Kind::WidgetEcho,
+        StockKind::Echo => BuiltinKind::Echo,
+        StockKind::Counter => BuiltinKind::Counter,
+        StockKind::Widget => BuiltinKind::Widget,
+        StockKind::WidgetEcho => BuiltinKind::WidgetEcho,
     }
 }
 

@@ -11,22 +11,22 @@ use Rattle.comm_targets.specs.Meaning.{Meaning, IsAskable, has_id, is_widget, af
 use Rattle.comm_targets.specs.Answers.{Answers, Refuses}
 use Rattle.comm_targets.specs.Widget as widget
 use Rattle.comm_targets.specs.declared.kind.Kind.{Kind}
-use Rattle.comm_targets.specs.declared.kind.Kind.TheVariants.{Echo, Counter, Widget, WidgetEcho, Free}
+use Rattle.comm_targets.specs.declared.kind.Kind.TheVariants.{Echo, Counter, Widget, WidgetEcho, Plain, Free}
 use Rattle.comm_targets.specs.declared.event.Event.{Event}
 use Rattle.comm_targets.specs.declared.event.Event.TheVariants as event
 use Rattle.comm_targets.specs.declared.answer.Answer.{Answer}
 use Rattle.comm_targets.specs.declared.fault.TargetFault.{TargetFault}
 use Rattle.comm_core.specs.Machine.{Name, Machine, at, has, with_at, ids_of}
-use Rattle.comm_core.specs.Step.{Outcome, Done, Asked, judged, stepped, answered, refused, holds_widget, question_of, Gives, Allowed}
+use Rattle.comm_core.specs.Step.{Outcome, Done, AskTarget, judged, stepped, answer_step, refusal_step, holds_widget, request_of, Gives, Allowed}
 use Rattle.comm_core.specs.Tables.{Targets, Opens, emptied, registered_of, targets_of, machine_of, Agrees, AnswerIsStaged, HaveStaged, unstaged, ended_of}
 use Rattle.comm_core.specs.Plans.{SuitsComms, SuitsKind, CanAsk, CanRefuse, HasAnswered, HasCome, Suits, planned, staged_by, ended_by, verdict_of, IsFeasible}
 use Rattle.comm_core.specs.declared.comm.Comm.{Comm}
 use Rattle.comm_core.specs.declared.call.Call.{Call}
-use Rattle.comm_core.specs.declared.question.Question.{Question}
+use Rattle.comm_core.specs.declared.target_request.TargetRequest.{TargetRequest}
 use Rattle.comm_core.specs.declared.reply.Reply.{Reply}
-use Rattle.comm_core.specs.declared.plan.Judged.{Judged}
-use Rattle.comm_core.specs.declared.plan.Plan.{Plan}
-use Rattle.comm_core.specs.declared.plan.Plan.TheVariants.{Nothing, Register, Replace, Unregister, Close, Commit}
+use Rattle.comm_core.specs.declared.decision.Decision.{Decision}
+use Rattle.comm_core.specs.declared.table_update.TableUpdate.{TableUpdate}
+use Rattle.comm_core.specs.declared.table_update.TableUpdate.TheVariants.{Nothing, Register, Replace, Unregister, Close, Commit}
 use Rattle.comm_core.proofs.Keys.{text_itself}
 use Rattle.comm_core.proofs.Names.{target_at, has_target}
 use Rattle.comm_core.proofs.Staging.{none_of, unstaged-at, unstaged-there, unstaged-staged, one-staged}
@@ -86,6 +86,7 @@ module _ (boxes : Targets) (comms : Opens) (agrees : Agrees (unstaged boxes) com
   never_refused WidgetEcho n now e f is a ok refuses = let q : Ok a ≡ Err f = sym (ok true) ∙ refuses in cc
   never_refused Echo n now e f is a ok refuses = absurd (true≢false (sym is))
   never_refused Counter n now e f is a ok refuses = absurd (true≢false (sym is))
+  never_refused Plain n now e f is a ok refuses = absurd (true≢false (sym is))
   never_refused Free n now e f is a ok refuses = absurd (true≢false (sym is))
 
   pub can_refuse : (t : Name) (e : Event) → SuitsKind boxes t e → (m : Meaning) → at boxes t ≡ Some m → (now : Option Members) (f : TargetFault) → Refuses m.kind m.notes now e f → CanRefuse e
@@ -96,12 +97,12 @@ module _ (boxes : Targets) (comms : Opens) (agrees : Agrees (unstaged boxes) com
 
 -- ---- what comes of a question
 
-module _ (b : Targets) (c : Opens) (q : Question) (can : CanAsk b c q) (none : HaveStaged b (λ _. None)) (m : Meaning) (is : at b q.name ≡ Some m) where
+module _ (b : Targets) (c : Opens) (q : TargetRequest) (can : CanAsk b c q) (none : HaveStaged b (λ _. None)) (m : Meaning) (is : at b q.name ≡ Some m) where
   known : at (targets_of b) q.name ≡ Some (registered_of m)
   known = target_at b q.name ∙ ap (option_map registered_of) is
 
   pub answered_well : (a : Answer) (after : Targets) (r : Reply) (out : List Outgoing) → Answers m.kind m.notes q.state q.event a → after ≡ with_at b q.name (after_prepare m q.event a)
-      → ((M : Machine) → answered M q.name q.event a ≡ record { reply = r; outgoing = out; next = (answered M q.name q.event a).next })
+      → ((M : Machine) → answer_step M q.name q.event a ≡ record { reply = r; outgoing = out; next = (answer_step M q.name q.event a).next })
       → HasAnswered b c q (Some (Ok a)) r out (Commit q) after
   answered_well a after r out answers is_after replied =
       let unstaged_is : unstaged after ≡ unstaged b = ap unstaged is_after ∙ unstaged-staged b q.name m q.event a is in
@@ -116,7 +117,7 @@ module _ (b : Targets) (c : Opens) (q : Question) (can : CanAsk b c q) (none : H
       }
 
   pub refused_well : (f : TargetFault) (after : Targets) (r : Reply) (out : List Outgoing) → Refuses m.kind m.notes q.state q.event f → after ≡ b
-      → ((M : Machine) → refused M q.event f ≡ Some (record { reply = r; outgoing = out; next = M }))
+      → ((M : Machine) → refusal_step M q.event f ≡ Some (record { reply = r; outgoing = out; next = M }))
       → HasAnswered b c q (Some (Err f)) r out Nothing after
   refused_well f after r out refuses is_after replied =
       record {
@@ -131,7 +132,7 @@ module _ (b : Targets) (c : Opens) (q : Question) (can : CanAsk b c q) (none : H
 
 -- ---- what comes of a call
 
-pub nothing_staged : (plan : Plan) (name : Name) → staged_by plan None name ≡ None
+pub nothing_staged : (plan : TableUpdate) (name : Name) → staged_by plan None name ≡ None
 nothing_staged Nothing name = refl
 nothing_staged (Register n kind notes) name = refl
 nothing_staged (Replace n kind notes) name = refl
@@ -140,12 +141,12 @@ nothing_staged (Close id) name = refl
 nothing_staged (Commit q) name = refl
 
 module _ (l : ℕ) (b : Targets) (c : Opens) (k : Call) where
-  pub came_done : (r : Reply) (out : List Outgoing) (plan : Plan) → Done r out (planned (machine_of b c) plan None) ≡ judged l (machine_of b c) k → HaveStaged b (λ _. None)
+  pub came_done : (r : Reply) (out : List Outgoing) (plan : TableUpdate) → Done r out (planned (machine_of b c) plan None) ≡ judged l (machine_of b c) k → HaveStaged b (λ _. None)
       → Suits (unstaged b) c None plan None → ended_by b plan ≡ ended_of b k → HasCome l b c k None r out plan b
   came_done r out plan e none suits ended =
       record {
         step_is = ap (λ v. stepped (machine_of b c) v None) (sym e);
-        allowed = subst (λ v. Allowed (machine_of b c) (question_of v) None) e tt;
+        allowed = subst (λ v. Allowed (machine_of b c) (request_of v) None) e tt;
         staged = none;
         stages = λ name m there. none name m there ∙ sym (nothing_staged plan name);
         unstaged_is = refl;
@@ -153,13 +154,13 @@ module _ (l : ℕ) (b : Targets) (c : Opens) (k : Call) where
         ended = ended;
       }
 
-  pub came_asked : (q : Question) (o : Option Outcome) (r : Reply) (out : List Outgoing) (plan : Plan) (after : Targets) → Asked q ≡ judged l (machine_of b c) k
+  pub came_asked : (q : TargetRequest) (o : Option Outcome) (r : Reply) (out : List Outgoing) (plan : TableUpdate) (after : Targets) → AskTarget q ≡ judged l (machine_of b c) k
       → ((bs : Targets) → ended_of bs k ≡ None) → HasAnswered b c q o r out plan after → HasCome l b c k o r out plan after
   came_asked q o r out plan after e nobody h =
       record {
         step_is = ap (λ v. stepped (machine_of b c) v o) (sym e) ∙ h.step_is;
-        allowed = subst (λ v. Allowed (machine_of b c) (question_of v) o) e h.allowed;
-        staged = subst (λ v. AnswerIsStaged after (question_of v) o) e h.staged;
+        allowed = subst (λ v. Allowed (machine_of b c) (request_of v) o) e h.allowed;
+        staged = subst (λ v. AnswerIsStaged after (request_of v) o) e h.staged;
         stages = h.stages;
         unstaged_is = h.unstaged_is;
         suits = h.suits;
@@ -180,8 +181,8 @@ msg_asked b c h id copy x name now body is same copied =
       kind_suits = tt;
     }
 
-pub verdict_at : (r : Result Judged AllocError) (l : ℕ) (m : Machine) (k k' : Call) → k ≡ k' → IfOk r (λ j. verdict_of m j ≡ judged l m k') → IfOk r (λ j. verdict_of m j ≡ judged l m k)
+pub verdict_at : (r : Result Decision AllocError) (l : ℕ) (m : Machine) (k k' : Call) → k ≡ k' → IfOk r (λ j. verdict_of m j ≡ judged l m k') → IfOk r (λ j. verdict_of m j ≡ judged l m k)
 verdict_at r l m k k' e h = subst (λ x. IfOk r (λ j. verdict_of m j ≡ judged l m x)) (sym e) h
 
-pub feasible_at : (r : Result Judged AllocError) (b : Targets) (c : Opens) (k k' : Call) → k ≡ k' → IfOk r (λ j. IsFeasible b c k' j) → IfOk r (λ j. IsFeasible b c k j)
+pub feasible_at : (r : Result Decision AllocError) (b : Targets) (c : Opens) (k k' : Call) → k ≡ k' → IfOk r (λ j. IsFeasible b c k' j) → IfOk r (λ j. IsFeasible b c k j)
 feasible_at r b c k k' e h = subst (λ x. IfOk r (λ j. IsFeasible b c x j)) (sym e) h

@@ -1,5 +1,5 @@
 -- The tables after a target's change is made, and after a target is registered.
-use Rattle.std.proofs.Common.{◌≡◌, ℕ, true, [], ◌∷◌, ◌++◌, Option, None, Some, is_some, IsSome, Ok, Err, ap, sym, ◌∙◌, subst}
+use Rattle.std.proofs.Common.{◌≡◌, ℕ, [], ◌∷◌, ◌++◌, Option, None, Some, is_some, IsSome, Ok, Err, ap, sym, ◌∙◌, subst}
 use Rattle.comm_value.specs.Tree.{Members}
 use Rattle.comm_messages.specs.Content.{Content}
 use Rattle.comm_targets.specs.Meaning.{Meaning, IsIdle, after_commit, ids_after, notes_after}
@@ -10,22 +10,22 @@ use Rattle.comm_targets.specs.declared.event.Event.TheVariants as event
 use Rattle.comm_targets.specs.declared.answer.Answer.{Answer}
 use Rattle.comm_core.specs.Machine.{Name, at, with_at}
 use Rattle.comm_targets.specs.declared.fault.TargetFault.{TargetFault}
-use Rattle.comm_core.specs.Step.{Outcome, answered, stated, with_another, with_answer}
+use Rattle.comm_core.specs.Step.{Outcome, answer_step, stated, with_another, with_answer}
 use Rattle.comm_core.specs.Tables.{Targets, Opens, machine_of, Agrees, HaveStaged, unstaged}
 use Rattle.comm_core.specs.Plans.{Carried, Suits, SuitsComms, planned, staged_by}
 use Rattle.comm_core.specs.declared.comm.Comm.{Comm}
-use Rattle.comm_core.specs.declared.question.Question.{Question}
-use Rattle.comm_core.specs.declared.plan.Plan.{Plan}
-use Rattle.comm_core.specs.declared.plan.Plan.TheVariants.{Register, Replace, Commit}
+use Rattle.comm_core.specs.declared.target_request.TargetRequest.{TargetRequest}
+use Rattle.comm_core.specs.declared.table_update.TableUpdate.{TableUpdate}
+use Rattle.comm_core.specs.declared.table_update.TableUpdate.TheVariants.{Register, Replace, Commit}
 use Rattle.comm_core.proofs.Agreeing.{some-at}
 use Rattle.comm_core.proofs.Staging.{unstaged-there, none_of, some-is}
 use Rattle.comm_core.proofs.Carried.{is_stage, opened_carried, told_carried, registered_carried, open_notes, launch_notes}
 
-module _ (b : Targets) (c : Opens) (h : Agrees (unstaged b) c) (q : Question) (a : Answer) (staged : HaveStaged b (staged_by (Commit q) (Some (Ok a))))
+module _ (b : Targets) (c : Opens) (h : Agrees (unstaged b) c) (q : TargetRequest) (a : Answer) (staged : HaveStaged b (staged_by (Commit q) (Some (Ok a))))
     (suits : Suits (unstaged b) c None (Commit q) (Some (Ok a))) (b2 : Targets) (c2 : Opens)
     (written : (m : Meaning) (s : StagedEvent) → at b q.name ≡ Some m → m.staged ≡ Some s → b2 ≡ with_at b q.name (after_commit m s)) where
   abbrev Goal : Event → Type 0
-  Goal e = Carried b2 c2 (answered (machine_of b c) q.name e a).next
+  Goal e = Carried b2 c2 (answer_step (machine_of b c) q.name e a).next
 
   here : (m : Meaning) × (at b q.name ≡ Some m)
   here = some-at (at b q.name) (sym (unstaged-there b q.name) ∙ suits.0)
@@ -63,7 +63,7 @@ none≢some x e = cc
 some_same : {X : Type 0} (x y : X) → Some x ≡ Some y → x ≡ y
 some_same x y e = cc
 
-module _ (b : Targets) (c : Opens) (h : Agrees (unstaged b) c) (plan : Plan) (o : Option Outcome) (name : Name) (kind : Kind) (notes : ℕ) (is : plan ≡ Register name kind notes)
+module _ (b : Targets) (c : Opens) (h : Agrees (unstaged b) c) (plan : TableUpdate) (o : Option Outcome) (name : Name) (kind : Kind) (notes : ℕ) (is : plan ≡ Register name kind notes)
     (staged : HaveStaged b (staged_by plan o)) where
   none : HaveStaged b (λ _. None)
   none n m there = staged n m there ∙ ap (λ p. staged_by p o n) is
@@ -90,7 +90,7 @@ module _ (b : Targets) (c : Opens) (h : Agrees (unstaged b) c) (plan : Plan) (o 
 
 -- ---- the plan to replace a target
 
-module _ (b : Targets) (c : Opens) (plan : Plan) (o : Option Outcome) (name : Name) (kind : Kind) (notes : ℕ) (is : plan ≡ Replace name kind notes) where
+module _ (b : Targets) (c : Opens) (plan : TableUpdate) (o : Option Outcome) (name : Name) (kind : Kind) (notes : ℕ) (is : plan ≡ Replace name kind notes) where
   pub replace_stages : HaveStaged b (staged_by plan o) → HaveStaged b (λ _. None)
   replace_stages staged n m there = staged n m there ∙ ap (λ p. staged_by p o n) is
 
@@ -122,7 +122,7 @@ module _ (b : Targets) (c : Opens) (plan : Plan) (o : Option Outcome) (name : Na
 
 -- ---- a plan that makes what a target staged has its answer
 
-module _ (b : Targets) (c : Opens) (boxed : Option Meaning) (plan : Plan) (o : Option Outcome) (q : Question) (is : plan ≡ Commit q) (suits : Suits (unstaged b) c boxed plan o) where
+module _ (b : Targets) (c : Opens) (boxed : Option Meaning) (plan : TableUpdate) (o : Option Outcome) (q : TargetRequest) (is : plan ≡ Commit q) (suits : Suits (unstaged b) c boxed plan o) where
   abbrev suits' : Suits (unstaged b) c boxed (Commit q) o
   suits' = subst (λ p. Suits (unstaged b) c boxed p o) is suits
 

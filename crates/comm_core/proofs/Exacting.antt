@@ -6,16 +6,16 @@ use Rattle.comm_value.specs.Tree.{Members}
 use Rattle.comm_targets.specs.Answers.{Answers, Refuses, answer_of}
 use Rattle.comm_targets.specs.Meaning.{notes_after}
 use Rattle.comm_targets.specs.declared.kind.Kind.{Kind}
-use Rattle.comm_targets.specs.declared.kind.Kind.TheVariants.{Echo, Counter, Widget, WidgetEcho, Free}
+use Rattle.comm_targets.specs.declared.kind.Kind.TheVariants.{Echo, Counter, Widget, WidgetEcho, Plain, Free}
 use Rattle.comm_targets.specs.declared.event.Event.{Event}
 use Rattle.comm_targets.specs.declared.event.Event.TheVariants as event
 use Rattle.comm_targets.specs.declared.answer.Answer.{Answer}
 use Rattle.comm_targets.specs.declared.fault.TargetFault.{TargetFault}
 use Rattle.comm_core.specs.Machine.{Name, Registered, Machine, at, has, with_at, without}
-use Rattle.comm_core.specs.Step.{Outcome, Stepped, Verdict, Done, Asked, Gives, Allowed, asks, judged, step, stepped, answered, refused, noted, of_comm, is_full, holds_widget, comm_id}
+use Rattle.comm_core.specs.Step.{Outcome, Stepped, Verdict, Done, AskTarget, Gives, Allowed, asks, judged, step, stepped, answer_step, refusal_step, noted, of_comm, is_full, holds_widget, comm_id}
 use Rattle.comm_core.specs.Exact.{is_free, is_exact, outcome_by, outcome_at, exact_outcome, registers_free}
 use Rattle.comm_core.specs.declared.comm.Comm.{Comm}
-use Rattle.comm_core.specs.declared.question.Question.{Question}
+use Rattle.comm_core.specs.declared.target_request.TargetRequest.{TargetRequest}
 use Rattle.comm_core.specs.declared.call.Call.{Call}
 use Rattle.comm_core.specs.declared.call.Call.TheVariants.{Register, Open, Msg, Close, Unregister, Launch, Push, Send, HangUp}
 
@@ -43,6 +43,7 @@ answers_one Echo n now e a h x = x
 answers_one Counter n now e a h x = x
 answers_one Widget n now e a h x = x
 answers_one WidgetEcho n now e a h x = x
+answers_one Plain n now e a h x = x
 answers_one Free n now e a h x = absurd (true≢false (sym h))
 
 refuses_one : (k : Kind) (n : ℕ) (now : Option Members) (e : Event) (f : TargetFault) → not (is_free k) ≡ true → Refuses k n now e f → answer_of k n now e ≡ Err f
@@ -50,14 +51,15 @@ refuses_one Echo n now e f h x = x
 refuses_one Counter n now e f h x = x
 refuses_one Widget n now e f h x = x
 refuses_one WidgetEcho n now e f h x = x
+refuses_one Plain n now e f h x = x
 refuses_one Free n now e f h x = absurd (true≢false (sym h))
 
-gives_one : (t : Option Registered) (q : Question) (g : Outcome) → ((r : Registered) → t ≡ Some r → not (is_free r.kind) ≡ true) → Gives t q g → Some g ≡ outcome_by t q
+gives_one : (t : Option Registered) (q : TargetRequest) (g : Outcome) → ((r : Registered) → t ≡ Some r → not (is_free r.kind) ≡ true) → Gives t q g → Some g ≡ outcome_by t q
 gives_one None q g exact h = absurd h
 gives_one (Some r) q (Ok a) exact h = ap Some (sym (answers_one r.kind r.notes q.state q.event a (exact r refl) h))
 gives_one (Some r) q (Err f) exact h = ap Some (sym (refuses_one r.kind r.notes q.state q.event f (exact r refl) h))
 
-one_outcome : (m : Machine) (q : Option Question) (o : Option Outcome) → is_exact m ≡ true → Allowed m q o → o ≡ outcome_at m q
+one_outcome : (m : Machine) (q : Option TargetRequest) (o : Option Outcome) → is_exact m ≡ true → Allowed m q o → o ≡ outcome_at m q
 one_outcome m None None exact h = refl
 one_outcome m None (Some g) exact h = absurd h
 one_outcome m (Some q) None exact h = absurd h
@@ -92,7 +94,7 @@ all_noted es name e (Some r) is h = all_with_at es name (record { kind = r.kind;
 
 abbrev Keeps : Machine → Verdict → Type 0
 Keeps m (Done r out next) = is_exact m ≡ true → is_exact next ≡ true
-Keeps m (Asked q) = Unit {0}
+Keeps m (AskTarget q) = Unit {0}
 
 keeps_if : (m : Machine) (b : Bool) (v w : Verdict) → Keeps m v → Keeps m w → Keeps m (cond b v w)
 keeps_if m true v w p q = p
@@ -117,7 +119,7 @@ judged_keeps limit m (Push id state) free = keeps_of m (at m.comms id) _ (λ x. 
 judged_keeps limit m (Send id body) free = keeps_of m (at m.comms id) _ (λ x e. e)
 judged_keeps limit m (HangUp id) free = keeps_of m (at m.comms id) _ (λ x e. e)
 
-answered_keeps : (m : Machine) (name : Name) (e : Event) (a : Answer) → is_exact m ≡ true → is_exact (answered m name e a).next ≡ true
+answered_keeps : (m : Machine) (name : Name) (e : Event) (a : Answer) → is_exact m ≡ true → is_exact (answer_step m name e a).next ≡ true
 answered_keeps m name (event.Open id version body) a h = h
 answered_keeps m name (event.Msg id body) a h = all_noted m.targets name (event.Msg id body) (at m.targets name) refl h
 answered_keeps m name (event.Launch id state) a h = h
@@ -129,7 +131,7 @@ some_next x s e = cc
 none_next : (s : Stepped) {P : Type 0} → ◌≡◌ {A = Option Stepped} None (Some s) → P
 none_next s e = cc
 
-refused_keeps : (m : Machine) (e : Event) (f : TargetFault) (s : Stepped) → is_exact m ≡ true → refused m e f ≡ Some s → is_exact s.next ≡ true
+refused_keeps : (m : Machine) (e : Event) (f : TargetFault) (s : Stepped) → is_exact m ≡ true → refusal_step m e f ≡ Some s → is_exact s.next ≡ true
 refused_keeps m (event.Open id version body) f s h e = ap (λ (z : Stepped). is_exact z.next) (sym (some_next _ s e)) ∙ h
 refused_keeps m (event.Msg id body) f s h e = ap (λ (z : Stepped). is_exact z.next) (sym (some_next _ s e)) ∙ h
 refused_keeps m (event.Launch id state) f s h e = none_next s e
@@ -138,9 +140,9 @@ refused_keeps m (event.Push id state) f s h e = none_next s e
 stepped_keeps : (m : Machine) (v : Verdict) (o : Option Outcome) (s : Stepped) → is_exact m ≡ true → Keeps m v → stepped m v o ≡ Some s → is_exact s.next ≡ true
 stepped_keeps m (Done r out next) None s h k e = ap (λ (z : Stepped). is_exact z.next) (sym (some_next _ s e)) ∙ k h
 stepped_keeps m (Done r out next) (Some g) s h k e = none_next s e
-stepped_keeps m (Asked q) (Some (Ok a)) s h k e = ap (λ (z : Stepped). is_exact z.next) (sym (some_next _ s e)) ∙ answered_keeps m q.name q.event a h
-stepped_keeps m (Asked q) (Some (Err f)) s h k e = refused_keeps m q.event f s h e
-stepped_keeps m (Asked q) None s h k e = none_next s e
+stepped_keeps m (AskTarget q) (Some (Ok a)) s h k e = ap (λ (z : Stepped). is_exact z.next) (sym (some_next _ s e)) ∙ answered_keeps m q.name q.event a h
+stepped_keeps m (AskTarget q) (Some (Err f)) s h k e = refused_keeps m q.event f s h e
+stepped_keeps m (AskTarget q) None s h k e = none_next s e
 
 pub step_keeps : (limit : ℕ) (m : Machine) (c : Call) (o : Option Outcome) (s : Stepped) → is_exact m ≡ true → registers_free c ≡ false → step limit m c o ≡ Some s → is_exact s.next ≡ true
 step_keeps limit m c o s h free e = stepped_keeps m (judged limit m c) o s h (judged_keeps limit m c free) e

@@ -23,7 +23,7 @@ pub mod Staging
 pub mod Stateless
 pub mod Stepping
 pub mod Stopping
-pub mod Unmaking
+pub mod Reverting
 pub mod Updating
 pub mod Crossing
 pub mod Ordered

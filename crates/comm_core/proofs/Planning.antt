@@ -9,20 +9,20 @@ use Rattle.comm_targets.specs.declared.event.Event.TheVariants as event
 use Rattle.comm_targets.specs.declared.answer.Answer.{Answer}
 use Rattle.comm_targets.specs.declared.fault.TargetFault.{TargetFault}
 use Rattle.comm_core.specs.Machine.{Name, Machine, at, has}
-use Rattle.comm_core.specs.Step.{Outcome, Verdict, Done, Asked, Allowed, Gives, asks, judged, question_of, of_comm, is_full, holds_widget, comm_id}
+use Rattle.comm_core.specs.Step.{Outcome, Verdict, Done, AskTarget, Allowed, Gives, asks, judged, request_of, of_comm, is_full, holds_widget, comm_id}
 use Rattle.comm_core.specs.Tables.{Targets, HaveStaged, registered_of, staged_as}
 use Rattle.comm_core.specs.Plans.{staged_by}
 use Rattle.comm_core.specs.Planned.{answered_row, done_row, planned_row}
 use Rattle.comm_core.specs.Ready.{CoreValue, IsReady, Readied, machine}
 use Rattle.comm_core.specs.Row.{row_in, told_row}
 use Rattle.comm_core.specs.declared.comm.Comm.{Comm}
-use Rattle.comm_core.specs.declared.question.Question.{Question}
+use Rattle.comm_core.specs.declared.target_request.TargetRequest.{TargetRequest}
 use Rattle.comm_core.specs.declared.call.Call.{Call}
 use Rattle.comm_core.specs.declared.call.Call.TheVariants.{Register, Open, Msg, Close, Unregister, Launch, Push, Send, HangUp}
 use Rattle.comm_core.specs.declared.reply.Reply.{Reply}
 use Rattle.comm_core.specs.declared.reply.Reply.TheVariants as reply
-use Rattle.comm_core.specs.declared.plan.Plan.{Plan}
-use Rattle.comm_core.specs.declared.plan.Plan.TheVariants as plan
+use Rattle.comm_core.specs.declared.table_update.TableUpdate.{TableUpdate}
+use Rattle.comm_core.specs.declared.table_update.TableUpdate.TheVariants as plan
 use Rattle.comm_core.proofs.Keys.{same_text, text_itself}
 use Rattle.comm_core.proofs.Entries.{lookup-map}
 use Rattle.comm_core.proofs.Gone.{none≢some}
@@ -55,7 +55,7 @@ refused m (Push id state) f r = quiet m id (at m.comms id) f
 refused m (Send id body) f r = refl
 refused m (HangUp id) f r = refl
 
-planned_silent : (p : Plan) (call : Call) (r : Reply) → planned_row p None call r ≡ done_row call r
+planned_silent : (p : TableUpdate) (call : Call) (r : Reply) → planned_row p None call r ≡ done_row call r
 planned_silent plan.Nothing call r = refl
 planned_silent (plan.Register name kind notes) call r = refl
 planned_silent (plan.Replace name kind notes) call r = refl
@@ -63,7 +63,7 @@ planned_silent (plan.Unregister name) call r = refl
 planned_silent (plan.Close id) call r = refl
 planned_silent (plan.Commit q) call r = refl
 
-planned_refused : (p : Plan) (f : TargetFault) (call : Call) (r : Reply) → planned_row p (Some (Err f)) call r ≡ done_row call r
+planned_refused : (p : TableUpdate) (f : TargetFault) (call : Call) (r : Reply) → planned_row p (Some (Err f)) call r ≡ done_row call r
 planned_refused plan.Nothing f call r = refl
 planned_refused (plan.Register name kind notes) f call r = refl
 planned_refused (plan.Replace name kind notes) f call r = refl
@@ -73,38 +73,38 @@ planned_refused (plan.Commit q) f call r = refl
 
 -- ---- where a target answered
 
-module _ (m : Machine) (q : Question) (a : Answer) (r : Reply) where
+module _ (m : Machine) (q : TargetRequest) (a : Answer) (r : Reply) where
   -- the verdict asks this only where the call's row is that of the answer
   abbrev AsksOf : Call → Verdict → Type 0
-  AsksOf call v = question_of v ≡ Some q → answered_row q.name q.event a ≡ row_in m call (Some (Ok a)) r
+  AsksOf call v = request_of v ≡ Some q → answered_row q.name q.event a ≡ row_in m call (Some (Ok a)) r
 
-  asks_none : (X : Type 0) → ◌≡◌ {A = Option Question} None (Some q) → X
+  asks_none : (X : Type 0) → ◌≡◌ {A = Option TargetRequest} None (Some q) → X
   asks_none X e = absurd (none≢some q e)
 
-  asks_this : (target : Name) (state : Option Members) (e : Event) → ◌≡◌ {A = Option Question} (Some (record { name = target; state = state; event = e })) (Some q) → answered_row q.name q.event a ≡ answered_row target e a
+  asks_this : (target : Name) (state : Option Members) (e : Event) → ◌≡◌ {A = Option TargetRequest} (Some (record { name = target; state = state; event = e })) (Some q) → answered_row q.name q.event a ≡ answered_row target e a
   asks_this target state e is =
-      let same : record { name = target; state = state; event = e } ≡ q = cc in ap (λ (g : Question). answered_row g.name g.event a) (sym same)
+      let same : record { name = target; state = state; event = e } ≡ q = cc in ap (λ (g : TargetRequest). answered_row g.name g.event a) (sym same)
 
   asks_if : (call : Call) (b : Bool) (v w : Verdict) → AsksOf call v → AsksOf call w → AsksOf call (cond b v w)
   asks_if call true v w h k = h
   asks_if call false v w h k = k
 
-  asks_msg : (id : Name) (body : _) (c : Option Comm) → question_of (of_comm m c (λ x. Asked (record { name = x.target; state = x.state; event = event.Msg id body }))) ≡ Some q
+  asks_msg : (id : Name) (body : _) (c : Option Comm) → request_of (of_comm m c (λ x. AskTarget (record { name = x.target; state = x.state; event = event.Msg id body }))) ≡ Some q
       → answered_row q.name q.event a ≡ told_row id c (Some (Ok a))
   asks_msg id body None e = asks_none _ e
   asks_msg id body (Some x) e = asks_this x.target x.state (event.Msg id body) e
 
   asks_push : (id : Name) (state : Members) (b : Comm → Bool) (c : Option Comm)
-      → question_of (of_comm m c (λ x. cond (b x) (Asked (record { name = x.target; state = x.state; event = event.Push id state })) (Done reply.NotWidget [] m))) ≡ Some q
+      → request_of (of_comm m c (λ x. cond (b x) (AskTarget (record { name = x.target; state = x.state; event = event.Push id state })) (Done reply.NotWidget [] m))) ≡ Some q
       → answered_row q.name q.event a ≡ told_row id c (Some (Ok a))
   asks_push id state b None e = asks_none _ e
   asks_push id state b (Some x) e =
-      elim (b x) as (λ t. question_of (cond t (Asked (record { name = x.target; state = x.state; event = event.Push id state })) (Done reply.NotWidget [] m)) ≡ Some q → answered_row q.name q.event a ≡ told_row id (Some x) (Some (Ok a))) [
+      elim (b x) as (λ t. request_of (cond t (AskTarget (record { name = x.target; state = x.state; event = event.Push id state })) (Done reply.NotWidget [] m)) ≡ Some q → answered_row q.name q.event a ≡ told_row id (Some x) (Some (Ok a))) [
         | true ↦ λ e. asks_this x.target x.state (event.Push id state) e
         | false ↦ λ e. asks_none _ e
       ] e
 
-  asks_comm : (X : Type 0) (c : Option Comm) (f : Comm → Verdict) → ((x : Comm) → question_of (f x) ≡ None) → question_of (of_comm m c f) ≡ Some q → X
+  asks_comm : (X : Type 0) (c : Option Comm) (f : Comm → Verdict) → ((x : Comm) → request_of (f x) ≡ None) → request_of (of_comm m c f) ≡ Some q → X
   asks_comm X None f h e = asks_none X e
   asks_comm X (Some x) f h e = asks_none X (sym (h x) ∙ e)
 
@@ -133,13 +133,13 @@ abbrev staged_event : Event → Answer → Option StagedEvent
 staged_event e a = Some (record { event = e; answer = a })
 
 -- where an answer to this question stands staged, the plan is to commit it
-planned_asked : (boxes : Targets) (q : Question) (a : Answer) (p : Plan) (call : Call) (r : Reply) (m : Meaning) → at boxes q.name ≡ Some m
+planned_asked : (boxes : Targets) (q : TargetRequest) (a : Answer) (p : TableUpdate) (call : Call) (r : Reply) (m : Meaning) → at boxes q.name ≡ Some m
     → HaveStaged boxes (staged_as (Some (Ok a)) (Some q)) → HaveStaged boxes (staged_by p (Some (Ok a))) → planned_row p (Some (Ok a)) call r ≡ answered_row q.name q.event a
 planned_asked boxes q a p call r m there asked by =
     let staged : m.staged ≡ staged_event q.event a = asked q.name m there ∙ ap (λ b. cond b (staged_event q.event a) None) (text_itself q.name) in
     planned_by p (sym (by q.name m there) ∙ staged)
   where
-    planned_by : (p : Plan) → staged_by p (Some (Ok a)) q.name ≡ staged_event q.event a → planned_row p (Some (Ok a)) call r ≡ answered_row q.name q.event a
+    planned_by : (p : TableUpdate) → staged_by p (Some (Ok a)) q.name ≡ staged_event q.event a → planned_row p (Some (Ok a)) call r ≡ answered_row q.name q.event a
     planned_by plan.Nothing e = absurd (none≢some _ e)
     planned_by (plan.Register name kind notes) e = absurd (none≢some _ e)
     planned_by (plan.Replace name kind notes) e = absurd (none≢some _ e)
@@ -155,7 +155,7 @@ planned_asked boxes q a p call r m there asked by =
         ]) refl e
 
 -- with the question or without
-planned_so : (s : CoreValue) (p : Plan) (call : Call) (r : Reply) (asked : Option Question) (o : Option Outcome) → asks s.limit (machine s) call ≡ asked → Allowed (machine s) asked o
+planned_so : (s : CoreValue) (p : TableUpdate) (call : Call) (r : Reply) (asked : Option TargetRequest) (o : Option Outcome) → asks s.limit (machine s) call ≡ asked → Allowed (machine s) asked o
     → HaveStaged s.boxes (staged_as o asked) → HaveStaged s.boxes (staged_by p o) → planned_row p o call r ≡ row_in (machine s) call o r
 planned_so s p call r None None e allowed staged by = planned_silent p call r ∙ sym (silent (machine s) call r)
 planned_so s p call r None (Some o) e allowed staged by = absurd allowed

@@ -1,18 +1,18 @@
 -- From what came of a call to what stands ready, and back to the state before it.
-use Rattle.std.proofs.Common.{◌≡◌, ◌<◌, ℕ, Bool, true, false, cond, List, [], Option, None, Some, option_map, refl, ap, sym, ◌∙◌, subst, true≢false}
+use Rattle.std.proofs.Common.{◌≡◌, ◌<◌, ℕ, Bool, true, false, cond, List, Option, None, Some, option_map, refl, ap, sym, ◌∙◌, subst, true≢false}
 use Rattle.comm_messages.specs.declared.outgoing.Outgoing.{Outgoing}
 use Rattle.comm_targets.specs.Meaning.{Meaning, IsIdle}
 use Rattle.comm_targets.specs.declared.kind.Kind.{Kind}
 use Rattle.comm_core.specs.Machine.{Name, Machine, at, has}
-use Rattle.comm_core.specs.Step.{Outcome, Stepped, Done, Allowed, asks, judged, question_of, step, stepped}
+use Rattle.comm_core.specs.Step.{Outcome, Stepped, Done, Allowed, asks, judged, request_of, step, stepped}
 use Rattle.comm_core.specs.Tables.{Targets, Opens, targets_of, machine_of, Agrees, AnswerIsStaged, HaveStaged, unstaged, emptied, ended_of}
 use Rattle.comm_core.specs.Ready.{CoreValue, Readied, IsReady, state, machine, readied}
 use Rattle.comm_core.specs.Plans.{IsSound, HasCome, Carried, Suits, planned, registering, staged_by, ended_by}
 use Rattle.comm_core.specs.declared.call.Call.{Call}
 use Rattle.comm_core.specs.declared.call.Call.TheVariants as call
 use Rattle.comm_core.specs.declared.reply.Reply.{Reply}
-use Rattle.comm_core.specs.declared.plan.Plan.{Plan}
-use Rattle.comm_core.specs.declared.plan.Plan.TheVariants.{Register, Replace}
+use Rattle.comm_core.specs.declared.table_update.TableUpdate.{TableUpdate}
+use Rattle.comm_core.specs.declared.table_update.TableUpdate.TheVariants.{Register, Replace}
 use Rattle.comm_core.proofs.Names.{has_target}
 use Rattle.comm_core.proofs.Asking.{nobody_ends, nothing_staged}
 use Rattle.comm_core.proofs.Staging.{none_of, unstaged-there, machine-unstaged, unstaged-same, unstaged-twice, distinct-unstaged, all_unstaged}
@@ -46,12 +46,12 @@ sound_unstaged b b2 r c s h e = sound_after b2 r c s (rw (e, unstaged-twice b) h
 -- ---- what stands ready
 
 -- a call that hands no target in
-pub call_ready : (l : ℕ) (b b' : Targets) (c : Opens) (k : Call) (o : Option Outcome) (r : Reply) (out : List Outgoing) (plan : Plan)
+pub call_ready : (l : ℕ) (b b' : Targets) (c : Opens) (k : Call) (o : Option Outcome) (r : Reply) (out : List Outgoing) (plan : TableUpdate)
     → HasCome l b c k o r out plan b' → IsReady (state l b' c false) (readied k o r out plan None)
 call_ready l b b' c k o r out plan h =
     let same : machine_of b c ≡ machine_of b' c = sym (machine-unstaged b b' c h.unstaged_is) in
     record {
-      begun = refl;
+      prepared = refl;
       allowed = subst (λ (m : Machine). Allowed m (asks l m k) o) same h.allowed;
       staged = subst (λ (m : Machine). AnswerIsStaged b' (asks l m k) o) same h.staged;
       step_is = subst (λ (m : Machine). step l m k o ≡ Some (record { reply = r; outgoing = out; next = planned m plan o })) same h.step_is;
@@ -68,10 +68,10 @@ undone_is S l b b1 b' r c c' s z es settled h e1 ec eb =
     ap (λ x. state l x c' true) b3 ∙ ap (λ x. state l b x true) ec ∙ ap (λ x. state l b c x) (sym t) ∙ es
 
 -- what stands ready, by its parts
-pub ready_of : (S : CoreValue) (D : Readied) (l : ℕ) (b : Targets) (c : Opens) (z : Bool) (k : Call) (o : Option Outcome) (r : Reply) (out : List Outgoing) (plan : Plan) (m : Option Meaning)
+pub ready_of : (S : CoreValue) (D : Readied) (l : ℕ) (b : Targets) (c : Opens) (z : Bool) (k : Call) (o : Option Outcome) (r : Reply) (out : List Outgoing) (plan : TableUpdate) (m : Option Meaning)
     → state l b c z ≡ S → readied k o r out plan m ≡ D → IsReady S D → IsReady (state l b c false) (readied k o r out plan m)
 ready_of S D l b c z k o r out plan m es ed R =
-    let e : z ≡ false = ap (λ (x : CoreValue). x.settled) es ∙ R.begun in
+    let e : z ≡ false = ap (λ (x : CoreValue). x.settled) es ∙ R.prepared in
     let s1 : state l b c false ≡ S = ap (λ x. state l b c x) (sym e) ∙ es in
     subst (λ x. IsReady (state l b c false) x) (sym ed) (subst (λ x. IsReady x D) (sym s1) R)
 
@@ -104,12 +104,12 @@ module _ (l : ℕ) (b : Targets) (c : Opens) (name : Name) (k : Kind) (n : ℕ) 
   ends true e = refl
   ends false e = sym (nobody_ends b name e)
 
-  pub register_ready : (r : Reply) (out : List Outgoing) (plan : Plan) → ((limit : ℕ) → Done r out (planned (machine_of b c) plan None) ≡ judged limit (machine_of b c) (call.Register name k n))
+  pub register_ready : (r : Reply) (out : List Outgoing) (plan : TableUpdate) → ((limit : ℕ) → Done r out (planned (machine_of b c) plan None) ≡ judged limit (machine_of b c) (call.Register name k n))
       → plan ≡ registering b name k n → IsReady (state l b c false) (readied (call.Register name k n) None r out plan (Some m))
   register_ready r out plan e ep =
       record {
-        begun = refl;
-        allowed = subst (λ v. Allowed (machine_of b c) (question_of v) None) (e l) tt;
+        prepared = refl;
+        allowed = subst (λ v. Allowed (machine_of b c) (request_of v) None) (e l) tt;
         staged = none;
         step_is = ap (λ v. stepped (machine_of b c) v None) (sym (e l));
         stages = λ name m there. none name m there ∙ sym (nothing_staged plan name);
@@ -119,13 +119,13 @@ module _ (l : ℕ) (b : Targets) (c : Opens) (name : Name) (k : Kind) (n : ℕ) 
 
 -- ---- what `finish` says
 
-module _ (S : CoreValue) (D : Readied) (l : ℕ) (b : Targets) (c : Opens) (z : Bool) (k : Call) (o : Option Outcome) (r : Reply) (out : List Outgoing) (plan : Plan) (m : Option Meaning)
+module _ (S : CoreValue) (D : Readied) (l : ℕ) (b : Targets) (c : Opens) (z : Bool) (k : Call) (o : Option Outcome) (r : Reply) (out : List Outgoing) (plan : TableUpdate) (m : Option Meaning)
     (es : state l b c z ≡ S) (ed : readied k o r out plan m ≡ D) (R : IsReady S D) where
   parts : IsReady (state l b c false) (readied k o r out plan m)
   parts = ready_of S D l b c z k o r out plan m es ed R
 
   whole_state : state l b c false ≡ S
-  whole_state = ap (λ x. state l b c x) (sym (ap (λ (x : CoreValue). x.settled) es ∙ R.begun)) ∙ es
+  whole_state = ap (λ x. state l b c x) (sym (ap (λ (x : CoreValue). x.settled) es ∙ R.prepared)) ∙ es
 
   pub finished_step : (b2 : Targets) (c2 : Opens) → Carried b2 c2 (planned (machine_of b c) plan o)
       → step S.limit (machine S) D.call D.outcome ≡ Some (record { reply = r; outgoing = out; next = machine_of b2 c2 })

@@ -5,14 +5,14 @@ use Rattle.comm_targets.specs.declared.event.Event.TheVariants as event
 use Rattle.comm_targets.specs.declared.answer.Answer.{Answer}
 use Rattle.comm_targets.specs.declared.fault.TargetFault.{TargetFault}
 use Rattle.comm_core.specs.Machine.{Name, Machine, at, has}
-use Rattle.comm_core.specs.Step.{Outcome, Stepped, Verdict, Done, Asked, judged, step, stepped, answered, refused, of_comm, is_done, is_full, holds_widget, comm_id}
+use Rattle.comm_core.specs.Step.{Outcome, Stepped, Verdict, Done, AskTarget, judged, step, stepped, answer_step, refusal_step, of_comm, is_done, is_full, holds_widget, comm_id}
 use Rattle.comm_core.specs.declared.comm.Comm.{Comm}
 use Rattle.comm_core.specs.declared.call.Call.{Call}
 use Rattle.comm_core.specs.declared.call.Call.TheVariants.{Register, Open, Msg, Close, Unregister, Launch, Push, Send, HangUp}
 
 abbrev Leaves : Machine → Verdict → Type 0
 Leaves m (Done r out next) = is_done r ≡ false → next ≡ m
-Leaves m (Asked q) = Unit {0}
+Leaves m (AskTarget q) = Unit {0}
 
 done_not : {P : Type 0} → true ≡ false → P
 done_not e = absurd (true≢false e)
@@ -51,13 +51,13 @@ reply_of x s e d = ap (λ (z : Stepped). is_done z.reply) (some_same x s e) ∙ 
 next_of : (x s : Stepped) (m : Machine) → Some x ≡ Some s → x.next ≡ m → s.next ≡ m
 next_of x s m e n = ap (λ (z : Stepped). z.next) (sym (some_same x s e)) ∙ n
 
-answered_done : (m : Machine) (name : Name) (e : Event) (a : Answer) {P : Type 0} → is_done (answered m name e a).reply ≡ false → P
+answered_done : (m : Machine) (name : Name) (e : Event) (a : Answer) {P : Type 0} → is_done (answer_step m name e a).reply ≡ false → P
 answered_done m name (event.Open id version body) a d = done_not d
 answered_done m name (event.Msg id body) a d = done_not d
 answered_done m name (event.Launch id state) a d = done_not d
 answered_done m name (event.Push id state) a d = done_not d
 
-refused_leaves : (m : Machine) (e : Event) (f : TargetFault) (s : Stepped) → refused m e f ≡ Some s → s.next ≡ m
+refused_leaves : (m : Machine) (e : Event) (f : TargetFault) (s : Stepped) → refusal_step m e f ≡ Some s → s.next ≡ m
 refused_leaves m (event.Open id version body) f s e = next_of _ s m e refl
 refused_leaves m (event.Msg id body) f s e = next_of _ s m e refl
 refused_leaves m (event.Launch id state) f s e = none_same s e
@@ -66,9 +66,9 @@ refused_leaves m (event.Push id state) f s e = none_same s e
 stepped_leaves : (m : Machine) (v : Verdict) (o : Option Outcome) (s : Stepped) → Leaves m v → stepped m v o ≡ Some s → is_done s.reply ≡ false → s.next ≡ m
 stepped_leaves m (Done r out next) None s k e d = next_of _ s m e (k (reply_of _ s e d))
 stepped_leaves m (Done r out next) (Some g) s k e d = none_same s e
-stepped_leaves m (Asked q) (Some (Ok a)) s k e d = answered_done m q.name q.event a (reply_of _ s e d)
-stepped_leaves m (Asked q) (Some (Err f)) s k e d = refused_leaves m q.event f s e
-stepped_leaves m (Asked q) None s k e d = none_same s e
+stepped_leaves m (AskTarget q) (Some (Ok a)) s k e d = answered_done m q.name q.event a (reply_of _ s e d)
+stepped_leaves m (AskTarget q) (Some (Err f)) s k e d = refused_leaves m q.event f s e
+stepped_leaves m (AskTarget q) None s k e d = none_same s e
 
 pub refused_leaves_all : (limit : ℕ) (m : Machine) (c : Call) (o : Option Outcome) (s : Stepped) → step limit m c o ≡ Some s → is_done s.reply ≡ false → s.next ≡ m
 refused_leaves_all limit m c o s e d = stepped_leaves m (judged limit m c) o s (judged_leaves limit m c) e d

@@ -5,7 +5,7 @@ use Rattle.comm_targets.specs.declared.answer.Answer.{Answer}
 use Rattle.comm_targets.specs.declared.fault.TargetFault.{TargetFault}
 use Rattle.comm_targets.specs.declared.event.Event.TheVariants as event
 use Rattle.comm_core.specs.Machine.{Name, Machine, at, has, without, ids_of, others, empty, AreDistinct}
-use Rattle.comm_core.specs.Step.{Outcome, Asked, judged, stated, is_full, holds_widget, comm_id}
+use Rattle.comm_core.specs.Step.{Outcome, AskTarget, judged, stated, is_full, holds_widget, comm_id}
 use Rattle.comm_core.specs.Reads.{in_order}
 use Rattle.comm_core.specs.Row.{row_in, row_of, rows, stated_row, told_row, with_row, without_all}
 use Rattle.comm_core.specs.declared.comm.Comm.{Comm}
@@ -48,19 +48,19 @@ module _ (m : Machine) (d : AreDistinct m.comms) where
   ended_leaves : (name : Name) → without_all (ids_of name m.comms) (rows m) ≡ in_order (others name m.comms)
   ended_leaves name = in_order-without_all (ids_of name m.comms) m.comms d ∙ ap in_order (others-without_all name m.comms d)
 
-  leaves_open : (id target : Name) (version : Option Name) (body : _) → Comes (Leaves (Open id target version body) m) m (Asked (record { name = target; state = None; event = event.Open id version body }))
+  leaves_open : (id target : Name) (version : Option Name) (body : _) → Comes (Leaves (Open id target version body) m) m (AskTarget (record { name = target; state = None; event = event.Open id version body }))
   leaves_open id target version body = (
     (λ a g. sym (in_order-snoc m.comms (id, record { target = target; state = a.state }))),
     (λ f s e. comes_told (Leaves (Open id target version body) m) m f _ s refl e),
   )
 
-  leaves_launch : (uuid : List ℕ) (target : Name) (state : Members) → Comes (Leaves (Launch uuid target state) m) m (Asked (record { name = target; state = None; event = event.Launch (comm_id uuid) state }))
+  leaves_launch : (uuid : List ℕ) (target : Name) (state : Members) → Comes (Leaves (Launch uuid target state) m) m (AskTarget (record { name = target; state = None; event = event.Launch (comm_id uuid) state }))
   leaves_launch uuid target state = ((λ a g. sym (in_order-snoc m.comms (comm_id uuid, record { target = target; state = a.state }))), (λ f s e. none_stepped s e))
 
-  leaves_msg : (id : Name) (body : _) (x : Comm) → at m.comms id ≡ Some x → Comes (Leaves (Msg id body) m) m (Asked (record { name = x.target; state = x.state; event = event.Msg id body }))
+  leaves_msg : (id : Name) (body : _) (x : Comm) → at m.comms id ≡ Some x → Comes (Leaves (Msg id body) m) m (AskTarget (record { name = x.target; state = x.state; event = event.Msg id body }))
   leaves_msg id body x there = ((λ a g. told_leaves id x a there), (λ f s e. comes_told (Leaves (Msg id body) m) m f _ s (quiet id (at m.comms id) f) e))
 
-  leaves_push : (id : Name) (state : Members) (x : Comm) → at m.comms id ≡ Some x → Comes (Leaves (Push id state) m) m (Asked (record { name = x.target; state = x.state; event = event.Push id state }))
+  leaves_push : (id : Name) (state : Members) (x : Comm) → at m.comms id ≡ Some x → Comes (Leaves (Push id state) m) m (AskTarget (record { name = x.target; state = x.state; event = event.Push id state }))
   leaves_push id state x there = ((λ a g. told_leaves id x a there), (λ f s e. none_stepped s e))
 
   judged_leaves : (limit : ℕ) (call : Call) → Comes (Leaves call m) m (judged limit m call)

@@ -3,9 +3,9 @@ use Rattle.std.proofs.Common.{◌≡◌, ℕ, Bool, true, false, not, cond, List
 use Rattle.std.specs.Str.{bytes_eq}
 use Rattle.std.specs.List.{list_any}
 use Rattle.comm_value.specs.Tree.{Members}
-use Rattle.comm_targets.specs.Answers.{Answers, echo_of, counted}
+use Rattle.comm_targets.specs.Answers.{Answers, echo_of, count_answer, plain_of}
 use Rattle.comm_targets.specs.declared.kind.Kind.{Kind}
-use Rattle.comm_targets.specs.declared.kind.Kind.TheVariants.{Echo, Counter, Widget, WidgetEcho, Free}
+use Rattle.comm_targets.specs.declared.kind.Kind.TheVariants.{Echo, Counter, Widget, WidgetEcho, Plain, Free}
 use Rattle.comm_targets.specs.declared.event.Event.{Event}
 use Rattle.comm_targets.specs.declared.event.Event.TheVariants as event
 use Rattle.comm_targets.specs.declared.answer.Answer.{Answer}
@@ -35,15 +35,20 @@ echo_state : (e : Event) → (echo_of e).state ≡ None
 echo_state (event.Msg id body) = refl
 echo_state e = refl
 
-counted_state : (n : ℕ) (e : Event) → (counted n e).state ≡ None
-counted_state n (event.Msg id body) = refl
-counted_state n e = refl
+count_state : (n : ℕ) (e : Event) → (count_answer n e).state ≡ None
+count_state n (event.Msg id body) = refl
+count_state n e = refl
+
+plain_state : (e : Event) → (plain_of e).state ≡ None
+plain_state (event.Msg id body) = refl
+plain_state e = refl
 
 no_state : (k : Kind) (notes : ℕ) (now : Option Members) (e : Event) (a : Answer) → is_stateless k ≡ true → Answers k notes now e a → a.state ≡ None
 no_state Echo notes now e a h w = state_is (echo_of e) a w ∙ echo_state e
-no_state Counter notes now e a h w = state_is (counted notes e) a w ∙ counted_state notes e
+no_state Counter notes now e a h w = state_is (count_answer notes e) a w ∙ count_state notes e
 no_state Widget notes now e a h w = absurd (true≢false (sym h))
 no_state WidgetEcho notes now e a h w = absurd (true≢false (sym h))
+no_state Plain notes now e a h w = state_is (plain_of e) a w ∙ plain_state e
 no_state Free notes now e a h w = absurd (true≢false (sym h))
 
 -- the target of this name is asked, of a comm with this state

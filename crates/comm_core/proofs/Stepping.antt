@@ -6,7 +6,7 @@ use Rattle.comm_targets.specs.declared.event.Event.TheVariants as event
 use Rattle.comm_targets.specs.declared.answer.Answer.{Answer}
 use Rattle.comm_targets.specs.declared.fault.TargetFault.{TargetFault}
 use Rattle.comm_core.specs.Machine.{Name, Machine, at, has, without, others}
-use Rattle.comm_core.specs.Step.{Outcome, Stepped, Verdict, Done, Asked, Gives, Allowed, asks, judged, question_of, step, stepped, answered, refused, of_comm, stated, is_full, holds_widget, comm_id}
+use Rattle.comm_core.specs.Step.{Outcome, Stepped, Verdict, Done, AskTarget, Gives, Allowed, asks, judged, request_of, step, stepped, answer_step, refusal_step, of_comm, stated, is_full, holds_widget, comm_id}
 use Rattle.comm_core.specs.Tables.{Opens}
 use Rattle.comm_core.specs.Runs.{Pair, opening, ending, given}
 use Rattle.comm_core.specs.declared.comm.Comm.{Comm}
@@ -20,20 +20,20 @@ use Rattle.comm_core.proofs.Staging.{none_of}
 
 abbrev pub Comes : (Option Outcome → Reply → Machine → Type 0) → Machine → Verdict → Type 0
 Comes P m (Done r out next) = P None r next
-Comes P m (Asked q) =
-    ((a : Answer) → Gives (at m.targets q.name) q (Ok a) → P (Some (Ok a)) (answered m q.name q.event a).reply (answered m q.name q.event a).next)
-    × ((f : TargetFault) (s : Stepped) → refused m q.event f ≡ Some s → P (Some (Err f)) s.reply s.next)
+Comes P m (AskTarget q) =
+    ((a : Answer) → Gives (at m.targets q.name) q (Ok a) → P (Some (Ok a)) (answer_step m q.name q.event a).reply (answer_step m q.name q.event a).next)
+    × ((f : TargetFault) (s : Stepped) → refusal_step m q.event f ≡ Some s → P (Some (Err f)) s.reply s.next)
 
 pub some_same : (x s : Stepped) → Some x ≡ Some s → x ≡ s
 some_same x s e = cc
 
 pub comes : (P : Option Outcome → Reply → Machine → Type 0) (m : Machine) (v : Verdict) (o : Option Outcome) (s : Stepped) → Comes P m v
-    → Allowed m (question_of v) o → stepped m v o ≡ Some s → P o s.reply s.next
+    → Allowed m (request_of v) o → stepped m v o ≡ Some s → P o s.reply s.next
 comes P m (Done r out next) None s h a e = subst (λ (z : Stepped). P None z.reply z.next) (some_same _ s e) h
 comes P m (Done r out next) (Some g) s h a e = absurd a
-comes P m (Asked q) (Some (Ok x)) s h a e = subst (λ (z : Stepped). P (Some (Ok x)) z.reply z.next) (some_same _ s e) (h.0 x a)
-comes P m (Asked q) (Some (Err f)) s h a e = h.1 f s e
-comes P m (Asked q) None s h a e = absurd a
+comes P m (AskTarget q) (Some (Ok x)) s h a e = subst (λ (z : Stepped). P (Some (Ok x)) z.reply z.next) (some_same _ s e) (h.0 x a)
+comes P m (AskTarget q) (Some (Err f)) s h a e = h.1 f s e
+comes P m (AskTarget q) None s h a e = absurd a
 
 module _ (P : Option Outcome → Reply → Machine → Type 0) (m : Machine) where
   pub comes_if : (b : Bool) (v w : Verdict) → (b ≡ true → Comes P m v) → (b ≡ false → Comes P m w) → Comes P m (cond b v w)
@@ -105,28 +105,28 @@ pub record Does (call : Call) (m : Machine) (o : Option Outcome) (r : Reply) (n 
   pub fits : Fits change m.comms
 
 does_open : (m : Machine) (id target : Name) (version : Option Name) (body : _) → has m.comms id ≡ false
-    → Comes (Does (Open id target version body) m) m (Asked (record { name = target; state = None; event = event.Open id version body }))
+    → Comes (Does (Open id target version body) m) m (AskTarget (record { name = target; state = None; event = event.Open id version body }))
 does_open m id target version body new = (
   (λ a g. record { change = begins id target a.state; comms = refl; opens = refl; ends = λ _ _. refl; gives = λ _. refl; fits = none_of (at m.comms id) new }),
   (λ f s e. comes_told (Does (Open id target version body) m) m f _ s (record { change = stays_so; comms = refl; opens = refl; ends = λ _ _. refl; gives = λ _. refl; fits = tt }) e),
 )
 
 does_launch : (m : Machine) (uuid : List ℕ) (target : Name) (state : Members) → has m.comms (comm_id uuid) ≡ false
-    → Comes (Does (Launch uuid target state) m) m (Asked (record { name = target; state = None; event = event.Launch (comm_id uuid) state }))
+    → Comes (Does (Launch uuid target state) m) m (AskTarget (record { name = target; state = None; event = event.Launch (comm_id uuid) state }))
 does_launch m uuid target state new = (
   (λ a g. record { change = begins (comm_id uuid) target a.state; comms = refl; opens = refl; ends = λ _ _. refl; gives = λ _. refl; fits = none_of (at m.comms (comm_id uuid)) new }),
   (λ f s e. none_stepped s e),
 )
 
 does_msg : (m : Machine) (id : Name) (body : _) (x : Comm) → at m.comms id ≡ Some x
-    → Comes (Does (Msg id body) m) m (Asked (record { name = x.target; state = x.state; event = event.Msg id body }))
+    → Comes (Does (Msg id body) m) m (AskTarget (record { name = x.target; state = x.state; event = event.Msg id body }))
 does_msg m id body x there = (
   (λ a g. record { change = tells id x.target a.state; comms = refl; opens = refl; ends = λ _ _. refl; gives = λ _. refl; fits = (x, there, refl) }),
   (λ f s e. comes_told (Does (Msg id body) m) m f _ s (record { change = stays_so; comms = refl; opens = refl; ends = λ _ _. refl; gives = λ _. refl; fits = tt }) e),
 )
 
 does_push : (m : Machine) (id : Name) (state : Members) (x : Comm) → at m.comms id ≡ Some x
-    → Comes (Does (Push id state) m) m (Asked (record { name = x.target; state = x.state; event = event.Push id state }))
+    → Comes (Does (Push id state) m) m (AskTarget (record { name = x.target; state = x.state; event = event.Push id state }))
 does_push m id state x there = (
   (λ a g. record { change = tells id x.target a.state; comms = refl; opens = refl; ends = λ _ _. refl; gives = λ _. refl; fits = (x, there, refl) }),
   (λ f s e. none_stepped s e),

@@ -8,11 +8,11 @@ use Rattle.comm_value.specs.Node.{get}
 use Rattle.comm_value.specs.Merge.{merged}
 use Rattle.comm_messages.specs.Content.{Content}
 use Rattle.comm_targets.specs.Widget as widget
-use Rattle.comm_targets.specs.Widget.{state_of, message_answer, method_answer, update_answer, answer_with, new_state, updated, custom_answer, nothing, one_message, update_of}
+use Rattle.comm_targets.specs.Widget.{state_of, message_answer, method_answer, update_answer, answer_with, new_state, merge_answer, custom_answer, nothing, one_message, update_of}
 use Rattle.comm_targets.specs.Answers.{Answers}
 use Rattle.comm_targets.specs.Meaning.{is_widget}
 use Rattle.comm_targets.specs.declared.kind.Kind.{Kind}
-use Rattle.comm_targets.specs.declared.kind.Kind.TheVariants.{Echo, Counter, Widget, WidgetEcho, Free}
+use Rattle.comm_targets.specs.declared.kind.Kind.TheVariants.{Echo, Counter, Widget, WidgetEcho, Plain, Free}
 use Rattle.comm_targets.specs.declared.event.Event.{Event}
 use Rattle.comm_targets.specs.declared.event.Event.TheVariants as event
 use Rattle.comm_targets.specs.declared.answer.Answer.{Answer}
@@ -27,7 +27,7 @@ use Rattle.comm_core.specs.Reads.{state_of as state_read, state_in, state_at}
 use Rattle.comm_core.specs.Runs.{opening, HasOpened, has_ended, given, given_by, last_given, IsOpenSince, IsLeftOpen}
 use Rattle.comm_core.specs.Updates.{IsRegistered, unregistering, when_ok, opening_state, OpensWith, is_update, told_state, update_in, update, update_by, updates}
 use Rattle.comm_core.specs.declared.comm.Comm.{Comm}
-use Rattle.comm_core.specs.declared.question.Question.{Question}
+use Rattle.comm_core.specs.declared.target_request.TargetRequest.{TargetRequest}
 use Rattle.comm_core.specs.declared.call.Call.{Call}
 use Rattle.comm_core.specs.declared.call.Call.TheVariants.{Register, Open, Msg, Close, Unregister, Launch, Push, Send, HangUp}
 use Rattle.comm_core.specs.declared.reply.Reply.{Reply}
@@ -56,8 +56,8 @@ updated_state : (echoing : Bool) (s : Members) (body : Content) (t : Option Tree
     → a.state ≡ option_map (merged s) (told_state t body)
 updated_state echoing s body None a h = state_is nothing a h
 updated_state echoing s body (Some t) a h =
-    (elim (state_of t body) as (λ r. answer_with (updated echoing s) r ≡ Ok a → a.state ≡ option_map (merged s) (when_ok r)) [
-      | Ok u ↦ λ l. state_is (updated echoing s u) a l
+    (elim (state_of t body) as (λ r. answer_with (merge_answer echoing s) r ≡ Ok a → a.state ≡ option_map (merged s) (when_ok r)) [
+      | Ok u ↦ λ l. state_is (merge_answer echoing s u) a l
       | Err f ↦ λ l. no_answer f a l
     ]) h
 
@@ -100,7 +100,7 @@ opened_state (Ok s) a h = (s, refl, state_is (new_state s) a h)
 opened_state (Err f) a h = no_answer f a h
 
 -- The answer of a target, by its kind.
-pub answers_kind : (m : Machine) (q : Question) (a : Answer) (k : Kind) → HasKind m q.name k → Gives (at m.targets q.name) q (Ok a)
+pub answers_kind : (m : Machine) (q : TargetRequest) (a : Answer) (k : Kind) → HasKind m q.name k → Gives (at m.targets q.name) q (Ok a)
     → (notes : ℕ) × Answers k notes q.state q.event a
 answers_kind m q a k h g =
     (h.0.notes, subst (λ z. Answers z h.0.notes q.state q.event a) h.2 (subst (λ t. Gives t q (Ok a)) h.1 g))
@@ -120,6 +120,7 @@ tells Widget notes now e a h w = (false, w)
 tells WidgetEcho notes now e a h w = (true, w)
 tells Echo notes now e a h w = absurd (true≢false (sym h))
 tells Counter notes now e a h w = absurd (true≢false (sym h))
+tells Plain notes now e a h w = absurd (true≢false (sym h))
 tells Free notes now e a h w = absurd (true≢false (sym h))
 
 pub same_comm : (x y : Comm) → Some x ≡ Some y → x ≡ y

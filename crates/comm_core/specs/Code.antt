@@ -9,8 +9,8 @@ use Rattle.comm_core.specs.Tables.{Table}
 
 abbrev pub table_code : {X : Type 0} → Coded X → Coded (Table X)
 table_code {X} x =
-    code_by (List (List ℕ × X) × ℕ) (coded× (coded_list (coded× (coded_list coded_ℕ) x)) coded_ℕ) (λ t. (t.all, t.room)) (λ p. record { all = p.0; room = p.1 })
-    (λ _. refl)
+    code_by (List (List ℕ × X) × ℕ) (coded× (coded_list (coded× (coded_list coded_ℕ) x)) coded_ℕ)
+    (λ t. (t.all, t.room)) (λ p. record { all = p.0; room = p.1 }) (λ _. refl)
 
 abbrev pub open_code : Coded (List ℕ × Comm)
 open_code = coded× (coded_list coded_ℕ) comm.the_row.coded

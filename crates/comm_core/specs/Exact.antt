@@ -6,7 +6,7 @@ use Rattle.comm_targets.specs.declared.kind.Kind.{Kind}
 use Rattle.comm_targets.specs.declared.kind.Kind.TheVariants.{Free}
 use Rattle.comm_core.specs.Machine.{Registered, Machine, at}
 use Rattle.comm_core.specs.Step.{Outcome, asks}
-use Rattle.comm_core.specs.declared.question.Question.{Question}
+use Rattle.comm_core.specs.declared.target_request.TargetRequest.{TargetRequest}
 use Rattle.comm_core.specs.declared.call.Call.{Call}
 use Rattle.comm_core.specs.declared.call.Call.TheVariants.{Register}
 
@@ -18,11 +18,11 @@ is_free kind = false
 abbrev pub is_exact : Machine → Bool
 is_exact m = list_all (λ e. not (is_free e.1.kind)) m.targets
 
-abbrev pub outcome_by : Option Registered → Question → Option Outcome
+abbrev pub outcome_by : Option Registered → TargetRequest → Option Outcome
 outcome_by None q = None
 outcome_by (Some r) q = Some (answer_of r.kind r.notes q.state q.event)
 
-abbrev pub outcome_at : Machine → Option Question → Option Outcome
+abbrev pub outcome_at : Machine → Option TargetRequest → Option Outcome
 outcome_at m None = None
 outcome_at m (Some q) = outcome_by (at m.targets q.name) q
 

@@ -14,7 +14,8 @@ pub record Registered : Type 0 where
   pub kind : Kind
   pub notes : ℕ
 
--- Two finite maps (after a legal history each key stands once): the targets in the order of registration, the comms in the order of opening.
+-- Two finite maps (after a legal history each key stands once): the targets in the order of registration, the comms
+-- in the order of opening.
 pub record Machine : Type 0 where
   pub targets : List (Name × Registered)
   pub comms : List (Name × Comm)

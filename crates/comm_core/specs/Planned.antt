@@ -9,8 +9,8 @@ use Rattle.comm_core.specs.Row.{put_row, stated_row, closed_row, ended_row}
 use Rattle.comm_core.specs.declared.call.Call.{Call}
 use Rattle.comm_core.specs.declared.call.Call.TheVariants.{Register, Close, Unregister, HangUp}
 use Rattle.comm_core.specs.declared.reply.Reply.{Reply}
-use Rattle.comm_core.specs.declared.plan.Plan.{Plan}
-use Rattle.comm_core.specs.declared.plan.Plan.TheVariants.{Commit}
+use Rattle.comm_core.specs.declared.table_update.TableUpdate.{TableUpdate}
+use Rattle.comm_core.specs.declared.table_update.TableUpdate.TheVariants.{Commit}
 use Rattle.comm_core.specs.declared.row.Row.{Row}
 use Rattle.comm_core.specs.declared.row.Row.TheVariants.{Same}
 
@@ -29,6 +29,6 @@ done_row (Unregister name) r = ended_row r
 done_row (Register name kind notes) r = ended_row r
 done_row call r = Same
 
-abbrev pub planned_row : Plan → Option Outcome → Call → Reply → Row
+abbrev pub planned_row : TableUpdate → Option Outcome → Call → Reply → Row
 planned_row (Commit q) (Some (Ok a)) call r = answered_row q.name q.event a
 planned_row plan o call r = done_row call r

@@ -1,5 +1,6 @@
 -- How a call is planned, and how the plan is carried out; for proofs and private clauses.
-use Rattle.std.specs.Prelude.{◌≡◌, ◌<◌, ℕ, Bool, true, false, List, Option, None, Some, Ok, is_some, option_map, if◌then◌else◌}
+use Rattle.std.specs.Prelude.{◌≡◌, ◌<◌, ℕ, Bool, true, false, List, Option, None, Some, Ok, is_some}
+use Rattle.std.specs.Prelude.{option_map, if◌then◌else◌}
 use Rattle.std.specs.Str.{bytes_eq}
 use Rattle.comm_messages.specs.declared.outgoing.Outgoing.{Outgoing}
 use Rattle.comm_targets.specs.Meaning.{Meaning, IsIdle}
@@ -10,20 +11,25 @@ use Rattle.comm_targets.specs.declared.event.Event.TheVariants as event
 use Rattle.comm_targets.specs.declared.fault.TargetFault.{TargetFault}
 use Rattle.comm_targets.specs.declared.fault.TargetFault.TheVariants as fault
 use Rattle.comm_core.specs.Machine.{Name, Machine, at, has}
-use Rattle.comm_core.specs.Step.{Outcome, Verdict, Done, Asked, step, asks, stepped, answered, with_target, with_another, without_target, without_comm, holds_widget, Allowed}
-use Rattle.comm_core.specs.Tables.{Targets, Opens, Agrees, AnswerIsStaged, HaveStaged, unstaged, emptied, ended_of, machine_of, targets_of}
+use Rattle.comm_core.specs.Step.{Outcome, Verdict, Done, AskTarget, Stepped, step, asks, judged, stepped}
+use Rattle.comm_core.specs.Step.{answer_step, with_target, with_another, without_target, without_comm}
+use Rattle.comm_core.specs.Step.{holds_widget, Allowed}
+use Rattle.comm_core.specs.Tables.{Targets, Opens, Agrees, AnswerIsStaged, HaveStaged, unstaged, emptied}
+use Rattle.comm_core.specs.Tables.{ended_of, machine_of, targets_of}
 use Rattle.comm_core.specs.declared.comm.Comm.{Comm}
-use Rattle.comm_core.specs.declared.question.Question.{Question}
+use Rattle.comm_core.specs.declared.target_request.TargetRequest.{TargetRequest}
 use Rattle.comm_core.specs.declared.call.Call.{Call}
 use Rattle.comm_core.specs.declared.reply.Reply.{Reply}
-use Rattle.comm_core.specs.declared.plan.Plan.{Plan}
-use Rattle.comm_core.specs.declared.plan.Plan.TheVariants.{Register, Replace, Unregister, Close, Commit}
-use Rattle.comm_core.specs.declared.plan.Judged.{Judged}
-use Rattle.comm_core.specs.declared.plan.Judged.TheVariants as judged
+use Rattle.comm_core.specs.declared.table_update.TableUpdate.{TableUpdate}
+use Rattle.comm_core.specs.declared.table_update.TableUpdate.TheVariants.{Register, Replace, Unregister}
+use Rattle.comm_core.specs.declared.table_update.TableUpdate.TheVariants.{Close, Commit}
+use Rattle.comm_core.specs.declared.decision.Decision.{Decision}
+use Rattle.comm_core.specs.declared.decision.Decision.TheVariants as decision
 
 -- ---- the tables
 
--- the tables agree; where no call stands ready nothing is staged, else there is room for one more target and one more comm
+-- the tables agree; where no call stands ready nothing is staged, else there is room for one more target and one more
+-- comm
 pub record IsSound (boxes : Targets) (free : ℕ) (comms : Opens) (spare : ℕ) (settled : Bool) : Type 0 where
   pub agrees : Agrees (unstaged boxes) comms
   pub nothing_staged : settled ≡ true → HaveStaged boxes (λ _. None)
@@ -37,21 +43,30 @@ Carried boxes comms m = Agrees (unstaged boxes) comms × HaveStaged boxes (λ _.
 -- ---- a plan
 
 -- the machine after the plan is carried out
-abbrev pub planned : Machine → Plan → Option Outcome → Machine
+abbrev pub planned : Machine → TableUpdate → Option Outcome → Machine
 planned m (Register name kind notes) o = with_target m name kind notes
 planned m (Replace name kind notes) o = with_another m name kind notes
 planned m (Unregister name) o = without_target m name
 planned m (Close id) o = without_comm m id
-planned m (Commit q) (Some (Ok a)) = (answered m q.name q.event a).next
+planned m (Commit q) (Some (Ok a)) = (answer_step m q.name q.event a).next
 planned m plan o = m
 
-abbrev pub verdict_of : Machine → Judged → Verdict
-verdict_of m (judged.Done r out plan) = Done r out.items (planned m plan None)
-verdict_of m (judged.Asked q) = Asked q
+abbrev pub verdict_of : Machine → Decision → Verdict
+verdict_of m (decision.Done r out plan) = Done r out.items (planned m plan None)
+verdict_of m (decision.AskTarget q) = AskTarget q
+
+-- the decision is what the definition says of the call
+abbrev pub HasVerdict : ℕ → Targets → Opens → Call → Decision → Type 0
+HasVerdict limit boxes comms c d = verdict_of (machine_of boxes comms) d ≡ judged limit (machine_of boxes comms) c
+
+-- the step has this reply, and this goes out by it
+abbrev pub GivesReply : Stepped → Reply → List Outgoing → Type 0
+GivesReply s reply outgoing = s ≡ record { reply = reply; outgoing = outgoing; next = s.next }
 
 -- what is staged in the target of this name
-abbrev pub staged_by : Plan → Option Outcome → Name → Option StagedEvent
-staged_by (Commit q) (Some (Ok a)) name = if bytes_eq name q.name then Some (record { event = q.event; answer = a }) else None
+abbrev pub staged_by : TableUpdate → Option Outcome → Name → Option StagedEvent
+staged_by (Commit q) (Some (Ok a)) name =
+    if bytes_eq name q.name then Some (record { event = q.event; answer = a }) else None
 staged_by plan o name = None
 
 -- a comm is opened that isn't there, or told that is the target's
@@ -75,7 +90,7 @@ CanRefuse (event.Push id state) = ⊥
 CanRefuse e = Unit {0}
 
 -- the target is there, and may be asked this
-pub record CanAsk (boxes : Targets) (comms : Opens) (q : Question) : Type 0 where
+pub record CanAsk (boxes : Targets) (comms : Opens) (q : TargetRequest) : Type 0 where
   pub here : has (targets_of boxes) q.name ≡ true
   pub comms_suit : SuitsComms comms q.name q.event
   pub kind_suits : SuitsKind boxes q.name q.event
@@ -89,19 +104,22 @@ abbrev pub IsSuccessor : Targets → Name → Option Meaning → Meaning → Typ
 IsSuccessor boxes name boxed m = (boxed ≡ Some m) × (is_some (at boxes name) ≡ true) × IsIdle m
 
 -- the plan can be carried out on these tables
-abbrev pub Suits : Targets → Opens → Option Meaning → Plan → Option Outcome → Type 0
-Suits boxes comms boxed (Register name kind notes) o = (m : Meaning) × IsNewcomer boxes name boxed m × (m.kind ≡ kind) × (m.notes ≡ notes)
-Suits boxes comms boxed (Replace name kind notes) o = (m : Meaning) × IsSuccessor boxes name boxed m × (m.kind ≡ kind) × (m.notes ≡ notes)
+abbrev pub Suits : Targets → Opens → Option Meaning → TableUpdate → Option Outcome → Type 0
+Suits boxes comms boxed (Register name kind notes) o =
+    (m : Meaning) × IsNewcomer boxes name boxed m × (m.kind ≡ kind) × (m.notes ≡ notes)
+Suits boxes comms boxed (Replace name kind notes) o =
+    (m : Meaning) × IsSuccessor boxes name boxed m × (m.kind ≡ kind) × (m.notes ≡ notes)
 Suits boxes comms boxed (Commit q) (Some (Ok a)) = (is_some (at boxes q.name) ≡ true) × SuitsComms comms q.name q.event
 Suits boxes comms boxed (Commit q) o = ⊥
 Suits boxes comms boxed plan o = Unit {0}
 
 -- the plan of a register
-abbrev pub registering : Targets → Name → Kind → ℕ → Plan
-registering boxes name kind notes = if has (targets_of boxes) name then Replace name kind notes else Register name kind notes
+abbrev pub registering : Targets → Name → Kind → ℕ → TableUpdate
+registering boxes name kind notes =
+    if has (targets_of boxes) name then Replace name kind notes else Register name kind notes
 
 -- the target that a plan ends, with its comms closed
-abbrev pub ended_by : Targets → Plan → Option Meaning
+abbrev pub ended_by : Targets → TableUpdate → Option Meaning
 ended_by boxes (Unregister name) = option_map emptied (at boxes name)
 ended_by boxes (Replace name kind notes) = option_map emptied (at boxes name)
 ended_by boxes plan = None
@@ -109,13 +127,16 @@ ended_by boxes plan = None
 -- ---- what comes of a call
 
 -- what a call comes to can be carried out, or asked
-abbrev pub IsFeasible : Targets → Opens → Call → Judged → Type 0
-IsFeasible boxes comms c (judged.Done r out plan) = Suits (unstaged boxes) comms None plan None × (ended_by boxes plan ≡ ended_of boxes c)
-IsFeasible boxes comms c (judged.Asked q) = CanAsk boxes comms q × ((bs : Targets) → ended_of bs c ≡ None)
+abbrev pub IsFeasible : Targets → Opens → Call → Decision → Type 0
+IsFeasible boxes comms c (decision.Done r out plan) =
+    Suits (unstaged boxes) comms None plan None × (ended_by boxes plan ≡ ended_of boxes c)
+IsFeasible boxes comms c (decision.AskTarget q) = CanAsk boxes comms q × ((bs : Targets) → ended_of bs c ≡ None)
 
 -- What came of a question: reply and outgoing of the step, an outcome that is allowed, and what is staged now.
-pub record HasAnswered (old : Targets) (comms : Opens) (q : Question) (o : Option Outcome) (r : Reply) (out : List Outgoing) (plan : Plan) (new : Targets) : Type 0 where
-  pub step_is : stepped (machine_of old comms) (Asked q) o ≡ Some (record { reply = r; outgoing = out; next = planned (machine_of old comms) plan o })
+pub record HasAnswered (old : Targets) (comms : Opens) (q : TargetRequest) (o : Option Outcome) (r : Reply)
+    (out : List Outgoing) (plan : TableUpdate) (new : Targets) : Type 0 where
+  pub step_is : stepped (machine_of old comms) (AskTarget q) o
+      ≡ Some (record { reply = r; outgoing = out; next = planned (machine_of old comms) plan o })
   pub allowed : Allowed (machine_of old comms) (Some q) o
   pub staged : AnswerIsStaged new (Some q) o
   pub stages : HaveStaged new (staged_by plan o)
@@ -124,8 +145,10 @@ pub record HasAnswered (old : Targets) (comms : Opens) (q : Question) (o : Optio
   pub ended : ended_by new plan ≡ None
 
 -- What came of a call: reply and outgoing of the step, an outcome that is allowed, and what is staged now.
-pub record HasCome (limit : ℕ) (old : Targets) (comms : Opens) (c : Call) (o : Option Outcome) (r : Reply) (out : List Outgoing) (plan : Plan) (new : Targets) : Type 0 where
-  pub step_is : step limit (machine_of old comms) c o ≡ Some (record { reply = r; outgoing = out; next = planned (machine_of old comms) plan o })
+pub record HasCome (limit : ℕ) (old : Targets) (comms : Opens) (c : Call) (o : Option Outcome) (r : Reply)
+    (out : List Outgoing) (plan : TableUpdate) (new : Targets) : Type 0 where
+  pub step_is : step limit (machine_of old comms) c o
+      ≡ Some (record { reply = r; outgoing = out; next = planned (machine_of old comms) plan o })
   pub allowed : Allowed (machine_of old comms) (asks limit (machine_of old comms) c) o
   pub staged : AnswerIsStaged new (asks limit (machine_of old comms) c) o
   pub stages : HaveStaged new (staged_by plan o)

@@ -12,11 +12,11 @@ use Rattle.comm_core.specs.declared.call.Call.{Call}
 use Rattle.comm_core.specs.contracts.call.Call as call
 use Rattle.comm_core.specs.declared.reply.Reply.{Reply}
 use Rattle.comm_core.specs.contracts.reply.Reply as reply
-use Rattle.comm_core.specs.declared.plan.Plan.{Plan}
-use Rattle.comm_core.specs.contracts.plan.Plan as plan
+use Rattle.comm_core.specs.declared.table_update.TableUpdate.{TableUpdate}
+use Rattle.comm_core.specs.contracts.table_update.TableUpdate as plan
 use Rattle.comm_core.specs.Step.{Outcome}
 use Rattle.comm_core.specs.Tables.{Targets, Opens}
-use Rattle.comm_core.specs.Ready.{CoreValue, Readied}
+use Rattle.comm_core.specs.Ready.{CoreValue, Readied, readied}
 
 abbrev targets_code : Coded Targets
 targets_code = coded_list (coded× (coded_list coded_ℕ) meaning_code)
@@ -26,13 +26,15 @@ opens_code = coded_list (coded× (coded_list coded_ℕ) comm.the_row.coded)
 
 abbrev pub core_code : Coded CoreValue
 core_code =
-    code_by ((ℕ × Bool) × (Targets × Opens)) (coded× (coded× coded_ℕ coded_bool) (coded× targets_code opens_code)) (λ s. ((s.limit, s.settled), (s.boxes, s.comms)))
+    code_by ((ℕ × Bool) × (Targets × Opens)) (coded× (coded× coded_ℕ coded_bool) (coded× targets_code opens_code))
+    (λ s. ((s.limit, s.settled), (s.boxes, s.comms)))
     (λ p. record { limit = p.0.0; boxes = p.1.0; comms = p.1.1; settled = p.0.1 }) (λ _. refl)
 
 abbrev pub readied_code : Coded Readied
 readied_code =
-    code_by ((Call × Option Outcome) × ((Reply × List Outgoing) × (Plan × Option Meaning)))
+    code_by ((Call × Option Outcome) × ((Reply × List Outgoing) × (TableUpdate × Option Meaning)))
     (coded× (coded× call.the_row.coded (coded_option (coded_result answer.the_row.coded fault.the_row.coded)))
-    (coded× (coded× reply.the_row.coded (coded_list outgoing.the_row.coded)) (coded× plan.the_row.coded (coded_option meaning_code))))
+    (coded× (coded× reply.the_row.coded (coded_list outgoing.the_row.coded))
+    (coded× plan.the_row.coded (coded_option meaning_code))))
     (λ r. ((r.call, r.outcome), ((r.reply, r.outgoing), (r.plan, r.boxed))))
-    (λ p. record { call = p.0.0; outcome = p.0.1; reply = p.1.0.0; outgoing = p.1.0.1; plan = p.1.1.0; boxed = p.1.1.1 }) (λ _. refl)
+    (λ p. readied p.0.0 p.0.1 p.1.0.0 p.1.0.1 p.1.1.0 p.1.1.1) (λ _. refl)

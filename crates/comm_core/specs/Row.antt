@@ -10,7 +10,8 @@ use Rattle.comm_core.specs.Reads.{in_order}
 use Rattle.comm_core.specs.Tables.{Opens}
 use Rattle.comm_core.specs.declared.comm.Comm.{Comm}
 use Rattle.comm_core.specs.declared.call.Call.{Call}
-use Rattle.comm_core.specs.declared.call.Call.TheVariants.{Register, Open, Msg, Close, Unregister, Launch, Push, Send, HangUp}
+use Rattle.comm_core.specs.declared.call.Call.TheVariants.{Register, Open, Msg, Close, Unregister, Launch}
+use Rattle.comm_core.specs.declared.call.Call.TheVariants.{Push, Send, HangUp}
 use Rattle.comm_core.specs.declared.reply.Reply.{Reply}
 use Rattle.comm_core.specs.declared.reply.Reply.TheVariants as reply
 use Rattle.comm_core.specs.declared.entry.Entry.{Entry}

@@ -1,5 +1,5 @@
--- What a history tells of each comm by itself, from its calls, replies and answers alone: what opened it, what ended it, and which states it was
--- given. No machine is worked out here.
+-- What a history tells of each comm by itself, from its calls, replies and answers alone: what opened it, what ended
+-- it, and which states it was given. No machine is worked out here.
 use Rattle.std.specs.Prelude.{◌≡◌, Bool, true, false, List, ◌∷◌, ◌++◌, Option, Some, None, Ok, if◌then◌else◌}
 use Rattle.std.specs.List.{list_any, filter_map, last_or}
 use Rattle.std.specs.Str.{bytes_eq}
@@ -9,7 +9,8 @@ use Rattle.comm_core.specs.Step.{Outcome, comm_id}
 use Rattle.comm_core.specs.declared.entry.Entry.{Entry}
 use Rattle.comm_core.specs.declared.entry.Entry.TheVariants.{Change, End}
 use Rattle.comm_core.specs.declared.call.Call.{Call}
-use Rattle.comm_core.specs.declared.call.Call.TheVariants.{Register, Open, Msg, Close, Unregister, Launch, Push, HangUp}
+use Rattle.comm_core.specs.declared.call.Call.TheVariants.{Register, Open, Msg, Close, Unregister, Launch}
+use Rattle.comm_core.specs.declared.call.Call.TheVariants.{Push, HangUp}
 use Rattle.comm_core.specs.declared.reply.Reply.{Reply}
 use Rattle.comm_core.specs.declared.reply.Reply.TheVariants as reply
 
@@ -42,14 +43,16 @@ has_ended id target (Change client number call outcome r outgoing) = ending call
 has_ended id target End = true
 
 -- The opener opened the comm towards the target, and nothing after it ended the comm.
-pub record IsOpenSince (history before : List Entry) (opener : Entry) (after : List Entry) (id target : Name) : Type 0 where
+pub record IsOpenSince (history before : List Entry) (opener : Entry) (after : List Entry)
+    (id target : Name) : Type 0 where
   pub parts : history ≡ before ++ opener ∷ after
   pub opened : HasOpened opener id target
   pub lasts : list_any (has_ended id target) after ≡ false
 
 -- the comm was opened towards the target, and nothing has ended it since
 abbrev pub IsLeftOpen : List Entry → Name → Name → Type 0
-IsLeftOpen history id target = (before : List Entry) × (opener : Entry) × (after : List Entry) × IsOpenSince history before opener after id target
+IsLeftOpen history id target =
+    (before : List Entry) × (opener : Entry) × (after : List Entry) × IsOpenSince history before opener after id target
 
 -- comms of this target are asked for
 abbrev pub AsksFor : Option Name → Name → Type 0

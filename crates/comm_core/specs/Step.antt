@@ -1,12 +1,14 @@
 -- One call of a comm manager.
 --
--- A comm is opened, told and closed by 'comm_open', 'comm_msg' and 'comm_close' ('Messaging in Jupyter' 5.3, "Custom Messages"); whoever is
--- sent an open for a target name that it doesn't know answers at once with 'comm_close'. As ipykernel's comm manager does, an open that its
--- target refuses closes the comm, a message or a close for an id that no comm has is only noted, and a fault in a message leaves the comm open.
--- The register of a name that a target has replaces that target.
--- This manager's own rules: the open of an id that is in use is refused, and no close goes out, since that would end the live comm; to unregister
--- or to replace a target closes its comms in the order of opening; the kernel opens comms towards widgets alone.
-use Rattle.std.specs.Prelude.{ℕ, Bool, true, false, not, nat_le, length, map, List, [], ◌∷◌, ◌++◌, Option, Some, None, Result, Ok, Err, codes, if◌then◌else◌}
+-- A comm is opened, told and closed by 'comm_open', 'comm_msg' and 'comm_close' ('Messaging in Jupyter' 5.3, "Custom
+-- Messages"); whoever is sent an open for a target name that it doesn't know answers at once with 'comm_close'. As
+-- ipykernel's comm manager does, an open that its target refuses closes the comm, a message or a close for an id that
+-- no comm has is only noted, and a fault in a message leaves the comm open. The register of a name that a target has
+-- replaces that target. This manager's own rules: the open of an id that is in use is refused, and no close goes out,
+-- since that would end the live comm; to unregister or to replace a target closes its comms in the order of opening;
+-- the kernel opens comms towards widgets alone.
+use Rattle.std.specs.Prelude.{ℕ, Bool, true, false, not, nat_le, length, map, List, [], ◌∷◌, ◌++◌, Option}
+use Rattle.std.specs.Prelude.{Some, None, Result, Ok, Err, codes, if◌then◌else◌}
 use Rattle.uuid.specs.Text.{hyphenated_text, lower}
 use Rattle.comm_value.specs.Tree.{Members, no_members, member, dict}
 use Rattle.comm_value.specs.Places.{member_paths, member_buffers, plain_members}
@@ -23,9 +25,10 @@ use Rattle.comm_targets.specs.declared.answer.Answer.{Answer}
 use Rattle.comm_targets.specs.declared.fault.TargetFault.{TargetFault}
 use Rattle.comm_core.specs.Machine.{Name, Registered, Machine, at, has, without, with_at, ids_of, others}
 use Rattle.comm_core.specs.declared.comm.Comm.{Comm}
-use Rattle.comm_core.specs.declared.question.Question.{Question}
+use Rattle.comm_core.specs.declared.target_request.TargetRequest.{TargetRequest}
 use Rattle.comm_core.specs.declared.call.Call.{Call}
-use Rattle.comm_core.specs.declared.call.Call.TheVariants.{Register, Open, Msg, Close, Unregister, Launch, Push, Send, HangUp}
+use Rattle.comm_core.specs.declared.call.Call.TheVariants.{Register, Open, Msg, Close, Unregister, Launch}
+use Rattle.comm_core.specs.declared.call.Call.TheVariants.{Push, Send, HangUp}
 use Rattle.comm_core.specs.declared.reply.Refusal.{Refusal}
 use Rattle.comm_core.specs.declared.reply.Refusal.TheVariants as refusal
 use Rattle.comm_core.specs.declared.reply.Reply.{Reply}
@@ -34,17 +37,26 @@ use Rattle.comm_core.specs.declared.reply.Reply.TheVariants as reply
 -- ---- how a call changes the machine
 
 abbrev pub with_target : Machine → Name → Kind → ℕ → Machine
-with_target m name kind notes = record { targets = m.targets ++ (name, record { kind = kind; notes = notes }) ∷ []; comms = m.comms }
+with_target m name kind notes = record {
+  targets = m.targets ++ (name, record { kind = kind; notes = notes }) ∷ [];
+  comms = m.comms;
+}
 
 -- in the place of the target of this name, with no comm
 abbrev pub with_another : Machine → Name → Kind → ℕ → Machine
-with_another m name kind notes = record { targets = with_at m.targets name (record { kind = kind; notes = notes }); comms = others name m.comms }
+with_another m name kind notes = record {
+  targets = with_at m.targets name (record { kind = kind; notes = notes });
+  comms = others name m.comms;
+}
 
 abbrev pub without_target : Machine → Name → Machine
 without_target m name = record { targets = without m.targets name; comms = others name m.comms }
 
 abbrev pub with_comm : Machine → Name → Name → Option Members → Machine
-with_comm m id target state = record { targets = m.targets; comms = m.comms ++ (id, record { target = target; state = state }) ∷ [] }
+with_comm m id target state = record {
+  targets = m.targets;
+  comms = m.comms ++ (id, record { target = target; state = state }) ∷ [];
+}
 
 abbrev pub without_comm : Machine → Name → Machine
 without_comm m id = record { targets = m.targets; comms = without m.comms id }
@@ -60,7 +72,10 @@ noted targets name e None = targets
 noted targets name e (Some r) = with_at targets name (record { kind = r.kind; notes = notes_after r.kind r.notes e })
 
 abbrev pub with_answer : Machine → Name → Name → Event → Answer → Machine
-with_answer m id target e a = record { targets = noted m.targets target e (at m.targets target); comms = stated m.comms id target a.state }
+with_answer m id target e a = record {
+  targets = noted m.targets target e (at m.targets target);
+  comms = stated m.comms id target a.state;
+}
 
 -- ---- what a call comes to before a target is asked
 
@@ -68,7 +83,7 @@ pub data Verdict : Type 0 where
   -- the reply, what goes out, and the machine after it
   Done : Reply → List Outgoing → Machine → Verdict
   -- the target's outcome decides
-  Asked : Question → Verdict
+  AskTarget : TargetRequest → Verdict
 
 -- nothing changes, and nothing goes out
 abbrev pub stays : Machine → Reply → Verdict
@@ -97,28 +112,32 @@ comm_id uuid = hyphenated_text lower uuid
 -- the first of a call's tests that holds, or else what the call does
 abbrev pub judged : ℕ → Machine → Call → Verdict
 judged limit m (Register name kind notes) =
-    if has m.targets name then Done (reply.Replaced (ids_of name m.comms)) (map out.Close (ids_of name m.comms)) (with_another m name kind notes)
+    if has m.targets name
+    then Done (reply.Replaced (ids_of name m.comms)) (map out.Close (ids_of name m.comms))
+    (with_another m name kind notes)
     else Done reply.Registered [] (with_target m name kind notes)
 judged limit m (Open id target version body) =
     if has m.comms id then stays m reply.IdInUse
     else if not (has m.targets target) then refused_open m id refusal.NoTarget
     else if is_full limit m then refused_open m id refusal.TooManyComms
-    else Asked (record { name = target; state = None; event = event.Open id version body })
+    else AskTarget (record { name = target; state = None; event = event.Open id version body })
 judged limit m (Msg id body) =
-    of_comm m (at m.comms id) (λ c. Asked (record { name = c.target; state = c.state; event = event.Msg id body }))
+    of_comm m (at m.comms id) (λ c. AskTarget (record { name = c.target; state = c.state; event = event.Msg id body }))
 judged limit m (Close id) = of_comm m (at m.comms id) (λ c. Done reply.Closed [] (without_comm m id))
 judged limit m (Unregister name) =
-    if has m.targets name then Done (reply.Unregistered (ids_of name m.comms)) (map out.Close (ids_of name m.comms)) (without_target m name)
+    if has m.targets name
+    then Done (reply.Unregistered (ids_of name m.comms)) (map out.Close (ids_of name m.comms)) (without_target m name)
     else stays m reply.NoTarget
 judged limit m (Launch uuid target state) =
     if has m.comms (comm_id uuid) then stays m reply.IdInUse
     else if not (has m.targets target) then stays m reply.NoTarget
     else if not (holds_widget (at m.targets target)) then stays m reply.NotWidget
     else if is_full limit m then stays m (reply.OpenRefused refusal.TooManyComms)
-    else Asked (record { name = target; state = None; event = event.Launch (comm_id uuid) state })
+    else AskTarget (record { name = target; state = None; event = event.Launch (comm_id uuid) state })
 judged limit m (Push id state) =
     of_comm m (at m.comms id)
-    (λ c. if holds_widget (at m.targets c.target) then Asked (record { name = c.target; state = c.state; event = event.Push id state })
+    (λ c. if holds_widget (at m.targets c.target)
+    then AskTarget (record { name = c.target; state = c.state; event = event.Push id state })
     else stays m reply.NotWidget)
 judged limit m (Send id body) = of_comm m (at m.comms id) (λ c. Done (reply.Delivered None) (out.Msg id body ∷ []) m)
 judged limit m (HangUp id) = of_comm m (at m.comms id) (λ c. Done reply.Closed (out.Close id ∷ []) (without_comm m id))
@@ -134,46 +153,54 @@ pub record Stepped : Type 0 where
   pub outgoing : List Outgoing
   pub next : Machine
 
-abbrev pub sent : Name → List Content → List Outgoing
-sent id messages = map (λ body. out.Msg id body) messages
+abbrev pub messages_of : Name → List Content → List Outgoing
+messages_of id messages = map (λ body. out.Msg id body) messages
 
--- the body of the message by which the kernel opens a widget's comm ('Jupyter widgets messaging protocol' 2.1.0, "Instantiating a widget object")
+-- the body of the message by which the kernel opens a widget's comm ('Jupyter widgets messaging protocol' 2.1.0,
+-- "Instantiating a widget object")
 abbrev pub opening_of : Members → Content
 opening_of s = record {
-  content = member (codes "buffer_paths") (paths_tree (member_paths s)) (member (codes "state") (dict (plain_members s)) no_members);
+  content =
+      member (codes "buffer_paths") (paths_tree (member_paths s))
+      (member (codes "state") (dict (plain_members s)) no_members);
   buffers = member_buffers s;
 }
 
-abbrev pub answered : Machine → Name → Event → Answer → Stepped
-answered m target (event.Open id version body) a = record { reply = reply.Opened; outgoing = sent id a.messages; next = with_comm m id target a.state }
-answered m target (event.Msg id body) a = record {
+abbrev pub answer_step : Machine → Name → Event → Answer → Stepped
+answer_step m target (event.Open id version body) a = record {
+  reply = reply.Opened;
+  outgoing = messages_of id a.messages;
+  next = with_comm m id target a.state;
+}
+answer_step m target (event.Msg id body) a = record {
   reply = reply.Delivered a.custom;
-  outgoing = sent id a.messages;
+  outgoing = messages_of id a.messages;
   next = with_answer m id target (event.Msg id body) a;
 }
-answered m target (event.Launch id state) a = record {
+answer_step m target (event.Launch id state) a = record {
   reply = reply.Launched;
   outgoing = out.Open id target (codes "2.1.0") (opening_of state) ∷ [];
   next = with_comm m id target a.state;
 }
-answered m target (event.Push id state) a = record {
+answer_step m target (event.Push id state) a = record {
   reply = reply.Delivered None;
-  outgoing = sent id a.messages;
+  outgoing = messages_of id a.messages;
   next = with_answer m id target (event.Push id state) a;
 }
 
 -- a widget refuses neither of the kernel's own events
-abbrev pub refused : Machine → Event → TargetFault → Option Stepped
-refused m (event.Open id version body) f = Some (record { reply = reply.OpenRefused (refusal.Fault f); outgoing = out.Close id ∷ []; next = m })
-refused m (event.Msg id body) f = Some (record { reply = reply.Fault f; outgoing = []; next = m })
-refused m (event.Launch id state) f = None
-refused m (event.Push id state) f = None
+abbrev pub refusal_step : Machine → Event → TargetFault → Option Stepped
+refusal_step m (event.Open id version body) f =
+    Some (record { reply = reply.OpenRefused (refusal.Fault f); outgoing = out.Close id ∷ []; next = m })
+refusal_step m (event.Msg id body) f = Some (record { reply = reply.Fault f; outgoing = []; next = m })
+refusal_step m (event.Launch id state) f = None
+refusal_step m (event.Push id state) f = None
 
 -- none where an outcome is missing, or is there though no target is asked
 abbrev pub stepped : Machine → Verdict → Option Outcome → Option Stepped
 stepped m (Done r out next) None = Some (record { reply = r; outgoing = out; next = next })
-stepped m (Asked q) (Some (Ok a)) = Some (answered m q.name q.event a)
-stepped m (Asked q) (Some (Err f)) = refused m q.event f
+stepped m (AskTarget q) (Some (Ok a)) = Some (answer_step m q.name q.event a)
+stepped m (AskTarget q) (Some (Err f)) = refusal_step m q.event f
 stepped m v o = None
 
 -- at most `limit` comms are open at a time
@@ -193,21 +220,21 @@ is_done r = false
 
 -- ---- which outcomes are allowed
 
-abbrev pub question_of : Verdict → Option Question
-question_of (Asked q) = Some q
-question_of (Done r out next) = None
+abbrev pub request_of : Verdict → Option TargetRequest
+request_of (AskTarget q) = Some q
+request_of (Done r out next) = None
 
 -- which target is asked, and what
-abbrev pub asks : ℕ → Machine → Call → Option Question
-asks limit m call = question_of (judged limit m call)
+abbrev pub asks : ℕ → Machine → Call → Option TargetRequest
+asks limit m call = request_of (judged limit m call)
 
-abbrev pub Gives : Option Registered → Question → Outcome → Type 0
+abbrev pub Gives : Option Registered → TargetRequest → Outcome → Type 0
 Gives None q o = ⊥
 Gives (Some r) q (Ok a) = Answers r.kind r.notes q.state q.event a
 Gives (Some r) q (Err f) = Refuses r.kind r.notes q.state q.event f
 
 -- an outcome is there exactly where a target is asked, and it is one that its kind may give
-abbrev pub Allowed : Machine → Option Question → Option Outcome → Type 0
+abbrev pub Allowed : Machine → Option TargetRequest → Option Outcome → Type 0
 Allowed m None None = Unit {0}
 Allowed m (Some q) (Some o) = Gives (at m.targets q.name) q o
 Allowed m q o = ⊥

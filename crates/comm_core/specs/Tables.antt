@@ -1,12 +1,13 @@
 -- The tables of a manager, the machine that they mean, and what is staged in them.
-use Rattle.std.specs.Prelude.{◌≡◌, ℕ, true, List, [], ◌∷◌, Option, None, Some, Ok, is_some, map, option_map, if◌then◌else◌}
+use Rattle.std.specs.Prelude.{◌≡◌, ℕ, true, List, [], ◌∷◌, Option, None, Some, Ok, is_some, map, option_map}
+use Rattle.std.specs.Prelude.{if◌then◌else◌}
 use Rattle.std.specs.Str.{bytes_eq}
 use Rattle.comm_targets.specs.Meaning.{Meaning, after_abandon, IsIdle}
 use Rattle.comm_targets.specs.declared.staged_event.StagedEvent.{StagedEvent}
 use Rattle.comm_core.specs.Machine.{Name, Registered, Machine, AreDistinct, at, ids_of}
 use Rattle.comm_core.specs.Step.{Outcome}
 use Rattle.comm_core.specs.declared.comm.Comm.{Comm}
-use Rattle.comm_core.specs.declared.question.Question.{Question}
+use Rattle.comm_core.specs.declared.target_request.TargetRequest.{TargetRequest}
 use Rattle.comm_core.specs.declared.call.Call.{Call}
 use Rattle.comm_core.specs.declared.call.Call.TheVariants.{Register, Unregister}
 
@@ -39,7 +40,8 @@ entry_of (Some e) = e ∷ []
 
 -- ---- the targets and the comms
 
--- no name and no id stands twice; each target has the ids of its comms, in the order of opening; and each comm's target is there
+-- no name and no id stands twice; each target has the ids of its comms, in the order of opening; and each comm's
+-- target is there
 pub record Agrees (boxes : Targets) (comms : Opens) : Type 0 where
   pub names : AreDistinct boxes
   pub distinct : AreDistinct comms
@@ -60,12 +62,13 @@ abbrev pub unstaged : Targets → Targets
 unstaged boxes = map (λ e. (e.0, after_abandon e.1)) boxes
 
 -- what is staged in the target of this name: the answer of the one that was asked, with its event
-abbrev pub staged_as : Option Outcome → Option Question → Name → Option StagedEvent
-staged_as (Some (Ok a)) (Some q) name = if bytes_eq name q.name then Some (record { event = q.event; answer = a }) else None
+abbrev pub staged_as : Option Outcome → Option TargetRequest → Name → Option StagedEvent
+staged_as (Some (Ok a)) (Some q) name =
+    if bytes_eq name q.name then Some (record { event = q.event; answer = a }) else None
 staged_as o q name = None
 
 -- an answer stands staged in the target that was asked, and nothing else is staged
-abbrev pub AnswerIsStaged : Targets → Option Question → Option Outcome → Type 0
+abbrev pub AnswerIsStaged : Targets → Option TargetRequest → Option Outcome → Type 0
 AnswerIsStaged boxes asked outcome = HaveStaged boxes (staged_as outcome asked)
 
 -- ---- a target that ends

@@ -1,5 +1,6 @@
 -- How a history tells of the targets and of the states of their comms, from its calls and replies alone.
-use Rattle.std.specs.Prelude.{◌≡◌, Bool, true, false, List, ◌∷◌, ◌++◌, Option, Some, None, Result, Ok, Err, codes, if◌then◌else◌}
+use Rattle.std.specs.Prelude.{◌≡◌, Bool, true, false, List, ◌∷◌, ◌++◌, Option, Some, None, Result, Ok, Err}
+use Rattle.std.specs.Prelude.{codes, if◌then◌else◌}
 use Rattle.std.specs.List.{list_any, filter_map}
 use Rattle.std.specs.Str.{bytes_eq}
 use Rattle.comm_value.specs.Tree.{Tree, text, Members}
@@ -8,7 +9,7 @@ use Rattle.comm_messages.specs.Content.{Content}
 use Rattle.comm_targets.specs.Widget as widget
 use Rattle.comm_targets.specs.Widget.{state_of}
 use Rattle.comm_targets.specs.declared.kind.Kind.{Kind}
-use Rattle.comm_targets.specs.declared.kind.Kind.TheVariants.{Echo, Counter}
+use Rattle.comm_targets.specs.declared.kind.Kind.TheVariants.{Echo, Counter, Plain}
 use Rattle.comm_targets.specs.declared.fault.TargetFault.{TargetFault}
 use Rattle.comm_core.specs.Machine.{Name}
 use Rattle.comm_core.specs.declared.entry.Entry.{Entry}
@@ -53,6 +54,7 @@ pub record IsRegistered (history : List Entry) (name : Name) (kind : Kind) : Typ
 abbrev pub is_stateless : Kind → Bool
 is_stateless Echo = true
 is_stateless Counter = true
+is_stateless Plain = true
 is_stateless kind = false
 
 -- ---- what a widget is told ('Jupyter widgets messaging protocol' 2.1.0)
@@ -81,9 +83,11 @@ told_state (Some t) body = when_ok (state_of t body)
 
 -- the keys with their values that a message of the method `update` tells, its buffers put back ("Synchronizing state")
 abbrev pub update_in : Content → Option Members
-update_in body = if is_update (get (codes "method") body.content) then told_state (get (codes "state") body.content) body else None
+update_in body =
+    if is_update (get (codes "method") body.content) then told_state (get (codes "state") body.content) body else None
 
--- the keys with their values that the call tells the comm, where it's delivered: those of an `update` of the frontend, or of a push of the kernel
+-- the keys with their values that the call tells the comm, where it's delivered: those of an `update` of the
+-- frontend, or of a push of the kernel
 abbrev pub update : Name → Call → Reply → Option Members
 update id (Msg told body) (reply.Delivered custom) = if bytes_eq id told then update_in body else None
 update id (Push told state) (reply.Delivered custom) = if bytes_eq id told then Some state else None

@@ -2,118 +2,126 @@
 ghost use Rattle.std.specs.Prelude.{◌≡◌, ℕ, Bool, IfOk, OnErr, None, Some};
 ghost use Rattle.comm_targets.specs.declared.event.Event.{Event};
 ghost use Rattle.comm_core.specs.Machine.{Machine};
-ghost use Rattle.comm_core.specs.Step.{answered, refused};
+ghost use Rattle.comm_core.specs.Step.{answer_step, refusal_step};
 ghost use Rattle.comm_core.specs.Tables.{machine_of, Agrees, HaveStaged, unstaged};
 ghost use Rattle.comm_core.specs.Ready.{HandsNothingIn};
-ghost use Rattle.comm_core.specs.Plans.{CanAsk, CanRefuse, HasAnswered, HasCome, is_memory};
+ghost use Rattle.comm_core.specs.Plans.{CanAsk, CanRefuse, GivesReply, HasAnswered, HasCome, is_memory};
 
-use crate::boxes::Boxes;
 use crate::call::Call;
 use crate::comms::Comms;
+use crate::decision::Decision;
+use crate::evaluation::Evaluation;
 use crate::judge::judge;
-use crate::outgoing::{closing, launching, sent};
-use crate::plan::{Came, Judged, Plan};
-use crate::question::Question;
+use crate::outgoing::{close_message, messages_of, open_message};
 use crate::reply::{Refusal, Reply};
+use crate::table_update::TableUpdate;
+use crate::target_request::TargetRequest;
+use crate::target_table::TargetTable;
 use comm_messages::Outgoing;
 use comm_targets::{Answer, Custom, Event, Target, TargetFault};
 use std::alloc::{AllocError, Global};
 
 /// What comes of a call that hands no target in.
-pub fn comes_of<T: Target>(
-    boxes: &mut Boxes<T>,
+pub fn evaluate<T: Target>(
+    boxes: &mut TargetTable<T>,
     comms: &Comms,
     limit: usize,
     alloc: Global,
     call: Call,
-) -> Result<Came, AllocError>
+) -> Result<Evaluation, AllocError>
     requires none { HaveStaged boxes.old.all (λ _. None) }
     requires agrees { Agrees (unstaged boxes.old.all) comms.now.all }
     requires call { HandsNothingIn call }
-    ensures came { IfOk result (λ r. HasCome limit boxes.old.all comms.now.all call r.outcome r.reply r.outgoing.items r.plan boxes.new.all) }
+    ensures came { IfOk result (λ r. HasCome limit boxes.old.all comms.now.all call
+        r.outcome r.reply r.outgoing.items r.plan boxes.new.all) }
     ensures err { OnErr result (boxes.new.all ≡ boxes.old.all) }
     ensures room { boxes.new.room ≡ boxes.old.room }
 {
     match judge(boxes, comms, limit, alloc, call)? {
-        Judged::Done(reply, outgoing, plan) => Ok(Came {
+        Decision::Done(reply, outgoing, plan) => Ok(Evaluation {
             outcome: None,
             reply,
             outgoing,
             plan,
         }),
-        Judged::Asked(question) => ask(boxes, comms, alloc, question),
+        Decision::AskTarget(request) => ask(boxes, comms, alloc, request),
     }
 }
 
 /// Asks a target.
 fn ask<T: Target>(
-    boxes: &mut Boxes<T>,
+    boxes: &mut TargetTable<T>,
     comms: &Comms,
     alloc: Global,
-    question: Question,
-) -> Result<Came, AllocError>
+    request: TargetRequest,
+) -> Result<Evaluation, AllocError>
     requires none { HaveStaged boxes.old.all (λ _. None) }
     requires agrees { Agrees (unstaged boxes.old.all) comms.now.all }
-    requires asked { CanAsk boxes.old.all comms.now.all question }
-    ensures came { IfOk result (λ r. HasAnswered boxes.old.all comms.now.all question r.outcome r.reply r.outgoing.items r.plan boxes.new.all) }
+    requires asked { CanAsk boxes.old.all comms.now.all request }
+    ensures came { IfOk result (λ r. HasAnswered boxes.old.all comms.now.all request
+        r.outcome r.reply r.outgoing.items r.plan boxes.new.all) }
     ensures err { OnErr result (boxes.new.all ≡ boxes.old.all) }
     ensures room { boxes.new.room ≡ boxes.old.room }
 {
-    match boxes.prepare(&question.name, &question.event, question.state.as_ref()) {
-        Ok(answer) => match answered(alloc, &question, &answer) {
-            Ok((reply, outgoing)) => Ok(Came {
+    match boxes.prepare(&request.name, &request.event, request.state.as_ref()) {
+        Ok(answer) => match answer_step(alloc, &request, &answer) {
+            Ok((reply, outgoing)) => Ok(Evaluation {
                 outcome: Some(Ok(answer)),
                 reply,
                 outgoing,
-                plan: Plan::Commit(question),
+                plan: TableUpdate::Commit(request),
             }),
             Err(_) => {
-                boxes.abandon(&question.name);
-                drop(question);
+                boxes.abandon(&request.name);
+                drop(request);
                 drop(answer);
                 Err(AllocError)
             }
         },
         Err(fault) => {
             if is_memory(fault) {
-                drop(question);
+                drop(request);
                 return Err(AllocError);
             }
-            let refusal = refused(alloc, &question.event, fault);
-            drop(question);
+            let refusal = refusal_step(alloc, &request.event, fault);
+            drop(request);
             let (reply, outgoing) = refusal?;
-            Ok(Came {
+            Ok(Evaluation {
                 outcome: Some(Err(fault)),
                 reply,
                 outgoing,
-                plan: Plan::Nothing,
+                plan: TableUpdate::Nothing,
             })
         }
     }
 }
 
 /// The reply to an event that the target answers, and what goes out.
-fn answered(
+fn answer_step(
     alloc: Global,
-    question: &Question,
+    request: &TargetRequest,
     answer: &Answer,
 ) -> Result<(Reply, Vec<Outgoing>), AllocError>
-    ensures { IfOk result (λ r. (m : Machine) → answered m question.now.name question.now.event answer.now ≡ record { reply = r.0; outgoing = r.1.items; next = (answered m question.now.name question.now.event answer.now).next }) }
+    ensures { IfOk result (λ r. (m : Machine) → GivesReply
+        (answer_step m request.now.name request.now.event answer.now) r.0 r.1.items) }
 {
-    match &question.event {
-        Event::Open { id, .. } => Ok((Reply::Opened, sent(alloc, id, &answer.messages)?)),
+    match &request.event {
+        Event::Open { id, .. } => Ok((Reply::Opened, messages_of(alloc, id, &answer.messages)?)),
         Event::Msg { id, .. } => {
-            let outgoing = sent(alloc, id, &answer.messages)?;
+            let outgoing = messages_of(alloc, id, &answer.messages)?;
             let custom = custom_copy(alloc, &answer.custom)?;
             Ok((Reply::Delivered(custom), outgoing))
         }
         Event::Launch { id, state } => {
             Ok((
                 Reply::Launched,
-                launching(alloc, id, &question.name, state)?,
+                open_message(alloc, id, &request.name, state)?,
             ))
         }
-        Event::Push { id, .. } => Ok((Reply::Delivered(None), sent(alloc, id, &answer.messages)?)),
+        Event::Push { id, .. } => Ok((
+            Reply::Delivered(None),
+            messages_of(alloc, id, &answer.messages)?,
+        )),
     }
 }
 
@@ -126,19 +134,21 @@ fn custom_copy(alloc: Global, custom: &Option<Custom>) -> Result<Option<Custom>,
     }
 }
 
-/// The reply to an event that the target refuses, and what goes out. A widget refuses neither of the kernel's own events.
-fn refused(
+/// The reply to an event that the target refuses, and what goes out. A widget refuses neither of the kernel's own
+/// events.
+fn refusal_step(
     alloc: Global,
     event: &Event,
     fault: TargetFault,
 ) -> Result<(Reply, Vec<Outgoing>), AllocError>
     requires { CanRefuse event.now }
-    ensures { IfOk result (λ r. (m : Machine) → refused m event.now fault ≡ Some (record { reply = r.0; outgoing = r.1.items; next = m })) }
+    ensures { IfOk result (λ r. (m : Machine) → refusal_step m event.now fault
+        ≡ Some (record { reply = r.0; outgoing = r.1.items; next = m })) }
 {
     match event {
         Event::Open { id, .. } => Ok((
             Reply::OpenRefused(Refusal::Fault(fault)),
-            closing(alloc, id)?,
+            close_message(alloc, id)?,
         )),
         Event::Msg { .. } => Ok((Reply::Fault(fault), Vec::new(alloc))),
         Event::Launch { .. } => unreachable!(),

@@ -13,7 +13,8 @@ use uuid::Uuid;
 /// "Custom Messages"); the kernel itself asks for the others.
 #[derive(Drop)]
 pub enum Call {
-    /// Registers a target of this kind and with these notes under a name, in the place of the target that has it, if there is one.
+    /// Registers a target of this kind and with these notes under a name, in the place of the target that has it, if
+    /// there is one.
     Register {
         name: Text,
         kind: Kind,
@@ -40,7 +41,8 @@ pub enum Call {
     Unregister {
         name: Text,
     },
-    /// The kernel opens a widget's comm with this state. The comm's id is the hyphenated text of the UUID, in small letters.
+    /// The kernel opens a widget's comm with this state. The comm's id is the hyphenated text of the UUID, in small
+    /// letters.
     Launch {
         id: Uuid,
         target: Text,
@@ -63,7 +65,7 @@ pub enum Call {
 }
 
 impl Call {
-    /// The same call. Its texts, states and buffers are shared.
+    /// A copy, which shares the strings, states and buffers. Err: memory.
     pub fn copy(&self, alloc: Global) -> Result<Call, AllocError>
         ensures { IfOk result (λ c. c ≡ self.now) }
     {
@@ -80,7 +82,7 @@ impl Call {
                 body,
             } => open_copy(alloc, id, target, version, body),
             Call::Msg { id, body } => {
-                let (id, body) = told_copy(alloc, id, body)?;
+                let (id, body) = message_copy(alloc, id, body)?;
                 Ok(Call::Msg { id, body })
             }
             Call::Close { id } => Ok(Call::Close { id: id.copy()? }),
@@ -98,7 +100,7 @@ impl Call {
                 Ok(Call::Push { id, state })
             }
             Call::Send { id, body } => {
-                let (id, body) = told_copy(alloc, id, body)?;
+                let (id, body) = message_copy(alloc, id, body)?;
                 Ok(Call::Send { id, body })
             }
             Call::HangUp { id } => Ok(Call::HangUp { id: id.copy()? }),
@@ -115,7 +117,7 @@ fn open_copy(
 ) -> Result<Call, AllocError>
     ensures { IfOk result (λ c. c ≡ call.Open id.now target.now version.now body.now) }
 {
-    let (id, body) = told_copy(alloc, id, body)?;
+    let (id, body) = message_copy(alloc, id, body)?;
     let names = names_copy(target, version);
     match names {
         Ok((target, version)) => Ok(Call::Open {
@@ -132,7 +134,7 @@ fn open_copy(
 }
 
 // A comm's id and a body.
-fn told_copy(alloc: Global, id: &Text, body: &Body) -> Result<(Text, Body), AllocError>
+fn message_copy(alloc: Global, id: &Text, body: &Body) -> Result<(Text, Body), AllocError>
     ensures { IfOk result (λ c. c ≡ (id.now, body.now)) }
 {
     let id = id.copy()?;

@@ -1,5 +1,6 @@
 //! The open comms by id.
-ghost use Rattle.std.specs.Prelude.{◌≡◌, ◌<◌, ◌≤◌, ◌++◌, true, [], ◌∷◌, not, IfOk, OnOk, IsSome, Option, None, Some, option_map, length, nat_le};
+ghost use Rattle.std.specs.Prelude.{◌≡◌, ◌<◌, ◌≤◌, ◌++◌, true, [], ◌∷◌, not, IfOk, OnOk, IsSome, Option};
+ghost use Rattle.std.specs.Prelude.{None, Some, option_map, length, nat_le};
 ghost use Rattle.std.specs.Str.{bytes_eq};
 ghost use Rattle.comm_targets.specs.Meaning.{Meaning, IsIdle};
 ghost use Rattle.comm_core.specs.Machine.{at, has, without, with_at, ids_of, others};
@@ -10,7 +11,7 @@ ghost use Rattle.comm_core.specs.declared.comm.Comm.{Comm};
 
 use crate::comm::Comm;
 use crate::ids::Ids;
-use crate::infos::listed;
+use crate::infos::infos_of;
 use comm_messages::Infos;
 use comm_targets::{Held, Target};
 use comm_value::{Dict, Text};
@@ -44,6 +45,7 @@ impl Model for Comms {
 }
 
 impl Comms {
+    /// No comm is open.
     pub fn new(alloc: Global) -> Comms
         ensures { result.all ≡ [] }
     {
@@ -53,7 +55,7 @@ impl Comms {
         }
     }
 
-    /// Makes room for one more.
+    /// Makes room for one more. Err: memory.
     pub fn reserve(&mut self) -> Result<(), AllocError>
         ensures all { self.new.all ≡ self.old.all }
         ensures room { OnOk result (0 < self.new.room) }
@@ -68,12 +70,14 @@ impl Comms {
         limit <= self.all.len()
     }
 
+    /// Whether a comm has the id.
     pub fn contains(&self, id: &Text) -> bool
         ensures { result ≡ has self.now.all id.now }
     {
         self.all.contains(id)
     }
 
+    /// The comm of this id.
     pub fn get(&self, id: &Text) -> Option<&Comm>
         ensures { option_map (λ c. c.now) result ≡ at self.now.all id.now }
     {
@@ -102,7 +106,8 @@ impl Comms {
 
     /// Gives a comm another state, which no listing shows.
     pub fn set_state(&mut self, id: &Text, state: Dict)
-        ensures all { (c : Comm) → at self.old.all id.now ≡ Some c → self.new.all ≡ with_at self.old.all id.now (record { target = c.target; state = Some state }) }
+        ensures all { (c : Comm) → at self.old.all id.now ≡ Some c → self.new.all ≡
+            with_at self.old.all id.now (record { target = c.target; state = Some state }) }
         ensures room { self.new.room ≡ self.old.room }
     {
         self.all.update(
@@ -114,7 +119,7 @@ impl Comms {
         );
     }
 
-    /// The ids of a target's comms, in the order of opening.
+    /// The ids of a target's comms, in the order of opening. It costs a walk over all comms. Err: memory.
     pub fn ids_of(&self, alloc: Global, name: &Text) -> Result<Ids, AllocError>
         ensures { IfOk result (λ ids. ids ≡ ids_of name.now self.now.all) }
     {
@@ -135,7 +140,7 @@ impl Comms {
     {
         match &self.kept {
             Some(kept) => kept.copy(),
-            None => listed(alloc, self.in_order(alloc)?),
+            None => infos_of(alloc, self.in_order(alloc)?),
         }
     }
 

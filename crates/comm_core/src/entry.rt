@@ -4,7 +4,7 @@ ghost use Rattle.std.specs.Arc.{arc_value};
 ghost use Rattle.comm_core.specs.declared.entry.Entry.TheVariants.{Change};
 
 use crate::call::Call;
-use crate::manager::{Begun, Ready};
+use crate::prepared_change::{PreparedChange, Ready};
 use crate::reply::Reply;
 use comm_messages::Outgoing;
 use comm_targets::{Answer, Target, TargetFault};
@@ -34,8 +34,8 @@ impl Model for Outgoings {
 /// An entry of a history.
 #[derive(Drop)]
 pub enum Entry {
-    /// The call of a client, by its number among that client's calls, from 1, with what a target gave where one was asked, the
-    /// reply, and what went out.
+    /// The call of a client, by its number among that client's calls, from 1, with what a target gave where one was
+    /// asked, the reply, and what went out.
     Change {
         client: u8,
         number: u64,
@@ -56,7 +56,7 @@ impl Outgoings {
         Outgoings { all }
     }
 
-    /// The same messages, shared.
+    /// A copy of these messages, which shares their strings and buffers. Err: memory.
     pub fn copy_of(alloc: Global, messages: &[Outgoing]) -> Result<Outgoings, AllocError>
         ensures { IfOk result (λ o. o ≡ messages.now) }
     {
@@ -67,6 +67,7 @@ impl Outgoings {
         Ok(Outgoings { all })
     }
 
+    /// The messages, in the order in which they go out.
     pub fn as_slice(&self) -> &[Outgoing]
         ensures { result.now ≡ self.now }
     {
@@ -97,23 +98,26 @@ pub fn outcome_copy(
 }
 
 impl<T: Target> Ready<T> {
-    /// The entry of this change in a history: who asks for it, by the client and the call's number among that client's calls, the
-    /// very call, what the target gave, the reply and what goes out. What these carry is shared. An error says that memory ran out.
+    /// The entry of this change in a history: who asks for it, by the client and the call's number among that
+    /// client's calls, the very call, what the target gave, the reply and what goes out. What these carry is shared.
+    /// Err: memory.
     pub fn entry(
         &self,
         alloc: Global,
         client: u8,
         number: u64,
     ) -> Result<Arc<Entry, Global>, AllocError>
-        ensures { IfOk result (λ e. arc_value e ≡ Change client number self.now.call self.now.outcome self.now.reply self.now.outgoing) }
+        ensures { IfOk result (λ e. arc_value e ≡ Change client number
+            self.now.call self.now.outcome self.now.reply self.now.outgoing) }
     {
-        self.begun
+        self.prepared
             .entry(alloc, client, number, self.call.copy(alloc)?)
     }
 }
 
-impl<T: Target> Begun<T> {
-    /// The same, of a change that has spent its call: the caller hands in the copy that it kept.
+impl<T: Target> PreparedChange<T> {
+    /// The entry of this change in a history, as `Ready::entry`, with the copy of the call that the caller kept. What
+    /// the others carry is shared. Err: memory.
     pub fn entry(
         &self,
         alloc: Global,
@@ -121,7 +125,8 @@ impl<T: Target> Begun<T> {
         number: u64,
         call: Call,
     ) -> Result<Arc<Entry, Global>, AllocError>
-        ensures { IfOk result (λ e. arc_value e ≡ Change client number call self.now.outcome self.now.reply self.now.outgoing) }
+        ensures { IfOk result (λ e. arc_value e ≡ Change client number
+            call self.now.outcome self.now.reply self.now.outgoing) }
     {
         let Ok((outcome, reply, outgoing)) = self.result_copy(alloc) else {
             drop(call);

@@ -28,7 +28,7 @@ impl Ids {
         }
     }
 
-    /// One id more, at the end.
+    /// Adds an id at the end. Err: memory; the ids stay as they were.
     pub fn push(&mut self, id: Text) -> Result<(), AllocError>
         ensures ok { OnOk result (self.new ≡ self.old ++ id ∷ []) }
         ensures err { OnErr result (self.new ≡ self.old) }
@@ -37,13 +37,14 @@ impl Ids {
         Ok(())
     }
 
+    /// The ids, in their order.
     pub fn as_slice(&self) -> &[Text]
         ensures { result.now ≡ self.now }
     {
         self.all.as_slice()
     }
 
-    /// The same ids, shared.
+    /// A copy, which shares the ids' strings. Err: memory.
     pub fn copy(&self, alloc: Global) -> Result<Ids, AllocError>
         ensures { IfOk result (λ i. i ≡ self.now) }
     {

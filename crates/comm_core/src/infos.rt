@@ -10,7 +10,7 @@ use std::alloc::{AllocError, Global};
 use std::collections::BTreeMap;
 
 /// The comms of these ids, in their order, with the names of their targets.
-pub fn listed(alloc: Global, pairs: BTreeMap<Text, Text>) -> Result<Infos, AllocError>
+pub fn infos_of(alloc: Global, pairs: BTreeMap<Text, Text>) -> Result<Infos, AllocError>
     requires { IdsAreInOrder (map shown pairs.entries) }
     ensures { IfOk result (λ v. v ≡ map shown pairs.entries) }
 {
@@ -23,7 +23,8 @@ pub fn listed(alloc: Global, pairs: BTreeMap<Text, Text>) -> Result<Infos, Alloc
 
 /// Those of one target where a name is given, otherwise all.
 pub fn part_of(alloc: Global, whole: Infos, target: Option<&Text>) -> Result<Infos, AllocError>
-    ensures { IfOk result (λ v. v ≡ filter (λ i. passes (option_map (λ t. t.now) target.entry) i.target) whole) }
+    ensures { IfOk result (λ v. v ≡
+        filter (λ i. passes (option_map (λ t. t.now) target.entry) i.target) whole) }
 {
     let Some(name) = target else {
         return Ok(whole);

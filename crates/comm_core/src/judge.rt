@@ -6,37 +6,39 @@ ghost use Rattle.comm_core.specs.Machine.{Machine, ids_of};
 ghost use Rattle.comm_core.specs.Step.{Done, judged, stays, refused_open, comm_id};
 ghost use Rattle.comm_core.specs.Tables.{Targets, Opens, machine_of, Agrees, unstaged, ended_of};
 ghost use Rattle.comm_core.specs.Ready.{HandsNothingIn};
-ghost use Rattle.comm_core.specs.Plans.{verdict_of, planned, registering, IsFeasible};
+ghost use Rattle.comm_core.specs.Plans.{verdict_of, planned, registering, IsFeasible, HasVerdict};
 ghost use Rattle.comm_core.specs.declared.call.Call.{Call};
 ghost use Rattle.comm_core.specs.declared.call.Call.TheVariants as call;
-ghost use Rattle.comm_core.specs.declared.plan.Judged.TheVariants as judged;
+ghost use Rattle.comm_core.specs.declared.decision.Decision.TheVariants as decision;
 
-use crate::boxes::Boxes;
 use crate::call::Call;
 use crate::comm::Comm;
 use crate::comms::Comms;
+use crate::decision::Decision;
 use crate::ids::Ids;
-use crate::outgoing::{closing, closings, comm_id, one};
-use crate::plan::{Judged, Plan};
-use crate::question::Question;
+use crate::outgoing::{close_message, close_messages, comm_id, one};
 use crate::reply::{Refusal, Reply};
+use crate::table_update::TableUpdate;
+use crate::target_request::TargetRequest;
+use crate::target_table::TargetTable;
 use comm_messages::{Body, Outgoing};
 use comm_targets::{Event, Kind, Target};
 use comm_value::{Dict, Text};
 use std::alloc::{AllocError, Global};
 use uuid::Uuid;
 
-/// The first of a call's tests that holds, or else what the call does. What the call has in it goes on to the target, or out.
+/// The first of a call's tests that holds, or else what the call does. What the call has in it goes on to the target,
+/// or out.
 pub fn judge<T: Target>(
-    boxes: &Boxes<T>,
+    boxes: &TargetTable<T>,
     comms: &Comms,
     limit: usize,
     alloc: Global,
     call: Call,
-) -> Result<Judged, AllocError>
+) -> Result<Decision, AllocError>
     requires call { HandsNothingIn call }
     requires agrees { Agrees (unstaged boxes.now.all) comms.now.all }
-    ensures verdict { IfOk result (λ j. verdict_of (machine_of boxes.now.all comms.now.all) j ≡ judged limit (machine_of boxes.now.all comms.now.all) call) }
+    ensures verdict { IfOk result (λ j. HasVerdict limit boxes.now.all comms.now.all call j) }
     ensures feasible { IfOk result (λ j. IsFeasible boxes.now.all comms.now.all call j) }
 {
     match call {
@@ -49,7 +51,7 @@ pub fn judge<T: Target>(
         Call::Msg { id, body } => judge_msg(boxes, comms, alloc, id, body),
         Call::Close { id } => Ok(judge_close(comms, alloc, id)),
         Call::Unregister { name } => judge_unregister(boxes, comms, alloc, name),
-        Call::Launch { id, target, state } => match launched(boxes, alloc, &id, target) {
+        Call::Launch { id, target, state } => match launch_names(boxes, alloc, &id, target) {
             Ok((id, target)) => Ok(judge_launch(boxes, comms, limit, alloc, id, target, state)),
             Err(fault) => {
                 drop(state);
@@ -64,24 +66,26 @@ pub fn judge<T: Target>(
 }
 
 /// The reply to a call that changes nothing and sends nothing.
-fn stays(alloc: Global, reply: Reply) -> Judged
+fn stays(alloc: Global, reply: Reply) -> Decision
     ensures verdict { (m : Machine) → verdict_of m result ≡ stays m reply }
-    ensures feasible { (boxes : Targets) (comms : Opens) (c : Call) → ended_of boxes c ≡ None → IsFeasible boxes comms c result }
+    ensures feasible { (boxes : Targets) (comms : Opens) (c : Call) → ended_of boxes c ≡ None
+        → IsFeasible boxes comms c result }
 {
-    Judged::Done(reply, Vec::new(alloc), Plan::Nothing)
+    Decision::Done(reply, Vec::new(alloc), TableUpdate::Nothing)
 }
 
 /// The reply to an open that is refused before its target is asked.
-fn refused_open(alloc: Global, id: Text, why: Refusal) -> Result<Judged, AllocError>
+fn refused_open(alloc: Global, id: Text, why: Refusal) -> Result<Decision, AllocError>
     ensures verdict { IfOk result (λ j. (m : Machine) → verdict_of m j ≡ refused_open m id why) }
-    ensures feasible { IfOk result (λ j. (boxes : Targets) (comms : Opens) (c : Call) → ended_of boxes c ≡ None → IsFeasible boxes comms c j) }
+    ensures feasible { IfOk result (λ j. (boxes : Targets) (comms : Opens) (c : Call)
+        → ended_of boxes c ≡ None → IsFeasible boxes comms c j) }
 {
     let outgoing = one(alloc, Outgoing::Close { id })?;
-    Ok(Judged::Done(Reply::OpenRefused(why), outgoing, Plan::Nothing))
+    Ok(Decision::Done(Reply::OpenRefused(why), outgoing, TableUpdate::Nothing))
 }
 
 fn judge_open<T: Target>(
-    boxes: &Boxes<T>,
+    boxes: &TargetTable<T>,
     comms: &Comms,
     limit: usize,
     alloc: Global,
@@ -89,9 +93,11 @@ fn judge_open<T: Target>(
     target: Text,
     version: Option<Text>,
     body: Body,
-) -> Result<Judged, AllocError>
-    ensures verdict { IfOk result (λ j. verdict_of (machine_of boxes.now.all comms.now.all) j ≡ judged limit (machine_of boxes.now.all comms.now.all) (call.Open id target version body)) }
-    ensures feasible { IfOk result (λ j. IsFeasible boxes.now.all comms.now.all (call.Open id target version body) j) }
+) -> Result<Decision, AllocError>
+    ensures verdict { IfOk result
+        (λ j. HasVerdict limit boxes.now.all comms.now.all (call.Open id target version body) j) }
+    ensures feasible { IfOk result
+        (λ j. IsFeasible boxes.now.all comms.now.all (call.Open id target version body) j) }
 {
     if comms.contains(&id) {
         drop((version, body));
@@ -107,7 +113,7 @@ fn judge_open<T: Target>(
     }
     let event = Event::Open { id, version, body };
     match boxes.shared(target) {
-        Ok(name) => Ok(Judged::Asked(Question {
+        Ok(name) => Ok(Decision::AskTarget(TargetRequest {
             name,
             state: None,
             event,
@@ -120,18 +126,20 @@ fn judge_open<T: Target>(
 }
 
 fn judge_msg<T: Target>(
-    boxes: &Boxes<T>,
+    boxes: &TargetTable<T>,
     comms: &Comms,
     alloc: Global,
     id: Text,
     body: Body,
-) -> Result<Judged, AllocError>
+) -> Result<Decision, AllocError>
     requires { Agrees (unstaged boxes.now.all) comms.now.all }
-    ensures verdict { (limit : ℕ) → IfOk result (λ j. verdict_of (machine_of boxes.now.all comms.now.all) j ≡ judged limit (machine_of boxes.now.all comms.now.all) (call.Msg id body)) }
-    ensures feasible { IfOk result (λ j. IsFeasible boxes.now.all comms.now.all (call.Msg id body) j) }
+    ensures verdict { (limit : ℕ) → IfOk result
+        (λ j. HasVerdict limit boxes.now.all comms.now.all (call.Msg id body) j) }
+    ensures feasible { IfOk result
+        (λ j. IsFeasible boxes.now.all comms.now.all (call.Msg id body) j) }
 {
     match comms.get(&id) {
-        Some(comm) => asked(comm, Event::Msg { id, body }),
+        Some(comm) => ask_target(comm, Event::Msg { id, body }),
         None => {
             drop(body);
             Ok(stays(alloc, Reply::NoComm))
@@ -140,11 +148,12 @@ fn judge_msg<T: Target>(
 }
 
 /// The question to the target of this comm.
-fn asked(comm: &Comm, event: Event) -> Result<Judged, AllocError>
-    ensures { IfOk result (λ j. j ≡ judged.Asked (record { name = comm.now.target; state = comm.now.state; event = event })) }
+fn ask_target(comm: &Comm, event: Event) -> Result<Decision, AllocError>
+    ensures { IfOk result (λ j. j ≡ decision.AskTarget
+        (record { name = comm.now.target; state = comm.now.state; event = event })) }
 {
     match comm_copy(comm) {
-        Ok((name, state)) => Ok(Judged::Asked(Question { name, state, event })),
+        Ok((name, state)) => Ok(Decision::AskTarget(TargetRequest { name, state, event })),
         Err(fault) => {
             drop(event);
             Err(fault)
@@ -171,69 +180,79 @@ pub fn state_copy(comm: &Comm) -> Result<Option<Dict>, AllocError>
     }
 }
 
-fn judge_close(comms: &Comms, alloc: Global, id: Text) -> Judged
-    ensures verdict { (limit : ℕ) (boxes : Targets) → verdict_of (machine_of boxes comms.now.all) result ≡ judged limit (machine_of boxes comms.now.all) (call.Close id) }
+fn judge_close(comms: &Comms, alloc: Global, id: Text) -> Decision
+    ensures verdict { (limit : ℕ) (boxes : Targets)
+        → HasVerdict limit boxes comms.now.all (call.Close id) result }
     ensures feasible { (boxes : Targets) → IsFeasible boxes comms.now.all (call.Close id) result }
 {
     if !comms.contains(&id) {
         return stays(alloc, Reply::NoComm);
     }
-    Judged::Done(Reply::Closed, Vec::new(alloc), Plan::Close { id })
+    Decision::Done(Reply::Closed, Vec::new(alloc), TableUpdate::Close { id })
 }
 
 fn judge_unregister<T: Target>(
-    boxes: &Boxes<T>,
+    boxes: &TargetTable<T>,
     comms: &Comms,
     alloc: Global,
     name: Text,
-) -> Result<Judged, AllocError>
-    ensures verdict { (limit : ℕ) → IfOk result (λ j. verdict_of (machine_of boxes.now.all comms.now.all) j ≡ judged limit (machine_of boxes.now.all comms.now.all) (call.Unregister name)) }
-    ensures feasible { IfOk result (λ j. IsFeasible boxes.now.all comms.now.all (call.Unregister name) j) }
+) -> Result<Decision, AllocError>
+    ensures verdict { (limit : ℕ) → IfOk result
+        (λ j. HasVerdict limit boxes.now.all comms.now.all (call.Unregister name) j) }
+    ensures feasible { IfOk result
+        (λ j. IsFeasible boxes.now.all comms.now.all (call.Unregister name) j) }
 {
     if !boxes.contains(&name) {
         return Ok(stays(alloc, Reply::NoTarget));
     }
-    let (ids, outgoing) = ended(comms, alloc, &name)?;
-    Ok(Judged::Done(
+    let (ids, outgoing) = ids_and_closes(comms, alloc, &name)?;
+    Ok(Decision::Done(
         Reply::Unregistered(ids),
         outgoing,
-        Plan::Unregister { name },
+        TableUpdate::Unregister { name },
     ))
 }
 
 /// The comms that are closed where the target of this name ends, and a close of each.
-fn ended(comms: &Comms, alloc: Global, name: &Text) -> Result<(Ids, Vec<Outgoing>), AllocError>
+fn ids_and_closes(
+    comms: &Comms,
+    alloc: Global,
+    name: &Text,
+) -> Result<(Ids, Vec<Outgoing>), AllocError>
     ensures ids { IfOk result (λ r. r.0 ≡ ids_of name.now comms.now.all) }
     ensures closes { IfOk result (λ r. r.1.items ≡ map out.Close (ids_of name.now comms.now.all)) }
 {
     let ids = comms.ids_of(alloc, name)?;
-    let outgoing = closings(alloc, ids.as_slice())?;
+    let outgoing = close_messages(alloc, ids.as_slice())?;
     Ok((ids, outgoing))
 }
 
 /// What the register of a target of this kind and with these notes comes to.
 pub fn judge_register<T: Target>(
-    boxes: &Boxes<T>,
+    boxes: &TargetTable<T>,
     comms: &Comms,
     alloc: Global,
     name: &Text,
     kind: Kind,
     notes: u64,
-) -> Result<(Reply, Vec<Outgoing>, Plan), AllocError>
-    ensures verdict { IfOk result (λ r. (limit : ℕ) → Done r.0 r.1.items (planned (machine_of boxes.now.all comms.now.all) r.2 None) ≡ judged limit (machine_of boxes.now.all comms.now.all) (call.Register name.now kind notes)) }
+) -> Result<(Reply, Vec<Outgoing>, TableUpdate), AllocError>
+    ensures verdict { IfOk result (λ r. (limit : ℕ)
+        → Done r.0 r.1.items (planned (machine_of boxes.now.all comms.now.all) r.2 None)
+        ≡ judged limit (machine_of boxes.now.all comms.now.all)
+        (call.Register name.now kind notes)) }
     ensures plan { IfOk result (λ r. r.2 ≡ registering boxes.now.all name.now kind notes) }
 {
     let key = name.copy()?;
     if !boxes.contains(name) {
-        let plan = Plan::Register {
+        let plan = TableUpdate::Register {
             name: key,
             kind,
             notes,
         };
         return Ok((Reply::Registered, Vec::new(alloc), plan));
     }
-    let (ids, outgoing) = ended(comms, alloc, name)?;
-    let plan = Plan::Replace {
+    let (ids, outgoing) = ids_and_closes(comms, alloc, name)?;
+    let plan = TableUpdate::Replace {
         name: key,
         kind,
         notes,
@@ -242,8 +261,8 @@ pub fn judge_register<T: Target>(
 }
 
 /// The comm's id, and the target's name, which shares the memory of the target's own.
-fn launched<T: Target>(
-    boxes: &Boxes<T>,
+fn launch_names<T: Target>(
+    boxes: &TargetTable<T>,
     alloc: Global,
     id: &Uuid,
     target: Text,
@@ -256,16 +275,18 @@ fn launched<T: Target>(
 }
 
 fn judge_launch<T: Target>(
-    boxes: &Boxes<T>,
+    boxes: &TargetTable<T>,
     comms: &Comms,
     limit: usize,
     alloc: Global,
     id: Text,
     target: Text,
     state: Dict,
-) -> Judged
-    ensures verdict { (uuid : List ℕ) → id ≡ comm_id uuid → verdict_of (machine_of boxes.now.all comms.now.all) result ≡ judged limit (machine_of boxes.now.all comms.now.all) (call.Launch uuid target state) }
-    ensures feasible { (uuid : List ℕ) → IsFeasible boxes.now.all comms.now.all (call.Launch uuid target state) result }
+) -> Decision
+    ensures verdict { (uuid : List ℕ) → id ≡ comm_id uuid
+        → HasVerdict limit boxes.now.all comms.now.all (call.Launch uuid target state) result }
+    ensures feasible { (uuid : List ℕ)
+        → IsFeasible boxes.now.all comms.now.all (call.Launch uuid target state) result }
 {
     if comms.contains(&id) {
         drop(state);
@@ -283,7 +304,7 @@ fn judge_launch<T: Target>(
         drop(state);
         return stays(alloc, Reply::OpenRefused(Refusal::TooManyComms));
     }
-    Judged::Asked(Question {
+    Decision::AskTarget(TargetRequest {
         name: target,
         state: None,
         event: Event::Launch { id, state },
@@ -291,15 +312,17 @@ fn judge_launch<T: Target>(
 }
 
 fn judge_push<T: Target>(
-    boxes: &Boxes<T>,
+    boxes: &TargetTable<T>,
     comms: &Comms,
     alloc: Global,
     id: Text,
     state: Dict,
-) -> Result<Judged, AllocError>
+) -> Result<Decision, AllocError>
     requires { Agrees (unstaged boxes.now.all) comms.now.all }
-    ensures verdict { (limit : ℕ) → IfOk result (λ j. verdict_of (machine_of boxes.now.all comms.now.all) j ≡ judged limit (machine_of boxes.now.all comms.now.all) (call.Push id state)) }
-    ensures feasible { IfOk result (λ j. IsFeasible boxes.now.all comms.now.all (call.Push id state) j) }
+    ensures verdict { (limit : ℕ) → IfOk result
+        (λ j. HasVerdict limit boxes.now.all comms.now.all (call.Push id state) j) }
+    ensures feasible { IfOk result
+        (λ j. IsFeasible boxes.now.all comms.now.all (call.Push id state) j) }
 {
     let Some(comm) = comms.get(&id) else {
         drop(state);
@@ -309,28 +332,32 @@ fn judge_push<T: Target>(
         drop(state);
         return Ok(stays(alloc, Reply::NotWidget));
     }
-    asked(comm, Event::Push { id, state })
+    ask_target(comm, Event::Push { id, state })
 }
 
-fn judge_send(comms: &Comms, alloc: Global, id: Text, body: Body) -> Result<Judged, AllocError>
-    ensures verdict { (limit : ℕ) (boxes : Targets) → IfOk result (λ j. verdict_of (machine_of boxes comms.now.all) j ≡ judged limit (machine_of boxes comms.now.all) (call.Send id body)) }
-    ensures feasible { (boxes : Targets) → IfOk result (λ j. IsFeasible boxes comms.now.all (call.Send id body) j) }
+fn judge_send(comms: &Comms, alloc: Global, id: Text, body: Body) -> Result<Decision, AllocError>
+    ensures verdict { (limit : ℕ) (boxes : Targets) → IfOk result
+        (λ j. HasVerdict limit boxes comms.now.all (call.Send id body) j) }
+    ensures feasible { (boxes : Targets) → IfOk result
+        (λ j. IsFeasible boxes comms.now.all (call.Send id body) j) }
 {
     if !comms.contains(&id) {
         drop(body);
         return Ok(stays(alloc, Reply::NoComm));
     }
     let outgoing = one(alloc, Outgoing::Msg { id, body })?;
-    Ok(Judged::Done(Reply::Delivered(None), outgoing, Plan::Nothing))
+    Ok(Decision::Done(Reply::Delivered(None), outgoing, TableUpdate::Nothing))
 }
 
-fn judge_hang_up(comms: &Comms, alloc: Global, id: Text) -> Result<Judged, AllocError>
-    ensures verdict { (limit : ℕ) (boxes : Targets) → IfOk result (λ j. verdict_of (machine_of boxes comms.now.all) j ≡ judged limit (machine_of boxes comms.now.all) (call.HangUp id)) }
-    ensures feasible { (boxes : Targets) → IfOk result (λ j. IsFeasible boxes comms.now.all (call.HangUp id) j) }
+fn judge_hang_up(comms: &Comms, alloc: Global, id: Text) -> Result<Decision, AllocError>
+    ensures verdict { (limit : ℕ) (boxes : Targets) → IfOk result
+        (λ j. HasVerdict limit boxes comms.now.all (call.HangUp id) j) }
+    ensures feasible { (boxes : Targets) → IfOk result
+        (λ j. IsFeasible boxes comms.now.all (call.HangUp id) j) }
 {
     if !comms.contains(&id) {
         return Ok(stays(alloc, Reply::NoComm));
     }
-    let outgoing = closing(alloc, &id)?;
-    Ok(Judged::Done(Reply::Closed, outgoing, Plan::Close { id }))
+    let outgoing = close_message(alloc, &id)?;
+    Ok(Decision::Done(Reply::Closed, outgoing, TableUpdate::Close { id }))
 }

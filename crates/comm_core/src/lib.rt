@@ -1,18 +1,20 @@
 //! A comm manager for one thread: targets by name, comms by id, and each call one step of a machine.
 //!
-//! A [`Core`] holds the targets that are registered and the comms that are open. A [`Call`] goes through `begin`, which
-//! takes all memory and asks the target, and then through `finish`, which makes the change and can't fail, or `withdraw`,
-//! which takes everything back. `specs/Machine` and `specs/Step` say what each call does, `specs/History` what a run of
-//! calls is, and `specs/Reads` what a read gives.
+//! A [`Core`] holds the targets that are registered and the comms that are open. A [`Call`] goes through `prepare`,
+//! which takes all memory and asks the target, and then through `commit`, which makes the change and can't fail, or
+//! `abort`, which takes everything back. `begin`, `finish` and `withdraw` are these of a change that keeps its call:
+//! the [`Ready`]. `specs/Machine` and `specs/Step` say what each call does, `specs/History` what a run of calls is,
+//! and `specs/Reads` what a read gives.
 #![tactic(auto)]
 
+mod apply;
 mod ask;
-mod boxes;
 mod call;
 mod comm;
 mod comms;
+mod decision;
 mod entry;
-mod finish;
+mod evaluation;
 mod ids;
 mod infos;
 mod judge;
@@ -20,11 +22,13 @@ mod laws;
 mod limits;
 mod manager;
 mod outgoing;
-mod plan;
-mod question;
+mod prepared_change;
 mod reads;
 mod reply;
 mod row;
+mod table_update;
+mod target_request;
+mod target_table;
 mod unavailable;
 
 pub use call::Call;
@@ -40,8 +44,9 @@ pub use laws::{
     steps_keep_machines_exact, widgets_have_their_opening_state_merged_with_their_updates,
 };
 pub use limits::{Limits, NewFault};
-pub use manager::{Begun, Core, Finished, Ready};
-pub use question::Question;
+pub use manager::Core;
+pub use prepared_change::{Finished, PreparedChange, Ready};
 pub use reply::{Refusal, Reply, StateAnswer};
 pub use row::{OpenComm, Row};
+pub use target_request::TargetRequest;
 pub use unavailable::Unavailable;

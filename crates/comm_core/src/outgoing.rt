@@ -6,7 +6,7 @@ ghost use Rattle.comm_value.specs.Put.{insert};
 ghost use Rattle.comm_value.specs.Places.{has_bytes, members_have_bytes};
 ghost use Rattle.comm_value.specs.Paths.{paths_tree};
 ghost use Rattle.comm_messages.specs.declared.outgoing.Outgoing.TheVariants as out;
-ghost use Rattle.comm_core.specs.Step.{comm_id, opening_of, sent};
+ghost use Rattle.comm_core.specs.Step.{comm_id, opening_of, messages_of};
 
 use comm_messages::{Body, Outgoing};
 use comm_targets::Bodies;
@@ -24,14 +24,14 @@ pub fn one(alloc: Global, message: Outgoing) -> Result<Vec<Outgoing>, AllocError
 }
 
 /// One close of a comm.
-pub fn closing(alloc: Global, id: &Text) -> Result<Vec<Outgoing>, AllocError>
+pub fn close_message(alloc: Global, id: &Text) -> Result<Vec<Outgoing>, AllocError>
     ensures { IfOk result (λ v. v.items ≡ out.Close id.now ∷ []) }
 {
     one(alloc, Outgoing::Close { id: id.copy()? })
 }
 
 /// One close of each of these comms.
-pub fn closings(alloc: Global, ids: &[Text]) -> Result<Vec<Outgoing>, AllocError>
+pub fn close_messages(alloc: Global, ids: &[Text]) -> Result<Vec<Outgoing>, AllocError>
     ensures { IfOk result (λ v. v.items ≡ map out.Close ids.now) }
 {
     let mut all = Vec::with_capacity(alloc, ids.len())?;
@@ -42,8 +42,8 @@ pub fn closings(alloc: Global, ids: &[Text]) -> Result<Vec<Outgoing>, AllocError
 }
 
 /// The messages of a comm.
-pub fn sent(alloc: Global, id: &Text, messages: &Bodies) -> Result<Vec<Outgoing>, AllocError>
-    ensures { IfOk result (λ v. v.items ≡ sent id.now messages.now) }
+pub fn messages_of(alloc: Global, id: &Text, messages: &Bodies) -> Result<Vec<Outgoing>, AllocError>
+    ensures { IfOk result (λ v. v.items ≡ messages_of id.now messages.now) }
 {
     let messages = messages.as_slice();
     let mut all = Vec::with_capacity(alloc, messages.len())?;
@@ -56,13 +56,14 @@ pub fn sent(alloc: Global, id: &Text, messages: &Bodies) -> Result<Vec<Outgoing>
 }
 
 /// The message by which the kernel opens a widget's comm ('Jupyter widgets messaging protocol' 2.1.0).
-pub fn launching(
+pub fn open_message(
     alloc: Global,
     id: &Text,
     target: &Text,
     state: &Dict,
 ) -> Result<Vec<Outgoing>, AllocError>
-    ensures { IfOk result (λ v. v.items ≡ out.Open id.now target.now (codes "2.1.0") (opening_of state.now) ∷ []) }
+    ensures { IfOk result (λ v. v.items ≡ out.Open id.now target.now (codes "2.1.0")
+        (opening_of state.now) ∷ []) }
 {
     let id = id.copy()?;
     let target = target.copy()?;
@@ -102,7 +103,8 @@ fn opening_of(alloc: Global, state: &Dict) -> Result<Body, AllocError>
 
 /// The member that says where bytes stood.
 fn places(alloc: Global, paths: &[Path]) -> Result<Dict, AllocError>
-    ensures listed { IfOk result (λ d. d ≡ member (codes "buffer_paths") (paths_tree paths.now) no_members) }
+    ensures listed { IfOk result
+        (λ d. d ≡ member (codes "buffer_paths") (paths_tree paths.now) no_members) }
     ensures no_bytes { IfOk result (λ d. members_have_bytes d ≡ false) }
 {
     let paths = paths_val(alloc, paths)?;
@@ -112,7 +114,8 @@ fn places(alloc: Global, paths: &[Path]) -> Result<Dict, AllocError>
 /// The content with one member more.
 fn with(alloc: Global, content: Dict, key: &str, value: Val) -> Result<Dict, AllocError>
     ensures inserted { IfOk result (λ d. d ≡ insert key.now (tree value) content) }
-    ensures no_bytes { has_bytes (tree value) ≡ false → members_have_bytes content ≡ false → IfOk result (λ d. members_have_bytes d ≡ false) }
+    ensures no_bytes { has_bytes (tree value) ≡ false → members_have_bytes content ≡ false
+        → IfOk result (λ d. members_have_bytes d ≡ false) }
 {
     match Text::copy_of(alloc, key) {
         Ok(key) => content.insert(alloc, key, value),

@@ -13,19 +13,21 @@ use comm_value::Text;
 use std::alloc::AllocError;
 
 impl<T: Target> Core<T> {
-    /// The open comms with the names of their targets, those of one target where a name is given, in the byte order of the ids
-    /// ('Messaging in Jupyter' 5.3, "Comm info").
+    /// The open comms with the names of their targets, those of one target where a name is given, in the byte order
+    /// of the ids ('Messaging in Jupyter' 5.3, "Comm info").
     pub fn infos(&self, target: Option<&Text>) -> Result<Infos, AllocError>
-        ensures { IfOk result (λ v. v ≡ infos (machine self.now) (option_map (λ t. t.now) target.entry)) }
+        ensures { IfOk result (λ v. v ≡ infos (machine self.now)
+            (option_map (λ t. t.now) target.entry)) }
     {
         let whole = self.comms.listing(self.alloc)?;
         part_of(self.alloc, whole, target)
     }
 
-    /// What `infos` gives. The whole listing is kept until a comm is opened or closed, so that asking again costs no ordering; a
-    /// manager that is only read can't keep it, so `infos` stays beside this.
+    /// What `infos` gives. The whole listing is kept until a comm is opened or closed, so that asking again costs no
+    /// ordering; a manager that is only read can't keep it, so `infos` stays beside this.
     pub fn listing(&mut self, target: Option<&Text>) -> Result<Infos, AllocError>
-        ensures infos { IfOk result (λ v. v ≡ infos (machine self.old) (option_map (λ t. t.now) target.entry)) }
+        ensures infos { IfOk result (λ v. v ≡ infos (machine self.old)
+            (option_map (λ t. t.now) target.entry)) }
         ensures same { self.new ≡ self.old }
     {
         let whole = self.comms.keep_listing(self.alloc)?;

@@ -20,7 +20,8 @@ pub enum Refusal {
 #[derive(Drop)]
 pub enum Reply {
     Registered,
-    /// The target stands in the place of the one that had the name, whose comms, these, are closed, in the order of opening.
+    /// The target stands in the place of the one that had the name, whose comms, these, are closed, in the order of
+    /// opening.
     Replaced(Ids),
     Opened,
     /// A comm has the id already.
@@ -65,7 +66,7 @@ impl Refusal {
 }
 
 impl Reply {
-    /// The same reply. What it carries is shared.
+    /// A copy, which shares what the reply carries. Err: memory.
     pub fn copy(&self, alloc: Global) -> Result<Reply, AllocError>
         ensures { IfOk result (λ r. r ≡ self.now) }
     {

@@ -1,15 +1,15 @@
 //! What a change does to the comms that readers see.
 ghost use Rattle.std.specs.Prelude.{◌≡◌, IfOk};
 ghost use Rattle.comm_core.specs.Planned.{answered_row, done_row, planned_row};
-ghost use Rattle.comm_core.specs.Ready.{CoreValue, IsReady, machine};
-ghost use Rattle.comm_core.specs.Row.{closed_row, ended_row, put_row, row_in, stated_row};
+ghost use Rattle.comm_core.specs.Ready.{CoreValue, IsReady, row_at};
+ghost use Rattle.comm_core.specs.Row.{closed_row, ended_row, put_row, stated_row};
 
 use crate::call::Call;
 use crate::ids::Ids;
-use crate::manager::{Begun, Ready};
-use crate::plan::Plan;
-use crate::question::Question;
+use crate::prepared_change::{PreparedChange, Ready};
 use crate::reply::Reply;
+use crate::table_update::TableUpdate;
+use crate::target_request::TargetRequest;
 use comm_targets::{Answer, Event, Target, TargetFault};
 use comm_value::{Dict, Text};
 use std::alloc::{AllocError, Global};
@@ -40,11 +40,14 @@ impl Model for OpenComm {
 
     ghost coded = { open_code };
 
-    ghost view = { λ o. ((arc_value o.shared).id, record { target = (arc_value o.shared).target; state = (arc_value o.shared).state }) };
+    ghost view = { λ o. (
+      (arc_value o.shared).id,
+      record { target = (arc_value o.shared).target; state = (arc_value o.shared).state },
+    ) };
 }
 
 impl OpenComm {
-    /// Err: memory.
+    /// An open comm of these parts. Err: memory.
     pub fn new(
         alloc: Global,
         id: Text,
@@ -57,7 +60,7 @@ impl OpenComm {
         Ok(OpenComm { shared })
     }
 
-    /// The same comm, shared. Err: it can't be shared once more.
+    /// A copy, which shares the comm and takes no memory. Err: it can't be shared once more.
     pub fn copy(&self) -> Result<OpenComm, AllocError>
         ensures { IfOk result (λ o. o ≡ self.now) }
     {
@@ -66,6 +69,7 @@ impl OpenComm {
         })
     }
 
+    /// Its id.
     pub fn id(&self) -> &Text
         ensures { result.now ≡ self.now.0 }
     {
@@ -79,6 +83,7 @@ impl OpenComm {
         &self.shared.target
     }
 
+    /// Its state, if it has one.
     pub fn state(&self) -> &Option<Dict>
         ensures { result.now ≡ self.now.1.state }
     {
@@ -100,7 +105,7 @@ pub enum Row {
 }
 
 // This comm, with this state.
-fn put(alloc: Global, id: &Text, target: &Text, state: &Option<Dict>) -> Result<Row, AllocError>
+fn put_row(alloc: Global, id: &Text, target: &Text, state: &Option<Dict>) -> Result<Row, AllocError>
     ensures { IfOk result (λ r. r ≡ put_row id.now target.now state.now) }
 {
     let state = match state {
@@ -112,28 +117,33 @@ fn put(alloc: Global, id: &Text, target: &Text, state: &Option<Dict>) -> Result<
 }
 
 // What an answer changes, of a target that was asked this.
-fn answered(alloc: Global, question: &Question, answer: &Answer) -> Result<Row, AllocError>
-    ensures { IfOk result (λ r. r ≡ answered_row question.now.name question.now.event answer.now) }
+fn answered_row(alloc: Global, request: &TargetRequest, answer: &Answer) -> Result<Row, AllocError>
+    ensures { IfOk result (λ r. r ≡ answered_row request.now.name request.now.event answer.now) }
 {
-    let Question { name, event, .. } = question;
+    let TargetRequest { name, event, .. } = request;
     match event {
-        Event::Open { id, .. } => put(alloc, id, name, &answer.state),
-        Event::Launch { id, .. } => put(alloc, id, name, &answer.state),
-        Event::Msg { id, .. } => told(alloc, id, name, &answer.state),
-        Event::Push { id, .. } => told(alloc, id, name, &answer.state),
+        Event::Open { id, .. } => put_row(alloc, id, name, &answer.state),
+        Event::Launch { id, .. } => put_row(alloc, id, name, &answer.state),
+        Event::Msg { id, .. } => stated_row(alloc, id, name, &answer.state),
+        Event::Push { id, .. } => stated_row(alloc, id, name, &answer.state),
     }
 }
 
-fn told(alloc: Global, id: &Text, target: &Text, state: &Option<Dict>) -> Result<Row, AllocError>
+fn stated_row(
+    alloc: Global,
+    id: &Text,
+    target: &Text,
+    state: &Option<Dict>,
+) -> Result<Row, AllocError>
     ensures { IfOk result (λ r. r ≡ stated_row id.now target.now state.now) }
 {
     if state.is_none() {
         return Ok(Row::Same);
     }
-    put(alloc, id, target, state)
+    put_row(alloc, id, target, state)
 }
 
-fn closed(alloc: Global, id: &Text, reply: &Reply) -> Result<Row, AllocError>
+fn closed_row(alloc: Global, id: &Text, reply: &Reply) -> Result<Row, AllocError>
     ensures { IfOk result (λ r. r ≡ closed_row id.now reply.now) }
 {
     match reply {
@@ -147,7 +157,7 @@ fn closed(alloc: Global, id: &Text, reply: &Reply) -> Result<Row, AllocError>
 }
 
 // The comms of a target that is taken out or replaced.
-fn ended(alloc: Global, reply: &Reply) -> Result<Row, AllocError>
+fn ended_row(alloc: Global, reply: &Reply) -> Result<Row, AllocError>
     ensures { IfOk result (λ r. r ≡ ended_row reply.now) }
 {
     match reply {
@@ -158,49 +168,51 @@ fn ended(alloc: Global, reply: &Reply) -> Result<Row, AllocError>
 }
 
 // What a call changes that asks no target.
-fn done(alloc: Global, call: &Call, reply: &Reply) -> Result<Row, AllocError>
+fn done_row(alloc: Global, call: &Call, reply: &Reply) -> Result<Row, AllocError>
     ensures { IfOk result (λ r. r ≡ done_row call.now reply.now) }
 {
     match call {
-        Call::Close { id } => closed(alloc, id, reply),
-        Call::HangUp { id } => closed(alloc, id, reply),
-        Call::Unregister { .. } => ended(alloc, reply),
-        Call::Register { .. } => ended(alloc, reply),
+        Call::Close { id } => closed_row(alloc, id, reply),
+        Call::HangUp { id } => closed_row(alloc, id, reply),
+        Call::Unregister { .. } => ended_row(alloc, reply),
+        Call::Register { .. } => ended_row(alloc, reply),
         _ => Ok(Row::Same),
     }
 }
 
-fn planned(
+fn planned_row(
     alloc: Global,
-    plan: &Plan,
+    plan: &TableUpdate,
     outcome: &Option<Result<Answer, TargetFault>>,
     call: &Call,
     reply: &Reply,
 ) -> Result<Row, AllocError>
     ensures { IfOk result (λ r. r ≡ planned_row plan.now outcome.now call.now reply.now) }
 {
-    if let Plan::Commit(question) = plan {
+    if let TableUpdate::Commit(request) = plan {
         if let Some(Ok(answer)) = outcome {
-            return answered(alloc, question, answer);
+            return answered_row(alloc, request, answer);
         }
     }
-    done(alloc, call, reply)
+    done_row(alloc, call, reply)
 }
 
 impl<T: Target> Ready<T> {
-    /// What this change does to the comms that readers see. What a row carries is shared. An error says that memory ran out.
+    /// What this change does to the comms that readers see. What a row carries is shared. Err: memory.
     pub fn row(&self, alloc: Global) -> Result<Row, AllocError>
-        ensures { (s : CoreValue) → IsReady s self.now → IfOk result (λ r. r ≡ row_in (machine s) self.now.call self.now.outcome self.now.reply) }
+        ensures { (s : CoreValue) → IsReady s self.now → IfOk result (λ r. r ≡ row_at s self.now) }
     {
-        self.begun.row(alloc, &self.call)
+        self.prepared.row(alloc, &self.call)
     }
 }
 
-impl<T: Target> Begun<T> {
-    /// The same, of a change that has spent its call: the caller shows the copy that it kept.
+impl<T: Target> PreparedChange<T> {
+    /// What this change does to the comms that readers see, as `Ready::row`; `call` is the copy that the caller kept.
+    /// What a row carries is shared. Err: memory.
     pub fn row(&self, alloc: Global, call: &Call) -> Result<Row, AllocError>
-        ensures { (s : CoreValue) → IsReady s self.now → call.now ≡ self.now.call → IfOk result (λ r. r ≡ row_in (machine s) self.now.call self.now.outcome self.now.reply) }
+        ensures { (s : CoreValue) → IsReady s self.now → call.now ≡ self.now.call
+            → IfOk result (λ r. r ≡ row_at s self.now) }
     {
-        planned(alloc, &self.plan, &self.outcome, call, &self.reply)
+        planned_row(alloc, &self.plan, &self.outcome, call, &self.reply)
     }
 }

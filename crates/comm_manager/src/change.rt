@@ -17,8 +17,8 @@ use crate::change_log::ChangeLog;
 use crate::ledger::ClientSeq;
 use crate::manager_id::ManagerId;
 use comm_core::{
-    Begun, Call, Core, Entry, Finished, Limits, Unavailable, legal_histories_grow, replays_grow,
-    rows_are_what_entries_change,
+    Call, Core, Entry, Finished, Limits, PreparedChange, Unavailable, legal_histories_grow,
+    replays_grow, rows_are_what_entries_change,
 };
 use comm_outbox::Outbox;
 use comm_targets::{Held, Target};
@@ -38,7 +38,7 @@ pub struct MadeChange<M: ManagerId, T: Target> {
 fn build_entry<M: ManagerId, T: Target>(
     alloc: Global,
     call: Call,
-    begun: &Begun<T>,
+    begun: &PreparedChange<T>,
     writer: &mut VersionWriter<M>,
     seq: &ClientSeq<M>,
 ) -> Result<(Arc<Entry, Global>, Arc<Entry, Global>), AllocError>
@@ -233,7 +233,7 @@ pub fn ask<M: ManagerId, T: Target, R: Wait>(
         drop(call);
         return Err(Unavailable::Memory);
     };
-    let Ok(begun) = core.begin_spent(call) else {
+    let Ok(begun) = core.prepare(call) else {
         drop(copy);
         return Err(Unavailable::Memory);
     };
@@ -243,7 +243,7 @@ pub fn ask<M: ManagerId, T: Target, R: Wait>(
                 reply,
                 outgoing: _outgoing,
                 ended,
-            } = core.finish_begun(begun);
+            } = core.commit(begun);
             let (number, stamp) = complete(rt, log, reader, seq, kept, sent);
             Ok(MadeChange {
                 answered: Answered {
@@ -255,7 +255,7 @@ pub fn ask<M: ManagerId, T: Target, R: Wait>(
             })
         }
         Err(_) => {
-            let _none = core.withdraw_begun(begun);
+            let _none = core.abort(begun);
             Err(Unavailable::Memory)
         }
     }
@@ -303,7 +303,7 @@ pub fn register<M: ManagerId, T: Target, R: Wait>(
                 reply,
                 outgoing: _outgoing,
                 ended,
-            } = core.finish_begun(begun);
+            } = core.commit(begun);
             let (number, stamp) = complete(rt, log, reader, seq, kept, sent);
             Ok(MadeChange {
                 answered: Answered {
@@ -314,7 +314,7 @@ pub fn register<M: ManagerId, T: Target, R: Wait>(
                 ended,
             })
         }
-        Err(_) => match core.withdraw_begun(begun) {
+        Err(_) => match core.abort(begun) {
             Some(boxed) => Err((Unavailable::Memory, boxed)),
             None => unreachable!(),
         },

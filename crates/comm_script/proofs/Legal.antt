@@ -9,7 +9,7 @@ use Rattle.comm_targets.specs.Answers.{answer_of, IsFreeAnswer}
 use Rattle.comm_targets.specs.Widget.{nothing}
 use Rattle.comm_targets.specs.declared.answer.Answer.{Answer}
 use Rattle.comm_targets.specs.declared.kind.Kind.{Kind}
-use Rattle.comm_targets.specs.declared.kind.Kind.TheVariants.{Echo, Counter, Widget, WidgetEcho, Free}
+use Rattle.comm_targets.specs.declared.kind.Kind.TheVariants.{Echo, Counter, Widget, WidgetEcho, Plain, Free}
 use Rattle.comm_targets.specs.declared.event.Event.{Event}
 use Rattle.comm_targets.specs.declared.event.Event.TheVariants as event
 use Rattle.comm_messages.specs.Gives as message
@@ -22,11 +22,11 @@ use Rattle.comm_messages.specs.declared.fault.MessageFault.TheVariants.{BadClien
 use Rattle.comm_core.specs.declared.limits.Limits.{Limits}
 use Rattle.comm_core.specs.declared.call.Call.{Call}
 use Rattle.comm_core.specs.declared.call.Call.TheVariants.{Register}
-use Rattle.comm_core.specs.declared.question.Question.{Question}
+use Rattle.comm_core.specs.declared.target_request.TargetRequest.{TargetRequest}
 use Rattle.comm_core.specs.declared.entry.Entry.{Entry}
 use Rattle.comm_core.specs.declared.entry.Entry.TheVariants.{Change, End}
 use Rattle.comm_core.specs.Machine.{Name, Machine, Registered, at}
-use Rattle.comm_core.specs.Step.{Outcome, Stepped, Verdict, Done, Asked, Allowed, Gives, asks, judged, question_of, step, stepped}
+use Rattle.comm_core.specs.Step.{Outcome, Stepped, Verdict, Done, AskTarget, Allowed, Gives, asks, judged, request_of, step, stepped}
 use Rattle.comm_core.specs.Exact.{exact_outcome, outcome_at, outcome_by}
 use Rattle.comm_core.specs.History.{Follows, IsLegal, has_end}
 use Rattle.comm_value.specs.Gives.{◌>>=◌}
@@ -108,7 +108,7 @@ free_given (event.Launch id state) a is = tt
 free_given (event.Msg id body) a is = tt
 free_given (event.Push id state) a is = tt
 
-outcome_given : (k : Kind) (notes : ℕ) (q : Question) (o : Outcome) → answer_of k notes q.state q.event ≡ o → Gives (Some (record { kind = k; notes = notes })) q o
+outcome_given : (k : Kind) (notes : ℕ) (q : TargetRequest) (o : Outcome) → answer_of k notes q.state q.event ≡ o → Gives (Some (record { kind = k; notes = notes })) q o
 outcome_given Echo notes q (Ok a) is = is
 outcome_given Echo notes q (Err f) is = is
 outcome_given Counter notes q (Ok a) is = is
@@ -117,16 +117,18 @@ outcome_given Widget notes q (Ok a) is = is
 outcome_given Widget notes q (Err f) is = is
 outcome_given WidgetEcho notes q (Ok a) is = is
 outcome_given WidgetEcho notes q (Err f) is = is
+outcome_given Plain notes q (Ok a) is = is
+outcome_given Plain notes q (Err f) is = is
 outcome_given Free notes q (Ok a) is = free_given q.event a is
 outcome_given Free notes q (Err f) is = cc
 
-question_allowed : (m : Machine) (q : Question) (s : Stepped) (r : Option Registered) → at m.targets q.name ≡ r → stepped m (Asked q) (outcome_by r q) ≡ Some s → Allowed m (Some q) (outcome_by r q)
+question_allowed : (m : Machine) (q : TargetRequest) (s : Stepped) (r : Option Registered) → at m.targets q.name ≡ r → stepped m (AskTarget q) (outcome_by r q) ≡ Some s → Allowed m (Some q) (outcome_by r q)
 question_allowed m q s None there is = cc
 question_allowed m q s (Some r) there is = rw there (outcome_given r.kind r.notes q (answer_of r.kind r.notes q.state q.event) refl)
 
-verdict_allowed : (m : Machine) (v : Verdict) (s : Stepped) → stepped m v (outcome_at m (question_of v)) ≡ Some s → Allowed m (question_of v) (outcome_at m (question_of v))
+verdict_allowed : (m : Machine) (v : Verdict) (s : Stepped) → stepped m v (outcome_at m (request_of v)) ≡ Some s → Allowed m (request_of v) (outcome_at m (request_of v))
 verdict_allowed m (Done r out next) s is = tt
-verdict_allowed m (Asked q) s is = question_allowed m q s (at m.targets q.name) refl is
+verdict_allowed m (AskTarget q) s is = question_allowed m q s (at m.targets q.name) refl is
 
 exact_allowed : (limit : ℕ) (m : Machine) (c : Call) (s : Stepped) → step limit m c (exact_outcome limit m c) ≡ Some s → Allowed m (asks limit m c) (exact_outcome limit m c)
 exact_allowed limit m c s is = verdict_allowed m (judged limit m c) s is

@@ -13,7 +13,7 @@ use Rattle.comm_core.specs.declared.call.Call.TheVariants.{Register, Open, Msg, 
 use Rattle.comm_core.specs.Machine.{Machine, Registered, Name, has}
 use Rattle.comm_core.specs.Step.{Outcome, Stepped, step, asks, Allowed}
 use Rattle.comm_core.specs.Exact.{exact_outcome, outcome_at, is_exact, is_free, registers_free}
-use Rattle.comm_core.specs.declared.question.Question.{Question}
+use Rattle.comm_core.specs.declared.target_request.TargetRequest.{TargetRequest}
 use Rattle.comm_core.specs.History.{mine, applied, next_of, replay, replay_from, is_of}
 use Rattle.comm_core.specs.declared.entry.Entry.{Entry}
 use Rattle.comm_core.specs.declared.entry.Entry.TheVariants.{Change}
@@ -132,6 +132,7 @@ kind_fits w kind.Echo h = refl
 kind_fits w kind.Counter h = refl
 kind_fits w kind.Widget h = refl
 kind_fits w kind.WidgetEcho h = refl
+kind_fits w kind.Plain h = refl
 kind_fits stock_kind.Echo kind.Free h = cc
 kind_fits stock_kind.Counter kind.Free h = cc
 kind_fits stock_kind.Widget kind.Free h = cc
@@ -156,4 +157,4 @@ rest_without w [] is = refl
 rest_without w (x ∷ rs) is = rest_case w x rs (λ h. rest_without w rs h) (has_kind w x.kind) refl is
 
 pub unasked : (limit : ℕ) (m : Machine) (name : Name) (k : Kind) (notes : ℕ) → Allowed m (asks limit m (Register name k notes)) None
-unasked limit m name k notes = subst (λ (q : Option Question). Allowed m q None) (sym (asks_nothing limit m name k notes)) tt
+unasked limit m name k notes = subst (λ (q : Option TargetRequest). Allowed m q None) (sym (asks_nothing limit m name k notes)) tt

@@ -9,6 +9,7 @@ use Rattle.comm_targets.specs.contracts.open_comms.OpenComms.TheInside as inside
 use Rattle.comm_targets.specs.contracts.echo.Echo as echo
 use Rattle.comm_targets.specs.contracts.counter.Counter as counter
 use Rattle.comm_targets.specs.contracts.latest.Latest as latest
+use Rattle.comm_targets.specs.contracts.plain.PlainTarget as plain
 
 inside_sends : IsSend inside.the_row
 inside_sends = declared_send inside.the_type (
@@ -30,3 +31,6 @@ counter_sends = search (open_comms_sends, global.the_field_send, sendable) depth
 
 pub latest_sends : IsSend latest.the_row
 latest_sends = search (open_comms_sends, global.the_field_send, sendable) depth 60 fits 20000
+
+pub plain_sends : IsSend plain.the_row
+plain_sends = search (open_comms_sends, global.the_field_send, sendable) depth 60 fits 20000

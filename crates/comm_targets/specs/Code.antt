@@ -13,7 +13,8 @@ stage_code = stage.the_row.coded
 
 abbrev pub open_and_staged_code : Coded OpenAndStaged
 open_and_staged_code =
-    code_by (List (List ℕ) × Option StagedEvent) (coded× (coded_list (coded_list coded_ℕ)) (coded_option stage.the_row.coded))
+    code_by (List (List ℕ) × Option StagedEvent)
+    (coded× (coded_list (coded_list coded_ℕ)) (coded_option stage.the_row.coded))
     (λ b. (b.ids, b.staged)) (λ p. record { ids = p.0; staged = p.1 }) (λ _. refl)
 
 abbrev pub meaning_code : Coded Meaning

@@ -1,5 +1,6 @@
 -- What a target means, and what each call of it does.
-use Rattle.std.specs.Prelude.{◌≡◌, ℕ, ◌+◌, ◌^◌, ◌-◌, Bool, true, false, List, [], ◌∷◌, ◌++◌, Option, None, Some, min, if◌then◌else◌}
+use Rattle.std.specs.Prelude.{◌≡◌, ℕ, ◌+◌, ◌^◌, ◌-◌, Bool, true, false, List, [], ◌∷◌, ◌++◌, Option, None}
+use Rattle.std.specs.Prelude.{Some, min, if◌then◌else◌}
 use Rattle.std.specs.List.{list_any}
 use Rattle.std.specs.Set.{remove_key}
 use Rattle.std.specs.Str.{bytes_eq}
@@ -16,6 +17,10 @@ pub record Meaning : Type 0 where
   pub notes : ℕ
   pub ids : List (List ℕ)
   pub staged : Option StagedEvent
+
+-- a new target of this kind: no comm is open, nothing is staged, and no message came
+abbrev pub new_of : Kind → Meaning
+new_of k = record { kind = k; notes = 0; ids = []; staged = None }
 
 abbrev pub has_id : List (List ℕ) → List ℕ → Bool
 has_id ids id = list_any (bytes_eq id) ids
@@ -37,7 +42,8 @@ is_widget Widget = true
 is_widget WidgetEcho = true
 is_widget kind = false
 
--- A comm that isn't open is opened, one that is open is told. Of widgets alone the kernel opens comms and changes states.
+-- A comm that isn't open is opened, one that is open is told. Of widgets alone the kernel opens comms and changes
+-- states.
 abbrev pub IsAskable : Meaning → Event → Type 0
 IsAskable m (Open id version body) = is_open m id ≡ false
 IsAskable m (Msg id body) = is_open m id ≡ true
@@ -62,6 +68,10 @@ abbrev pub stages_message : Option StagedEvent → Bool
 stages_message None = false
 stages_message (Some s) = is_message s.event
 
+-- the count of messages once what is staged is done
+abbrev pub count_with : Option StagedEvent → ℕ → ℕ
+count_with staged n = if stages_message staged then one_more n else n
+
 -- the notes once the event is done: a Counter counts its messages
 abbrev pub notes_after : Kind → ℕ → Event → ℕ
 notes_after Counter n e = if is_message e then one_more n else n
@@ -69,11 +79,21 @@ notes_after kind n e = n
 
 -- `prepare`
 abbrev pub after_prepare : Meaning → Event → Answer → Meaning
-after_prepare m e a = record { kind = m.kind; notes = m.notes; ids = m.ids; staged = Some (record { event = e; answer = a }) }
+after_prepare m e a = record {
+  kind = m.kind;
+  notes = m.notes;
+  ids = m.ids;
+  staged = Some (record { event = e; answer = a });
+}
 
 -- `commit`
 abbrev pub after_commit : Meaning → StagedEvent → Meaning
-after_commit m s = record { kind = m.kind; notes = notes_after m.kind m.notes s.event; ids = ids_after m.ids s.event; staged = None }
+after_commit m s = record {
+  kind = m.kind;
+  notes = notes_after m.kind m.notes s.event;
+  ids = ids_after m.ids s.event;
+  staged = None;
+}
 
 -- `abandon`
 abbrev pub after_abandon : Meaning → Meaning

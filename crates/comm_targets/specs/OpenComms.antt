@@ -3,12 +3,21 @@ use Rattle.std.specs.Prelude.{◌≡◌, ℕ, ◌<◌, false, List, String, map,
 use Rattle.comm_targets.specs.declared.event.Event.{Event}
 use Rattle.comm_targets.specs.declared.event.Event.TheVariants.{Open, Launch}
 use Rattle.comm_targets.specs.declared.staged_event.StagedEvent.{StagedEvent}
-use Rattle.comm_targets.specs.Meaning.{has_id}
+use Rattle.comm_targets.specs.declared.answer.Answer.{Answer}
+use Rattle.comm_targets.specs.Meaning.{has_id, ids_after}
 
 -- the ids of the open comms in the order of opening, and what is staged
 pub record OpenAndStaged : Type 0 where
   pub ids : List (List ℕ)
   pub staged : Option StagedEvent
+
+-- the event is staged with this answer
+abbrev pub with_staged : OpenAndStaged → Event → Answer → OpenAndStaged
+with_staged b e a = record { ids = b.ids; staged = Some (record { event = e; answer = a }) }
+
+-- what is staged is done: an event that opens a comm adds its id
+abbrev pub with_done : OpenAndStaged → Event → OpenAndStaged
+with_done b e = record { ids = ids_after b.ids e; staged = None }
 
 -- the ids that stand as keys
 abbrev pub texts_of : {A V : Type 0} → List (String A × V) → List (List ℕ)

@@ -1,5 +1,7 @@
--- What a widget answers ('Jupyter widgets messaging protocol' 2.1.0). One that echoes repeats to the frontends what a frontend's update brought.
-use Rattle.std.specs.Prelude.{ℕ, List, [], ◌∷◌, Bool, true, false, ◌==◌, if◌then◌else◌, Option, None, Some, unwrap_or, Result, Ok, Err, codes}
+-- What a widget answers ('Jupyter widgets messaging protocol' 2.1.0). One that echoes repeats to the frontends what a
+-- frontend's update brought.
+use Rattle.std.specs.Prelude.{ℕ, List, [], ◌∷◌, Bool, ◌==◌, if◌then◌else◌, Option, None, Some}
+use Rattle.std.specs.Prelude.{unwrap_or, Result, Ok, Err, codes}
 use Rattle.std.specs.Result.{result_map_both}
 use Rattle.std.specs.List.{before_first}
 use Rattle.std.specs.Str.{bytes_eq}
@@ -19,7 +21,9 @@ use Rattle.comm_targets.specs.declared.event.Event.{Event}
 use Rattle.comm_targets.specs.declared.event.Event.TheVariants.{Open, Msg, Launch, Push}
 use Rattle.comm_targets.specs.declared.answer.Answer.{Answer}
 use Rattle.comm_targets.specs.declared.fault.TargetFault.{TargetFault}
-use Rattle.comm_targets.specs.declared.fault.TargetFault.TheVariants.{WrongVersion, NoState, BadState, BadPath, BufferMissing, NoMethod, UnknownMethod, Memory}
+use Rattle.comm_targets.specs.declared.fault.TargetFault.TheVariants.{WrongVersion, NoState, BadState}
+use Rattle.comm_targets.specs.declared.fault.TargetFault.TheVariants.{BadPath, BufferMissing, NoMethod}
+use Rattle.comm_targets.specs.declared.fault.TargetFault.TheVariants.{UnknownMethod, Memory}
 
 -- a value as the code has it
 abbrev pub val_of : Tree → Val
@@ -76,7 +80,8 @@ given_state None c = Err NoState
 given_state (Some t) c = state_of t c
 
 abbrev pub opening_state : Option (List ℕ) → Content → Result Members TargetFault
-opening_state version c = if is_supported version then given_state (get (codes "state") c.content) c else Err WrongVersion
+opening_state version c =
+    if is_supported version then given_state (get (codes "state") c.content) c else Err WrongVersion
 
 -- ---- messages ("State update messages")
 
@@ -87,16 +92,19 @@ told_data method paths plain =
     (member (codes "method") (text method) (member (codes "state") (dict plain) no_members))
 
 -- the message of this method that tells a state, or some of its keys
-abbrev pub told : List ℕ → Members → Content
-told method u = record { content = told_data method (member_paths u) (plain_members u); buffers = member_buffers u }
+abbrev pub state_message : List ℕ → Members → Content
+state_message method u = record {
+  content = told_data method (member_paths u) (plain_members u);
+  buffers = member_buffers u;
+}
 
 abbrev pub update_of : Members → Content
-update_of u = told (codes "update") u
+update_of u = state_message (codes "update") u
 
 -- `echo_update` of what an update brought: of no key, nothing
 abbrev pub echoes : Bool → Members → List Content
 echoes echoing no_members = []
-echoes echoing u = if echoing then told (codes "echo_update") u ∷ [] else []
+echoes echoing u = if echoing then state_message (codes "echo_update") u ∷ [] else []
 
 -- an answer with the state that was worked out, or why there is none
 abbrev pub answer_with : (Members → Answer) → Result Members TargetFault → Result Answer TargetFault
@@ -104,18 +112,22 @@ answer_with answer (Ok s) = Ok (answer s)
 answer_with answer (Err f) = Err f
 
 -- the state with these keys in place of its own
-abbrev pub updated : Bool → Members → Members → Answer
-updated echoing now u = record { state = Some (merged now u); messages = echoes echoing u; custom = None }
+abbrev pub merge_answer : Bool → Members → Members → Answer
+merge_answer echoing now u = record { state = Some (merged now u); messages = echoes echoing u; custom = None }
 
 -- `update`: each top-level key of its `state` replaces that of the comm's state
 abbrev pub update_answer : Bool → Option Tree → Members → Content → Result Answer TargetFault
 update_answer echoing None now c = Ok nothing
-update_answer echoing (Some t) now c = answer_with (updated echoing now) (state_of t c)
+update_answer echoing (Some t) now c = answer_with (merge_answer echoing now) (state_of t c)
 
 -- `custom`: the caller is handed its `content`, with the message's buffers
 abbrev pub custom_answer : Option Tree → List (List ℕ) → Answer
 custom_answer None bs = nothing
-custom_answer (Some t) bs = record { state = None; messages = []; custom = Some (record { content = val_of t; buffers = bs }) }
+custom_answer (Some t) bs = record {
+  state = None;
+  messages = [];
+  custom = Some (record { content = val_of t; buffers = bs });
+}
 
 abbrev pub method_answer : Bool → List ℕ → Members → Content → Result Answer TargetFault
 method_answer echoing method now c =
@@ -130,8 +142,12 @@ message_answer echoing _ now c = Err NoMethod
 
 -- ---- the answer to each event, of a comm whose state is `now`
 
+-- the kernel's values for these keys replace the state's, and all frontends are told of them
+abbrev pub push_answer : Members → Members → Answer
+push_answer now u = record { state = Some (merged now u); messages = update_of u ∷ []; custom = None }
+
 abbrev pub answer_of : Bool → Members → Event → Result Answer TargetFault
 answer_of echoing now (Open id version body) = answer_with new_state (opening_state version body)
 answer_of echoing now (Msg id body) = message_answer echoing (get (codes "method") body.content) now body
 answer_of echoing now (Launch id state) = Ok (new_state state)
-answer_of echoing now (Push id state) = Ok (record { state = Some (merged now state); messages = update_of state ∷ []; custom = None })
+answer_of echoing now (Push id state) = Ok (push_answer now state)

@@ -43,7 +43,7 @@ pub struct Answer {
 }
 
 impl Custom {
-    /// The same, shared.
+    /// A copy, which shares the value and the buffers. Err: memory.
     pub fn copy(&self, alloc: Global) -> Result<Custom, AllocError>
         ensures { IfOk result (λ c. c ≡ self.now) }
     {
@@ -64,7 +64,7 @@ impl Bodies {
         }
     }
 
-    /// One body more, which goes out last.
+    /// Adds a body, which goes out last. Err: memory; the bodies stay as they were.
     pub fn push(&mut self, body: Body) -> Result<(), AllocError>
         ensures ok { OnOk result (self.new ≡ self.old ++ body ∷ []) }
         ensures err { OnErr result (self.new ≡ self.old) }
@@ -73,13 +73,14 @@ impl Bodies {
         Ok(())
     }
 
+    /// The bodies, in the order in which they go out.
     pub fn as_slice(&self) -> &[Body]
         ensures { result.now ≡ self.now }
     {
         self.all.as_slice()
     }
 
-    /// The same bodies, shared.
+    /// A copy, which shares each body's data and buffers. Err: memory.
     pub fn copy(&self, alloc: Global) -> Result<Bodies, AllocError>
         ensures { IfOk result (λ b. b ≡ self.now) }
     {
@@ -103,7 +104,7 @@ impl Answer {
         }
     }
 
-    /// The same answer. Its state, bodies and buffers are shared.
+    /// A copy, which shares the state, bodies and buffers. Err: memory.
     pub fn copy(&self, alloc: Global) -> Result<Answer, AllocError>
         ensures { IfOk result (λ a. a ≡ self.now) }
     {

@@ -1,8 +1,8 @@
-ghost use Rattle.std.specs.Prelude.{◌≡◌, ℕ, pos, [], None, IfOk, if◌then◌else◌};
+ghost use Rattle.std.specs.Prelude.{◌≡◌, ℕ, pos, IfOk};
 ghost use Rattle.comm_value.specs.View.{tree};
 ghost use Rattle.comm_value.specs.Tree.{whole};
-ghost use Rattle.comm_targets.specs.Meaning.{one_more, stages_message};
-ghost use Rattle.comm_targets.specs.Answers.{count_of, counted};
+ghost use Rattle.comm_targets.specs.Meaning.{count_with, new_of, one_more};
+ghost use Rattle.comm_targets.specs.Answers.{count_answer, count_of};
 
 use crate::answer::{Answer, Bodies};
 use crate::event::Event;
@@ -25,7 +25,7 @@ pub struct Counter {
 impl Counter {
     /// A target with no comm, to which no message came. It takes no memory.
     pub fn new(alloc: Global) -> Counter
-        ensures { ⟦<Counter as Target>⟧.means result ≡ record { kind = Kind.Counter; notes = 0; ids = []; staged = None } }
+        ensures { ⟦<Counter as Target>⟧.means result ≡ new_of Kind.Counter }
     {
         Counter {
             alloc,
@@ -43,7 +43,7 @@ impl Counter {
 
     // The count once what is staged is done.
     fn count_staged(&self) -> u64
-        ensures { result ≡ (if stages_message self.now.comms.staged then one_more self.now.count else self.now.count) }
+        ensures { result ≡ count_with self.now.comms.staged self.now.count }
     {
         if self.comms.has_message() {
             self.next()
@@ -54,8 +54,9 @@ impl Counter {
 }
 
 // The answer, where a message makes the count this.
-fn counted(alloc: Global, next: u64, event: &Event) -> Result<Answer, AllocError>
-    ensures { (notes : ℕ) → next ≡ one_more notes → IfOk result (λ a. a ≡ counted notes event.now) }
+fn count_answer(alloc: Global, next: u64, event: &Event) -> Result<Answer, AllocError>
+    ensures { (notes : ℕ) → next ≡ one_more notes
+        → IfOk result (λ a. a ≡ count_answer notes event.now) }
 {
     let mut messages = Bodies::new(alloc);
     if let Event::Msg { .. } = event {
@@ -104,7 +105,7 @@ impl Target for Counter {
     }
 
     fn prepare(&mut self, event: &Event, _now: Option<&Dict>) -> Result<Answer, TargetFault> {
-        let answer = counted(self.alloc, self.next(), event)?;
+        let answer = count_answer(self.alloc, self.next(), event)?;
         if self.comms.stage(self.alloc, event, &answer).is_err() {
             drop(answer);
             return Err(TargetFault::Memory);

@@ -1,5 +1,6 @@
-ghost use Rattle.std.specs.Prelude.{◌≡◌, [], None, IfOk};
+ghost use Rattle.std.specs.Prelude.{◌≡◌, IfOk};
 ghost use Rattle.comm_targets.specs.Answers.{echo_of};
+ghost use Rattle.comm_targets.specs.Meaning.{new_of};
 
 use crate::answer::{Answer, Bodies};
 use crate::event::Event;
@@ -20,7 +21,7 @@ pub struct Echo {
 impl Echo {
     /// A target with no comm. It takes no memory.
     pub fn new(alloc: Global) -> Echo
-        ensures { ⟦<Echo as Target>⟧.means result ≡ record { kind = Kind.Echo; notes = 0; ids = []; staged = None } }
+        ensures { ⟦<Echo as Target>⟧.means result ≡ new_of Kind.Echo }
     {
         Echo {
             alloc,

@@ -9,7 +9,7 @@ use std::alloc::{AllocError, Global};
 #[derive(Drop)]
 pub enum Event {
     /// The frontend opens the comm ('Messaging in Jupyter' 5.3, "Opening a Comm").
-    /// `version` is the text of the metadata's `version`, where it is one.
+    /// `version` is the metadata's `version`, where that is a string.
     Open {
         id: Text,
         version: Option<Text>,
@@ -45,7 +45,7 @@ impl Event {
         }
     }
 
-    /// The same event. Its texts, states and buffers are shared.
+    /// A copy, which shares the strings, states and buffers. Err: memory.
     pub fn copy(&self, alloc: Global) -> Result<Event, AllocError>
         ensures { IfOk result (λ e. e ≡ self.now) }
     {

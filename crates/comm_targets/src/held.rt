@@ -1,7 +1,8 @@
-ghost use Rattle.std.specs.Prelude.{◌≡◌, ◌⊎◌, ◌↔◌, true, IsTrue, IfOk, IfErr, OnErr, IsSome, None, Some, option_map};
+ghost use Rattle.std.specs.Prelude.{◌≡◌, ◌↔◌, true, IsTrue, IfOk, IfErr, OnErr, IsSome, None, Some, option_map};
 ghost use Rattle.comm_targets.specs.declared.staged_event.StagedEvent.{StagedEvent};
-ghost use Rattle.comm_targets.specs.Meaning.{IsIdle, IsAskable, is_open, after_prepare, after_commit, after_abandon, after_close};
-ghost use Rattle.comm_targets.specs.Answers.{Answers, Refuses};
+ghost use Rattle.comm_targets.specs.Meaning.{IsIdle, IsAskable, is_open};
+ghost use Rattle.comm_targets.specs.Meaning.{after_prepare, after_commit, after_abandon, after_close};
+ghost use Rattle.comm_targets.specs.Answers.{MayAnswer, MayRefuse};
 
 use crate::answer::Answer;
 use crate::event::Event;
@@ -13,7 +14,8 @@ use std::marker::Model;
 
 /// A target in use, seen as what it means.
 ///
-/// It can't be let go: `end` alone takes it, once no comm of it is open, and so each target ends after its comms.
+/// It can't be dropped: `end` alone takes it, once no comm of it is open, and so each target ends after its comms.
+#[must_use]
 pub struct Held<T: Target> {
     target: T,
 }
@@ -45,7 +47,7 @@ impl<T: Target> Held<T> {
         self.target.kind()
     }
 
-    /// The number that it keeps.
+    /// Of a Counter, how many messages came; of any other kind a number that never changes.
     pub fn notes(&self) -> u64
         ensures { result ≡ self.now.notes }
     {
@@ -59,14 +61,17 @@ impl<T: Target> Held<T> {
         self.target.idle()
     }
 
-    /// Works out the answer and stages the change, as `Target::prepare`.
+    /// Works out the answer and stages the change, as `Target::prepare`. `now` is the comm's state, where it has one.
+    /// Err: why the target refuses, or Memory; nothing is staged then.
     pub fn prepare(&mut self, event: &Event, now: Option<&Dict>) -> Result<Answer, TargetFault>
         requires unstaged { self.old.staged ≡ None }
         requires askable { IsAskable self.old event.now }
         ensures staged { IfOk result (λ a. self.new ≡ after_prepare self.old event.now a) }
-        ensures answers { IfOk result (λ a. Answers self.old.kind self.old.notes (option_map (λ d. d.now) now.entry) event.now a) }
+        ensures answers { IfOk result
+            (λ a. MayAnswer self.old (option_map (λ d. d.now) now.entry) event.now a) }
         ensures unchanged { OnErr result (self.new ≡ self.old) }
-        ensures refuses { IfErr result (λ f. (f ≡ TargetFault.Memory) ⊎ Refuses self.old.kind self.old.notes (option_map (λ d. d.now) now.entry) event.now f) }
+        ensures refuses { IfErr result
+            (λ f. MayRefuse self.old (option_map (λ d. d.now) now.entry) event.now f) }
     {
         self.target.prepare(event, now)
     }
@@ -74,7 +79,8 @@ impl<T: Target> Held<T> {
     /// Makes the staged change.
     pub fn commit(&mut self)
         requires { IsSome self.old.staged }
-        ensures { (s : StagedEvent) → self.old.staged ≡ Some s → self.new ≡ after_commit self.old s }
+        ensures { (s : StagedEvent) → self.old.staged ≡ Some s
+            → self.new ≡ after_commit self.old s }
     {
         self.target.commit();
     }
@@ -96,8 +102,8 @@ impl<T: Target> Held<T> {
         self.target.close(id);
     }
 
-    /// Calls the target's `stop` and drops it. It takes no memory. Nothing is left of the target of which a clause could speak:
-    /// that `stop` was called is shown by a test.
+    /// Calls the target's `stop` and drops it. It takes no memory. It has no `ensures`: it gives nothing, and nothing
+    /// is left of the target of which a clause could speak. A test shows that `stop` was called.
     pub fn end(self)
         requires { IsIdle self }
     {

@@ -7,8 +7,11 @@ pub enum Kind {
     Counter,
     /// Keeps the state of a Jupyter widget ('Jupyter widgets messaging protocol' 2.1.0).
     Widget,
-    /// The same, and repeats to the frontends what a frontend's update brought ('Jupyter widgets messaging protocol' 2.1.0, `echo_update`).
+    /// Keeps the state of a Jupyter widget, and repeats to the frontends what a frontend's update brought ('Jupyter
+    /// widgets messaging protocol' 2.1.0, `echo_update`).
     WidgetEcho,
-    /// Answers as its author likes.
+    /// Hands each message to the caller.
+    Plain,
+    /// Answers as its author likes, within what `Target` asks.
     Free,
 }

@@ -1,7 +1,7 @@
-ghost use Rattle.std.specs.Prelude.{◌≡◌, false, [], None, Some, IfSome, IfOk, IfErr, OnErr};
+ghost use Rattle.std.specs.Prelude.{◌≡◌, false, Some, IfSome, IfOk, IfErr, OnErr};
 ghost use Rattle.comm_targets.specs.Latest.{latest_of};
-ghost use Rattle.comm_targets.specs.Meaning.{has_id};
-ghost use Rattle.comm_targets.specs.OpenComms.{opened_by};
+ghost use Rattle.comm_targets.specs.Meaning.{has_id, new_of};
+ghost use Rattle.comm_targets.specs.OpenComms.{opened_by, with_staged};
 
 use crate::answer::{Answer, Bodies};
 use crate::event::Event;
@@ -24,7 +24,7 @@ pub struct Latest {
 impl Latest {
     /// A target with no comm. It takes no memory.
     pub fn new(alloc: Global) -> Latest
-        ensures { ⟦<Latest as Target>⟧.means result ≡ record { kind = Kind.Free; notes = 0; ids = []; staged = None } }
+        ensures { ⟦<Latest as Target>⟧.means result ≡ new_of Kind.Free }
     {
         Latest {
             alloc,
@@ -68,13 +68,14 @@ impl Target for Latest {
         self.comms.is_idle()
     }
 
-    // The trait lets a free target answer what it likes, so what this one answers is said here. A method with clauses of its own
-    // has no others, so what `stage` needs and what the trait promises is said again.
+    // The trait lets a free target answer what it likes, so what this one answers is said here. A method with clauses
+    // of its own has no others, so what `stage` needs and what the trait promises is said again.
     fn prepare(&mut self, event: &Event, _now: Option<&Dict>) -> Result<Answer, TargetFault>
         requires { IfSome (opened_by event.now) (λ id. has_id self.old.comms.ids id ≡ false) }
         ensures latest { IfOk result (λ a. a ≡ latest_of event.now) }
         ensures takes { IfErr result (λ f. f ≡ TargetFault.Memory) }
-        ensures staged { IfOk result (λ a. self.new.comms ≡ record { ids = self.old.comms.ids; staged = Some (record { event = event.now; answer = a }) }) }
+        ensures staged { IfOk result
+            (λ a. self.new.comms ≡ with_staged self.old.comms event.now a) }
         ensures unchanged { OnErr result (self.new.comms ≡ self.old.comms) }
     {
         let answer = answer_to(self.alloc, event)?;

@@ -1,12 +1,13 @@
 //! Targets of comms: objects that comms are opened towards, and that answer their messages
 //! ('Messaging in Jupyter' 5.3, "Custom Messages").
 //!
-//! A [`Target`] is asked by an [`Event`] and gives an [`Answer`], or a [`TargetFault`] that says why not. What it means is
-//! its kind, a number, the ids of its open comms and what is staged (`specs/Meaning.antt`); what each kind may answer is
-//! in `specs/Answers.antt`, that of widgets in `specs/Widget.antt`.
+//! A [`Target`] is asked by an [`Event`] and gives an [`Answer`], or a [`TargetFault`] that says why not. What it
+//! means is its kind, a number, the ids of its open comms and what is staged (`specs/Meaning.antt`); what each kind
+//! may answer is in `specs/Answers.antt`, that of widgets in `specs/Widget.antt`.
 //!
-//! [`Echo`] and [`Counter`] are targets of those kinds, [`Latest`] is one of kind Free. A target that is in use is
-//! [`Held`], and [`Held::end`] is the only way to let it go, so each target ends after its comms.
+//! [`Echo`], [`Counter`] and [`PlainTarget`] are targets of the kinds Echo, Counter and Plain, [`Latest`] is one of
+//! kind Free. A target that is in use is [`Held`], and [`Held::end`] is the only way to drop it, so each target ends
+//! after its comms.
 //!
 //! # A target of your own
 //!
@@ -15,17 +16,18 @@
 //! `specs/Latest.antt` too, which says what it answers, and name it in your `specs/Lib.antt`. Then change:
 //!
 //! 1. The fields: [`OpenComms`], which keep the ids of the open comms and what is staged, and beside it what you need.
-//! 2. `prepare`, where your work is. It is given the event and `now`, the state of the event's comm, and makes the answer:
-//!    any state and messages, and to a message also `custom`. A free target is asked `Open` and `Msg` alone. To refuse, give
-//!    `TargetFault::Other` with a code of your own; Memory comes by `?`, and the check refuses every other fault.
-//!    Stage the event and its answer last, and change nothing before that `means` reads, so that an error leaves it. `stage`
-//!    asks that an id that is opened isn't open; `prepare` is asked for no other.
-//! 3. `commit`, for fields that follow the messages: ask `OpenComms::has_message` before their `commit`, as [`Counter`] does.
-//!    It can't fail, and takes no memory. What is staged may be abandoned instead, so `prepare` is too early for them.
+//! 2. `prepare`, where your work is. It is given the event and `now`, the state of the event's comm, and makes the
+//!    answer: any state and messages, and to a message also `custom`. A free target is asked `Open` and `Msg` alone. To
+//!    refuse, give `TargetFault::Other` with a code of your own; Memory comes by `?`, and the check refuses every other
+//!    fault. Stage the event and its answer last, and change nothing before that `means` reads, so that an error leaves
+//!    it. `stage` asks that an id that is opened isn't open; `prepare` is asked for no other.
+//! 3. `commit`, for fields that follow the messages: ask `OpenComms::has_message` before their `commit`, as [`Counter`]
+//!    does. It can't fail, and takes no memory. What is staged may be abandoned instead, so `prepare` is too early for
+//!    them.
 //! 4. `stop`, if something is to be done at the end. Then no comm is open.
-//! 5. The clauses of `answer_to` and `prepare`, by words of your own in `specs/`. Or leave out those of `prepare`, whose callers
-//!    are told by the trait's clauses no more than what a free target may answer, and let that of `answer_to` say just this;
-//!    then `specs/` isn't needed:
+//! 5. The clauses of `answer_to` and `prepare`, by words of your own in `specs/`. Or leave out those of `prepare`,
+//!    whose callers are told by the trait's clauses no more than what a free target may answer, and let that of
+//!    `answer_to` say just this; then `specs/` isn't needed:
 //!
 //!    ```text
 //!    ghost use Rattle.std.specs.Prelude.{◌≡◌, ◌⊎◌, [], None, IfOk, IfErr};
@@ -38,15 +40,18 @@
 //!
 //!    The other methods stay as they are, since a free target's notes never change.
 //!
-//! `rt check` in your crate's folder then proves that it keeps the contract of [`Target`], on which the comm manager rests.
+//! `rt check` in your crate's folder then proves that it keeps the contract of [`Target`], on which the comm manager
+//! rests.
 //!
 //! # Using it
 //!
-//! A comm manager (`comm_core`) takes it by `register`. By itself: `Held::new`, and for each event `prepare`, then `commit`
-//! or `abandon`; `close` for each comm that was opened, and `end`. The function `conversation` in `comm_tests/src/tests/targets.rt` is an example.
+//! A comm manager (`comm_core`) takes it by `register`. By itself: `Held::new`, and for each event `prepare`, then
+//! `commit` or `abandon`; `close` for each comm that was opened, and `end`. The function `conversation` in
+//! `unit_tests/src/tests/targets.rt` is an example.
 //!
-//! Types that hold targets are generic in `T: Target`. For objects of several kinds take `T` as `Box<dyn Target>`, which is
-//! a target itself. A function that names no `T` can't make a `Held` of such a box, so it hands the box to one that does:
+//! Types that hold targets are generic in `T: Target`. For objects of several kinds take `T` as `Box<dyn Target>`,
+//! which is a target itself. A function that names no `T` can't make a `Held` of such a box, so it hands the box to
+//! one that does:
 //!
 //! ```text
 //! fn used<T: Target>(target: T)
@@ -56,8 +61,8 @@
 //! }
 //! ```
 //!
-//! Where a target is put into a box, the check asks that it may go to another thread. For a `Latest` of `src/latest.rt` of
-//! your crate `mine`, put into a box by the function `serve` of `src/lib.rt`, write `proofs/serve/Hidden/Sent.antt`:
+//! Where a target is put into a box, the check asks that it may go to another thread. For a `Latest` of `src/latest.rt`
+//! of your crate `mine`, put into a box by the function `serve` of `src/lib.rt`, write `proofs/serve/Hidden/Sent.antt`:
 //!
 //! ```text
 //! use denote.Exit
@@ -89,6 +94,7 @@ mod held;
 mod kind;
 mod latest;
 mod open_comms;
+mod plain;
 mod staged;
 mod staged_event;
 mod target;
@@ -102,5 +108,6 @@ pub use held::Held;
 pub use kind::Kind;
 pub use latest::Latest;
 pub use open_comms::OpenComms;
+pub use plain::PlainTarget;
 pub use staged_event::StagedEvent;
 pub use target::Target;

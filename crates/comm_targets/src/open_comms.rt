@@ -1,8 +1,9 @@
-ghost use Rattle.std.specs.Prelude.{◌≡◌, ◌≤◌, ◌↔◌, true, false, [], IsTrue, IfOk, IfSome, OnOk, OnErr, IsSome, None, Some, option_map, string_bytes};
+ghost use Rattle.std.specs.Prelude.{◌≡◌, ◌≤◌, ◌↔◌, true, false, [], IsTrue, IfOk, IfSome, OnOk, OnErr};
+ghost use Rattle.std.specs.Prelude.{IsSome, None, Some, option_map, string_bytes};
 ghost use Rattle.ordered_table.specs.Table.{entries};
-ghost use Rattle.comm_targets.specs.OpenComms.{CanAdd, opened_by, texts_of};
+ghost use Rattle.comm_targets.specs.OpenComms.{CanAdd, opened_by, texts_of, with_done, with_staged};
 ghost use Rattle.comm_targets.specs.declared.staged_event.StagedEvent.{StagedEvent};
-ghost use Rattle.comm_targets.specs.Meaning.{has_id, without, ids_after, stages_message};
+ghost use Rattle.comm_targets.specs.Meaning.{has_id, without, stages_message};
 
 use crate::answer::Answer;
 use crate::event::Event;
@@ -33,7 +34,8 @@ impl Model for OpenComms {
 
     ghost view = { λ b. record { ids = texts_of (entries b.ids); staged = b.staged } };
 
-    ghost invariant = { λ b. CanCommit b.staged (option_map string_bytes b.fresh) (texts_of (entries b.ids)) b.ids.room };
+    ghost invariant = { λ b. CanCommit b.staged (option_map string_bytes b.fresh)
+        (texts_of (entries b.ids)) b.ids.room };
 }
 
 impl OpenComms {
@@ -65,14 +67,14 @@ impl OpenComms {
         }
     }
 
-    /// Stages an event with its answer, and makes ready for its id. An id that is opened isn't open: `Target::prepare` is asked
-    /// for no other. An error says that a growth was refused; then all stays as it was.
+    /// Stages an event with its answer, and makes room for the id that it opens. That id isn't open:
+    /// `Target::prepare` is asked for no other. Err: memory; then all stays as it was.
     pub fn stage(&mut self, alloc: Global, event: &Event, answer: &Answer) -> Result<(), AllocError>
         requires { IfSome (opened_by event.now) (λ id. has_id self.old.ids id ≡ false) }
-        ensures ok { OnOk result (self.new ≡ record { ids = self.old.ids; staged = Some (record { event = event.now; answer = answer.now }) }) }
+        ensures ok { OnOk result (self.new ≡ with_staged self.old event.now answer.now) }
         ensures err { OnErr result (self.new ≡ self.old) }
     {
-        self.fresh = readied(&mut self.ids, alloc, event)?;
+        self.fresh = reserve_id(&mut self.ids, alloc, event)?;
         self.staged = Some(Staged::new(event, answer));
         Ok(())
     }
@@ -80,7 +82,8 @@ impl OpenComms {
     /// Makes the staged change: an opening adds its id. It takes no memory.
     pub fn commit(&mut self)
         requires { IsSome self.old.staged }
-        ensures { (s : StagedEvent) → self.old.staged ≡ Some s → self.new ≡ record { ids = ids_after self.old.ids s.event; staged = None } }
+        ensures { (s : StagedEvent) → self.old.staged ≡ Some s
+            → self.new ≡ with_done self.old s.event }
     {
         if let Some(id) = self.fresh.take() {
             self.ids.insert(id, ());
@@ -99,14 +102,15 @@ impl OpenComms {
     /// Takes an open comm's id out. It takes no memory.
     pub fn close(&mut self, id: &str)
         requires { has_id self.old.ids id.now ≡ true }
-        ensures { self.new ≡ record { ids = without id.now self.old.ids; staged = self.old.staged } }
+        ensures { self.new ≡
+            record { ids = without id.now self.old.ids; staged = self.old.staged } }
     {
         let _gone = self.ids.take_text(id);
     }
 }
 
 // Makes room for the id that an event opens, and gives the id.
-fn readied(
+fn reserve_id(
     ids: &mut Table<String, ()>,
     alloc: Global,
     event: &Event,
@@ -114,9 +118,10 @@ fn readied(
     requires { IfSome (opened_by event.now) (λ id. has_id (texts_of (entries ids.old)) id ≡ false) }
     ensures places { ids.new.places ≡ ids.old.places }
     ensures room { ids.old.room ≤ ids.new.room }
-    ensures ready { IfOk result (λ id. CanAdd (opened_by event.now) (option_map string_bytes id) (texts_of (entries ids.old)) ids.new.room) }
+    ensures ready { IfOk result (λ id. CanAdd (opened_by event.now) (option_map string_bytes id)
+        (texts_of (entries ids.old)) ids.new.room) }
 {
-    let Some(id) = opened(event) else {
+    let Some(id) = opened_by(event) else {
         return Ok(None);
     };
     let id = String::from_str(alloc, id.as_str())?;
@@ -125,7 +130,7 @@ fn readied(
 }
 
 // The id that an event opens.
-fn opened(event: &Event) -> Option<&Text>
+fn opened_by(event: &Event) -> Option<&Text>
     ensures { option_map (λ t. t.now) result ≡ opened_by event.now }
 {
     match event {

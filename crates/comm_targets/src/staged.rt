@@ -30,6 +30,7 @@ impl Model for Staged {
 }
 
 impl Staged {
+    /// Keeps snapshots of both, for contracts, and whether the event is a message. It takes no memory.
     pub fn new(event: &Event, answer: &Answer) -> Staged
         ensures { result ≡ record { event = event.now; answer = answer.now } }
     {
@@ -40,6 +41,7 @@ impl Staged {
         }
     }
 
+    /// Whether the event is a message.
     pub fn is_message(&self) -> bool
         ensures { result ≡ is_message self.now.event }
     {

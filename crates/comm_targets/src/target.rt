@@ -1,7 +1,8 @@
-ghost use Rattle.std.specs.Prelude.{◌≡◌, ◌⊎◌, ◌↔◌, true, IsTrue, IfOk, IfErr, OnErr, IsSome, None, Some, option_map};
+ghost use Rattle.std.specs.Prelude.{◌≡◌, ◌↔◌, true, IsTrue, IfOk, IfErr, OnErr, IsSome, None, Some, option_map};
 ghost use Rattle.comm_targets.specs.declared.staged_event.StagedEvent.{StagedEvent};
-ghost use Rattle.comm_targets.specs.Meaning.{Meaning, IsIdle, IsAskable, is_open, after_prepare, after_commit, after_abandon, after_close};
-ghost use Rattle.comm_targets.specs.Answers.{Answers, Refuses};
+ghost use Rattle.comm_targets.specs.Meaning.{Meaning, IsIdle, IsAskable, is_open};
+ghost use Rattle.comm_targets.specs.Meaning.{after_prepare, after_commit, after_abandon, after_close};
+ghost use Rattle.comm_targets.specs.Answers.{MayAnswer, MayRefuse};
 
 use crate::answer::Answer;
 use crate::event::Event;
@@ -21,7 +22,7 @@ pub trait Target: Send + Drop {
     fn kind(&self) -> Kind
         ensures { result ≡ (means self.now).kind };
 
-    /// A number that it keeps: of a Counter, how many messages came.
+    /// Of a Counter, how many messages came; of any other kind a number that never changes.
     fn notes(&self) -> u64
         ensures { result ≡ (means self.now).notes };
 
@@ -31,19 +32,23 @@ pub trait Target: Send + Drop {
 
     /// Works out the answer and stages the change. `now` is the comm's state, where it has one.
     ///
-    /// An error says why the event is refused; then nothing is staged, and the target means what it meant.
+    /// Err: why the event is refused, or Memory. Nothing is staged then, and the target means what it meant.
     fn prepare(&mut self, event: &Event, now: Option<&Dict>) -> Result<Answer, TargetFault>
         requires unstaged { (means self.old).staged ≡ None }
         requires askable { IsAskable (means self.old) event.now }
-        ensures staged { IfOk result (λ a. means self.new ≡ after_prepare (means self.old) event.now a) }
-        ensures answers { IfOk result (λ a. Answers (means self.old).kind (means self.old).notes (option_map (λ d. d.now) now.entry) event.now a) }
+        ensures staged { IfOk result
+            (λ a. means self.new ≡ after_prepare (means self.old) event.now a) }
+        ensures answers { IfOk result
+            (λ a. MayAnswer (means self.old) (option_map (λ d. d.now) now.entry) event.now a) }
         ensures unchanged { OnErr result (means self.new ≡ means self.old) }
-        ensures refuses { IfErr result (λ f. (f ≡ TargetFault.Memory) ⊎ Refuses (means self.old).kind (means self.old).notes (option_map (λ d. d.now) now.entry) event.now f) };
+        ensures refuses { IfErr result
+            (λ f. MayRefuse (means self.old) (option_map (λ d. d.now) now.entry) event.now f) };
 
     /// Makes the staged change: an opening adds its id, and the notes are those after the event.
     fn commit(&mut self)
         requires { IsSome (means self.old).staged }
-        ensures { (s : StagedEvent) → (means self.old).staged ≡ Some s → means self.new ≡ after_commit (means self.old) s };
+        ensures { (s : StagedEvent) → (means self.old).staged ≡ Some s
+            → means self.new ≡ after_commit (means self.old) s };
 
     /// Drops the staged change.
     fn abandon(&mut self)

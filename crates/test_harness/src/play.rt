@@ -208,8 +208,8 @@ fn try_spent<T: Target>(alloc: Global, core: &mut Core<T>, line: &str) -> Result
     requires settled { core.old.settled ≡ true }
     ensures { core.new.settled ≡ true }
 {
-    let begun = core.begin_spent(call_of(alloc, line)?)?;
-    let back = core.withdraw_begun(begun);
+    let begun = core.prepare(call_of(alloc, line)?)?;
+    let back = core.abort(begun);
     holds(back.is_none(), "a target comes back that nobody handed in")
 }
 
@@ -226,10 +226,10 @@ fn spend<T: Target>(
     try_spent(alloc, core, line)?;
     let call = call_of(alloc, line)?;
     let kept = call.copy(alloc)?;
-    let begun = core.begin_spent(call)?;
+    let begun = core.prepare(call)?;
     let row = begun.row(alloc, &kept);
     let entry = begun.entry(alloc, 2, 9, kept);
-    let_go(core.finish_begun(begun));
+    let_go(core.commit(begun));
     append_told(alloc, entry, row, text)
 }
 

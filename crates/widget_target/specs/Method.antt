@@ -1,4 +1,5 @@
--- The methods of a widget's messages ('Jupyter widgets messaging protocol' 2.1.0, "State update messages" and "Custom messages").
+-- The methods of a widget's messages ('Jupyter widgets messaging protocol' 2.1.0, "State update messages" and "Custom
+-- messages").
 use Rattle.std.specs.Prelude.{ℕ, Bool, true, false, List, Option, Some, Result, Ok, Err, codes, if◌then◌else◌}
 use Rattle.std.specs.Str.{bytes_eq}
 use Rattle.comm_value.specs.Tree.{Tree, text}

@@ -7,14 +7,14 @@ use crate::answers::one_message;
 use crate::method::{Method, method_of};
 use crate::telling::Telling;
 use crate::template::Template;
-use crate::update::{told_body, update_answer};
+use crate::update::{state_message, update_answer};
 use comm_messages::Body;
 use comm_targets::{Answer, Custom, TargetFault};
 use comm_value::Dict;
 use std::alloc::{AllocError, Global};
 
 /// The answer to a message on the comm of a widget whose state is `now`, by the data's `method`.
-/// NoMethod, UnknownMethod, and the faults of `update`.
+/// Err: NoMethod, UnknownMethod, the faults of `update`, or Memory.
 pub fn message_answer(
     alloc: Global,
     template: &mut Option<Template>,
@@ -22,29 +22,31 @@ pub fn message_answer(
     body: &Body,
     now: &Dict,
 ) -> Result<Answer, TargetFault>
-    ensures { Gives result (message_answer echoing (get (codes "method") body.now.content) now.now body.now) }
+    ensures { Gives result
+        (message_answer echoing (get (codes "method") body.now.content) now.now body.now) }
 {
     match method_of(body.content())? {
         Method::Update => update_answer(alloc, template, echoing, body, now),
-        Method::RequestState => Ok(requested(alloc, template, now)?),
+        Method::RequestState => Ok(request_answer(alloc, template, now)?),
         Method::Custom => Ok(custom_answer(alloc, body)?),
     }
 }
 
 // The answer to `request_state`: the whole state goes out.
-fn requested(
+fn request_answer(
     alloc: Global,
     template: &mut Option<Template>,
     now: &Dict,
 ) -> Result<Answer, AllocError>
     ensures { IfOk result (λ a. a ≡ one_message (update_of now.now)) }
 {
-    one_message(alloc, told_body(alloc, template, Telling::Update, now)?)
+    one_message(alloc, state_message(alloc, template, Telling::Update, now)?)
 }
 
 // The answer to `custom`: the caller is handed the data's `content` and all the message's buffers.
 fn custom_answer(alloc: Global, body: &Body) -> Result<Answer, AllocError>
-    ensures { IfOk result (λ a. a ≡ custom_answer (get (codes "content") body.now.content) body.now.buffers) }
+    ensures { IfOk result
+        (λ a. a ≡ custom_answer (get (codes "content") body.now.content) body.now.buffers) }
 {
     let Some(content) = body.content().get("content") else {
         return Ok(Answer::empty(alloc));

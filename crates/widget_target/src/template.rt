@@ -35,7 +35,7 @@ impl Template {
     }
 
     // The data of such a message that tells nothing. An echo has its method put in.
-    fn named(&self, alloc: Global, telling: Telling) -> Result<Dict, AllocError>
+    fn with_method(&self, alloc: Global, telling: Telling) -> Result<Dict, AllocError>
         ensures { IfOk result (λ d. d ≡ told_data (method_name telling) [] no_members) }
     {
         let data = self.empty.copy()?;
@@ -51,7 +51,8 @@ impl Template {
         }
     }
 
-    fn filled(
+    // The data of a message that tells this state, with these paths of its buffers. Err: memory.
+    fn fill(
         &self,
         alloc: Global,
         telling: Telling,
@@ -60,7 +61,7 @@ impl Template {
     ) -> Result<Dict, AllocError>
         ensures { IfOk result (λ d. d ≡ told_data (method_name telling) paths.now plain) }
     {
-        let Ok(data) = self.named(alloc, telling) else {
+        let Ok(data) = self.with_method(alloc, telling) else {
             drop(plain);
             return Err(AllocError);
         };
@@ -80,7 +81,8 @@ impl Template {
 
 // The data of a message that tells nothing, by its keys.
 fn empty_data(alloc: Global, buffer_paths: &Text, state: &Text) -> Result<Dict, AllocError>
-    ensures { buffer_paths.now ≡ codes "buffer_paths" → state.now ≡ codes "state" → IfOk result (λ d. d ≡ told_data (codes "update") [] no_members) }
+    ensures { buffer_paths.now ≡ codes "buffer_paths" → state.now ≡ codes "state"
+        → IfOk result (λ d. d ≡ told_data (codes "update") [] no_members) }
 {
     let paths = paths_val(alloc, &[])?;
     let data = with(alloc, Dict::new(), buffer_paths, paths)?;
@@ -114,8 +116,8 @@ fn with(alloc: Global, dict: Dict, key: &Text, value: Val) -> Result<Dict, Alloc
     }
 }
 
-/// The data of the message that tells this state, with these paths of its buffers, by the template, which the first message makes.
-/// Err: memory.
+/// The data of the message that tells this state, with these paths of its buffers, by the template, which the first
+/// message makes. Err: memory.
 pub fn told_data(
     alloc: Global,
     template: &mut Option<Template>,
@@ -126,13 +128,13 @@ pub fn told_data(
     ensures { IfOk result (λ d. d ≡ told_data (method_name telling) paths.now plain) }
 {
     if let Some(made) = template.as_ref() {
-        return made.filled(alloc, telling, plain, paths);
+        return made.fill(alloc, telling, plain, paths);
     }
     let Ok(made) = Template::new(alloc) else {
         drop(plain);
         return Err(AllocError);
     };
-    let data = made.filled(alloc, telling, plain, paths);
+    let data = made.fill(alloc, telling, plain, paths);
     *template = Some(made);
     data
 }

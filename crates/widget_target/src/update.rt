@@ -1,8 +1,8 @@
-ghost use Rattle.std.specs.Prelude.{◌≡◌, [], ◌∷◌, None, IfOk, codes};
+ghost use Rattle.std.specs.Prelude.{◌≡◌, [], ◌∷◌, IfOk, codes};
 ghost use Rattle.comm_value.specs.Merge.{merged};
 ghost use Rattle.comm_value.specs.Node.{get};
 ghost use Rattle.comm_value.specs.Places.{plain_members, member_paths, member_buffers};
-ghost use Rattle.comm_targets.specs.Widget.{echoes, told, update_answer, updated, update_of};
+ghost use Rattle.comm_targets.specs.Widget.{echoes, merge_answer, push_answer, state_message, update_answer};
 ghost use Rattle.widget_target.specs.Method.{method_name};
 ghost use Rattle.widget_target.specs.Gives.{Gives};
 
@@ -14,8 +14,8 @@ use comm_targets::{Answer, Bodies, TargetFault};
 use comm_value::{Buffers, Dict, Separated, merge, separate};
 use std::alloc::{AllocError, Global};
 
-/// The answer to `update`: each top-level key of the data's `state` replaces that of the widget's state, and one that echoes tells of them.
-/// Without `state` nothing is changed or told.
+/// The answer to `update`: each top-level key of the data's `state` replaces that of the widget's state, and a widget
+/// that echoes repeats them. Without `state` nothing is changed or sent. Err: a fault of the state, or Memory.
 pub fn update_answer(
     alloc: Global,
     template: &mut Option<Template>,
@@ -23,30 +23,31 @@ pub fn update_answer(
     body: &Body,
     now: &Dict,
 ) -> Result<Answer, TargetFault>
-    ensures { Gives result (update_answer echoing (get (codes "state") body.now.content) now.now body.now) }
+    ensures { Gives result
+        (update_answer echoing (get (codes "state") body.now.content) now.now body.now) }
 {
     let Some(state) = body.content().get("state") else {
         return Ok(Answer::empty(alloc));
     };
     let update = state_of(alloc, state, body)?;
-    Ok(updated(alloc, template, echoing, update, now)?)
+    Ok(merge_answer(alloc, template, echoing, update, now)?)
 }
 
 // The answer to an update that brought these keys.
-fn updated(
+fn merge_answer(
     alloc: Global,
     template: &mut Option<Template>,
     echoing: bool,
     update: Dict,
     now: &Dict,
 ) -> Result<Answer, AllocError>
-    ensures { IfOk result (λ a. a ≡ updated echoing now.now update) }
+    ensures { IfOk result (λ a. a ≡ merge_answer echoing now.now update) }
 {
     let Ok(messages) = echoes(alloc, template, echoing, &update) else {
         drop(update);
         return Err(AllocError);
     };
-    let Ok(state) = merged(alloc, now, update) else {
+    let Ok(state) = merge_copy(alloc, now, update) else {
         drop(messages);
         return Err(AllocError);
     };
@@ -57,7 +58,8 @@ fn updated(
     })
 }
 
-fn merged(alloc: Global, now: &Dict, update: Dict) -> Result<Dict, AllocError>
+// The state with these keys in place of its own. Err: memory.
+fn merge_copy(alloc: Global, now: &Dict, update: Dict) -> Result<Dict, AllocError>
     ensures { IfOk result (λ s. s ≡ merged now.now update) }
 {
     merge(alloc, now.copy()?, update)
@@ -75,40 +77,41 @@ fn echoes(
     if !echoing || update.is_empty() {
         return Ok(Bodies::new(alloc));
     }
-    told(alloc, template, Telling::EchoUpdate, update)
+    state_messages(alloc, template, Telling::EchoUpdate, update)
 }
 
-/// The answer to a change of these keys by the kernel: they replace those of the widget's state, and are told.
-pub fn pushed(
+/// The answer to a change of these keys by the kernel: they replace those of the widget's state, and one `update`
+/// message with just these keys goes out. Err: memory.
+pub fn push_answer(
     alloc: Global,
     template: &mut Option<Template>,
     update: &Dict,
     now: &Dict,
 ) -> Result<Answer, AllocError>
-    ensures { IfOk result (λ a. a ≡ record { state = Some (merged now.now update.now); messages = update_of update.now ∷ []; custom = None }) }
+    ensures { IfOk result (λ a. a ≡ push_answer now.now update.now) }
 {
-    let merged = merged(alloc, now, update.copy()?)?;
-    let Ok(messages) = told(alloc, template, Telling::Update, update) else {
-        drop(merged);
+    let state = merge_copy(alloc, now, update.copy()?)?;
+    let Ok(messages) = state_messages(alloc, template, Telling::Update, update) else {
+        drop(state);
         return Err(AllocError);
     };
     Ok(Answer {
-        state: Some(merged),
+        state: Some(state),
         messages,
         custom: None,
     })
 }
 
 // The one message that tells these keys.
-fn told(
+fn state_messages(
     alloc: Global,
     template: &mut Option<Template>,
     telling: Telling,
     update: &Dict,
 ) -> Result<Bodies, AllocError>
-    ensures { IfOk result (λ m. m ≡ told (method_name telling) update.now ∷ []) }
+    ensures { IfOk result (λ m. m ≡ state_message (method_name telling) update.now ∷ []) }
 {
-    let body = told_body(alloc, template, telling, update)?;
+    let body = state_message(alloc, template, telling, update)?;
     let mut messages = Bodies::new(alloc);
     messages.push(body)?;
     Ok(messages)
@@ -116,25 +119,25 @@ fn told(
 
 /// The message that tells a state, or some of its keys: `{"buffer_paths":..,"method":..,"state":..}`, with the
 /// buffers in the order of the paths ("State update messages").
-pub fn told_body(
+pub fn state_message(
     alloc: Global,
     template: &mut Option<Template>,
     telling: Telling,
     state: &Dict,
 ) -> Result<Body, AllocError>
-    ensures { IfOk result (λ b. b ≡ told (method_name telling) state.now) }
+    ensures { IfOk result (λ b. b ≡ state_message (method_name telling) state.now) }
 {
     let Separated {
         plain,
         paths,
         buffers,
-    } = separated(alloc, state)?;
+    } = separate_state(alloc, state)?;
     let content = told_data(alloc, template, telling, plain, paths.as_slice())?;
     Ok(Body::new(content, buffers))
 }
 
 // The state without its bytes, and where they stood. A state without bytes is shared.
-fn separated(alloc: Global, state: &Dict) -> Result<Separated, AllocError>
+fn separate_state(alloc: Global, state: &Dict) -> Result<Separated, AllocError>
     ensures plain { IfOk result (λ s. s.plain ≡ plain_members state.now) }
     ensures paths { IfOk result (λ s. s.paths.items ≡ member_paths state.now) }
     ensures buffers { IfOk result (λ s. s.buffers ≡ member_buffers state.now) }

@@ -1,5 +1,6 @@
-ghost use Rattle.std.specs.Prelude.{◌≡◌, [], None, unwrap_or, option_map};
+ghost use Rattle.std.specs.Prelude.{◌≡◌, unwrap_or, option_map};
 ghost use Rattle.comm_value.specs.Tree.{no_members};
+ghost use Rattle.comm_targets.specs.Meaning.{new_of};
 ghost use Rattle.comm_targets.specs.Widget.{answer_of};
 ghost use Rattle.widget_target.specs.Gives.{Gives};
 ghost use Rattle.widget_target.specs.Method.{kind_of};
@@ -8,12 +9,13 @@ use crate::answers::new_state;
 use crate::message::message_answer;
 use crate::open::opening_state;
 use crate::template::Template;
-use crate::update::pushed;
+use crate::update::push_answer;
 use comm_targets::{Answer, Event, Kind, OpenComms, Target, TargetFault};
 use comm_value::Dict;
 use std::alloc::Global;
 
-/// A target of kind Widget, or WidgetEcho: it keeps the states of Jupyter widgets ('Jupyter widgets messaging protocol' 2.1.0).
+/// A target of kind Widget, or WidgetEcho: it keeps the states of Jupyter widgets ('Jupyter widgets messaging protocol'
+/// 2.1.0).
 #[derive(Drop)]
 pub struct WidgetTarget {
     alloc: Global,
@@ -27,21 +29,22 @@ pub struct WidgetTarget {
 impl WidgetTarget {
     /// A target with no comm, of kind Widget. It takes no memory.
     pub fn new(alloc: Global) -> WidgetTarget
-        ensures { ⟦<WidgetTarget as Target>⟧.means result ≡ record { kind = Kind.Widget; notes = 0; ids = []; staged = None } }
+        ensures { ⟦<WidgetTarget as Target>⟧.means result ≡ new_of Kind.Widget }
     {
-        WidgetTarget::made(alloc, false)
+        WidgetTarget::with_echoing(alloc, false)
     }
 
-    /// A target with no comm, of kind WidgetEcho: where a frontend's `update` brings some keys, all frontends are told of them by `echo_update`
-    /// ("State update messages"). It takes no memory.
+    /// A target with no comm, of kind WidgetEcho: where a frontend's `update` brings some keys, all frontends are
+    /// told of them by `echo_update` ("State update messages"). It takes no memory.
     pub fn with_echo(alloc: Global) -> WidgetTarget
-        ensures { ⟦<WidgetTarget as Target>⟧.means result ≡ record { kind = Kind.WidgetEcho; notes = 0; ids = []; staged = None } }
+        ensures { ⟦<WidgetTarget as Target>⟧.means result ≡ new_of Kind.WidgetEcho }
     {
-        WidgetTarget::made(alloc, true)
+        WidgetTarget::with_echoing(alloc, true)
     }
 
-    fn made(alloc: Global, echoing: bool) -> WidgetTarget
-        ensures { ⟦<WidgetTarget as Target>⟧.means result ≡ record { kind = kind_of echoing; notes = 0; ids = []; staged = None } }
+    // A target with no comm, which echoes or doesn't.
+    fn with_echoing(alloc: Global, echoing: bool) -> WidgetTarget
+        ensures { ⟦<WidgetTarget as Target>⟧.means result ≡ new_of (kind_of echoing) }
     {
         WidgetTarget {
             alloc,
@@ -105,7 +108,8 @@ fn answer_to(
     event: &Event,
     now: Option<&Dict>,
 ) -> Result<Answer, TargetFault>
-    ensures { Gives result (answer_of echoing (unwrap_or (option_map (λ d. d.now) now.entry) no_members) event.now) }
+    ensures { Gives result
+        (answer_of echoing (unwrap_or (option_map (λ d. d.now) now.entry) no_members) event.now) }
 {
     match now {
         Some(now) => answer_over(alloc, template, echoing, event, now),
@@ -118,6 +122,7 @@ fn answer_to(
     }
 }
 
+// The answer to an event, of a comm with this state.
 fn answer_over(
     alloc: Global,
     template: &mut Option<Template>,
@@ -133,6 +138,6 @@ fn answer_over(
         }
         Event::Msg { body, .. } => message_answer(alloc, template, echoing, body, now),
         Event::Launch { state, .. } => Ok(new_state(alloc, state.copy()?)),
-        Event::Push { state, .. } => Ok(pushed(alloc, template, state, now)?),
+        Event::Push { state, .. } => Ok(push_answer(alloc, template, state, now)?),
     }
 }

@@ -6,7 +6,7 @@ use crate::tests::rows::STATE;
 use crate::tests::steps::{asked, look, play, register, registered};
 use crate::tests::trial::{LIMITS, Of, Trial, is_made};
 use comm_core::Core;
-use comm_targets::{Counter, Echo, Kind, Target};
+use comm_targets::{Counter, Echo, Kind, PlainTarget, Target};
 use std::alloc::{AllocError, Global};
 use test_harness::{ToldTarget, Wrong, cut, holds};
 use test_support::{refuse, was_refused};
@@ -177,6 +177,14 @@ pub fn try_once(
             number,
             Counter::new(alloc),
             Counter::new(alloc),
+            text,
+        ),
+        Kind::Plain => tried(
+            alloc,
+            trial,
+            number,
+            PlainTarget::new(alloc),
+            PlainTarget::new(alloc),
             text,
         ),
         Kind::Free => tried(

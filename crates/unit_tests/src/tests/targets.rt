@@ -4,7 +4,7 @@ ghost use Rattle.comm_targets.specs.Event.{id_of};
 ghost use Rattle.comm_targets.specs.Meaning.{IsIdle, IsAskable, is_open, is_message, ids_after};
 
 use comm_messages::Body;
-use comm_targets::{Answer, Counter, Echo, Event, Held, Latest, Target, TargetFault};
+use comm_targets::{Answer, Counter, Echo, Event, Held, Latest, PlainTarget, Target, TargetFault};
 use comm_value::Text;
 use std::alloc::Global;
 use std::test::Fail;
@@ -148,6 +148,8 @@ impl Reader for Conversations {
             conversation(alloc, Echo::new(alloc), opening, message, text)?;
         } else if name == "counter" {
             conversation(alloc, Counter::new(alloc), opening, message, text)?;
+        } else if name == "plain" {
+            conversation(alloc, PlainTarget::new(alloc), opening, message, text)?;
         } else if name == "latest" {
             conversation(alloc, Latest::new(alloc), opening, message, text)?;
         } else {
@@ -159,7 +161,7 @@ impl Reader for Conversations {
     }
 }
 
-const TALKS: [Row; 5] = [
+const TALKS: [Row; 6] = [
     Row {
         name: "an echo sends each message back",
         lines: r#"echo {} {"n":1} 0102"#,
@@ -175,6 +177,15 @@ taken back true, notes 0
         want: r#"given message {"count":1}
 given message {"count":2}
 taken back true, notes 2
+
+"#,
+    },
+    Row {
+        name: "a plain target hands each message on whole",
+        lines: r#"plain {} {"n":1} 0102"#,
+        want: r#"given custom {"n":1} 0102
+given custom {"n":1} 0102
+taken back true, notes 0
 
 "#,
     },

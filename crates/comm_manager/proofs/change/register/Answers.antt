@@ -35,7 +35,7 @@ pub returns-in-Ok-build_entry-clause-kept : goal.returns-in-Ok-build_entry-claus
 returns-in-Ok-build_entry-clause-kept g c =
     let m = c.reserve.new in
     let b = c.in-Ok.ensures in
-    let f = c.finish_begun-reply in
+    let f = c.commit-reply in
     let n = c.complete-number in
     let a = admitted g.M.History.limits c.args.log.now.journal.all m.log.journal.all c.args.core.now c.args.log.now.writer m.log.writer c.args.log.now.totals m.log.totals c.args.seq.now m.seq c.reserve.ensures.history c.reserve.ensures.writer c.reserve.ensures.same c.requires.kept.0 c.in_default.ensures.known c.requires.below in
     let room = c.in_default.ensures.room.2 in

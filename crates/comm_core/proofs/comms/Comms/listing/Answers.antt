@@ -7,9 +7,9 @@ use Rattle.comm_core.proofs.Kept.{listing_shown}
 use Rattle.comm_core.proofs.Listing.{shown_in_order}
 use Rattle.comm_core.proofs.comms.Comms.listing.Goals as goal
 
-pub listed-requires : goal.listed-requires
-listed-requires c = subst (λ (l : List Pair). IdsAreInOrder (map shown l)) (sym c.in_ok-in_order-in-None.ensures) (shown_in_order (pairs_of c.args.self.now.all))
+pub infos_of-requires : goal.infos_of-requires
+infos_of-requires c = subst (λ (l : List Pair). IdsAreInOrder (map shown l)) (sym c.in_ok-in_order-in-None.ensures) (shown_in_order (pairs_of c.args.self.now.all))
 
 pub returns-in_ok-in_order-in-None : goal.returns-in_ok-in_order-in-None
 returns-in_ok-in_order-in-None c =
-    IfOk-weaker c.listed.result _ _ (λ v h. h ∙ ap (λ (l : List Pair). map shown l) c.in_ok-in_order-in-None.ensures ∙ sym (listing_shown c.args.self.now.all)) c.listed.ensures
+    IfOk-weaker c.infos_of.result _ _ (λ v h. h ∙ ap (λ (l : List Pair). map shown l) c.in_ok-in_order-in-None.ensures ∙ sym (listing_shown c.args.self.now.all)) c.infos_of.ensures

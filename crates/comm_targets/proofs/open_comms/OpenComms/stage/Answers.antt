@@ -7,6 +7,6 @@ use Rattle.comm_targets.proofs.open_comms.OpenComms.stage.Goals as goal
 
 pub invariant_of-self : goal.invariant_of-self
 invariant_of-self c =
-    ready_kept (texts_of (entries c.self.inside.ids)) (texts_of (entries c.readied.new.ids)) c.self.inside.ids.room c.readied.new.ids.room
-    (λ id h. ap (λ ps. has_id (texts_of (there ps)) id) c.readied.ensures.places ∙ h) c.readied.ensures.room
+    ready_kept (texts_of (entries c.self.inside.ids)) (texts_of (entries c.reserve_id.new.ids)) c.self.inside.ids.room c.reserve_id.new.ids.room
+    (λ id h. ap (λ ps. has_id (texts_of (there ps)) id) c.reserve_id.ensures.places ∙ h) c.reserve_id.ensures.room
     (option_map string_bytes c.self.inside.fresh) c.self.inside.staged c.self.invariant

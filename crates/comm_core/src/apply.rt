@@ -1,0 +1,254 @@
+//! How the update of the tables is applied, and how it is reverted.
+ghost use Rattle.std.specs.Prelude.{◌≡◌, ◌<◌, ◌++◌, ◌∷◌, [], Option, None, Some, Ok, OnOk, IsSome, option_map};
+ghost use Rattle.comm_targets.specs.Meaning.{Meaning, IsIdle};
+ghost use Rattle.comm_core.specs.Machine.{at, AreDistinct};
+ghost use Rattle.comm_core.specs.Step.{Outcome, with_another, without_comm, stated, without_target};
+ghost use Rattle.comm_core.specs.Tables.{Opens, emptied, machine_of, Agrees, HaveStaged, IdleWhere, unstaged};
+ghost use Rattle.comm_core.specs.Plans.{Carried, Suits, planned, staged_by, ended_by};
+ghost use Rattle.comm_core.specs.declared.comm.Comm.{Comm};
+ghost use Rattle.comm_core.specs.declared.table_update.TableUpdate.TheVariants.{Commit};
+
+use crate::comm::Comm;
+use crate::comms::Comms;
+use crate::table_update::TableUpdate;
+use crate::target_request::TargetRequest;
+use crate::target_table::TargetTable;
+use comm_targets::{Answer, Event, Held, Target, TargetFault};
+use comm_value::{Dict, Text};
+use std::alloc::AllocError;
+
+/// Makes room for what an update may add: a target, or a comm. Err: memory.
+pub fn make_room<T: Target>(boxes: &mut TargetTable<T>, comms: &mut Comms) -> Result<(), AllocError>
+    ensures boxes { boxes.new.all ≡ boxes.old.all }
+    ensures comms { comms.new.all ≡ comms.old.all }
+    ensures room { OnOk result (0 < boxes.new.room) }
+    ensures space { OnOk result (0 < comms.new.room) }
+{
+    boxes.reserve()?;
+    comms.reserve()
+}
+
+/// Updates the tables, and gives the target that ends by it.
+pub fn apply<T: Target>(
+    boxes: &mut TargetTable<T>,
+    comms: &mut Comms,
+    plan: TableUpdate,
+    outcome: Option<Result<Answer, TargetFault>>,
+    boxed: Option<T>,
+) -> Option<Held<T>>
+    requires room { 0 < boxes.old.room }
+    requires space { 0 < comms.old.room }
+    requires agrees { Agrees (unstaged boxes.old.all) comms.old.all }
+    requires staged { HaveStaged boxes.old.all (staged_by plan outcome) }
+    requires suits { Suits (unstaged boxes.old.all) comms.old.all
+        (option_map T.means boxed) plan outcome }
+    ensures carried { Carried boxes.new.all comms.new.all
+        (planned (machine_of boxes.old.all comms.old.all) plan outcome) }
+    ensures ended { result ≡ ended_by boxes.old.all plan }
+    ensures idle { IdleWhere result }
+{
+    match plan {
+        TableUpdate::Nothing => {
+            drop((outcome, boxed));
+            None
+        }
+        TableUpdate::Register { name, .. } => {
+            drop(outcome);
+            let Some(target) = boxed else {
+                return None;
+            };
+            boxes.push(name, Held::new(target));
+            None
+        }
+        TableUpdate::Replace { name, .. } => {
+            drop(outcome);
+            let Some(target) = boxed else {
+                return None;
+            };
+            replace(boxes, comms, &name, Held::new(target))
+        }
+        TableUpdate::Unregister { name } => {
+            drop((outcome, boxed));
+            unregister(boxes, comms, &name)
+        }
+        TableUpdate::Close { id } => {
+            drop((outcome, boxed));
+            close(boxes, comms, &id);
+            None
+        }
+        TableUpdate::Commit(request) => {
+            commit_outcome(boxes, comms, request, outcome, boxed);
+            None
+        }
+    }
+}
+
+/// Makes the change that the target staged, where it gave an answer.
+#[inline(always)]
+fn commit_outcome<T: Target>(
+    boxes: &mut TargetTable<T>,
+    comms: &mut Comms,
+    request: TargetRequest,
+    outcome: Option<Result<Answer, TargetFault>>,
+    boxed: Option<T>,
+)
+    requires space { 0 < comms.old.room }
+    requires agrees { Agrees (unstaged boxes.old.all) comms.old.all }
+    requires staged { HaveStaged boxes.old.all (staged_by (Commit request) outcome) }
+    requires suits { Suits (unstaged boxes.old.all) comms.old.all
+        (option_map T.means boxed) (Commit request) outcome }
+    ensures { Carried boxes.new.all comms.new.all
+        (planned (machine_of boxes.old.all comms.old.all) (Commit request) outcome) }
+{
+    drop(boxed);
+    match outcome {
+        Some(Ok(answer)) => commit(boxes, comms, request, answer),
+        Some(Err(_)) => drop(request),
+        None => drop(request),
+    }
+}
+
+/// Makes the change that the target staged, and notes its comm.
+fn commit<T: Target>(
+    boxes: &mut TargetTable<T>,
+    comms: &mut Comms,
+    request: TargetRequest,
+    answer: Answer,
+)
+    requires space { 0 < comms.old.room }
+    requires agrees { Agrees (unstaged boxes.old.all) comms.old.all }
+    requires staged { HaveStaged boxes.old.all (staged_by (Commit request) (Some (Ok answer))) }
+    requires suits { Suits (unstaged boxes.old.all) comms.old.all
+        None (Commit request) (Some (Ok answer)) }
+    ensures { Carried boxes.new.all comms.new.all
+        (planned (machine_of boxes.old.all comms.old.all) (Commit request) (Some (Ok answer))) }
+{
+    boxes.commit(&request.name);
+    let TargetRequest {
+        name,
+        state: before,
+        event,
+    } = request;
+    let Answer {
+        state,
+        messages,
+        custom,
+    } = answer;
+    drop((before, messages, custom));
+    match event {
+        Event::Open { id, version, body } => {
+            drop((version, body));
+            note_open(comms, id, name, state);
+        }
+        Event::Launch { id, state: values } => {
+            drop(values);
+            note_open(comms, id, name, state);
+        }
+        Event::Msg { id, body } => {
+            drop(body);
+            note_state(comms, &id, state);
+        }
+        Event::Push { id, state: values } => {
+            drop(values);
+            note_state(comms, &id, state);
+        }
+    }
+}
+
+/// The comm that a target took, with its first state.
+fn note_open(comms: &mut Comms, id: Text, target: Text, state: Option<Dict>)
+    requires room { 0 < comms.old.room }
+    requires fresh { at comms.old.all id ≡ None }
+    ensures { comms.new.all ≡
+        comms.old.all ++ (id, record { target = target; state = state }) ∷ [] }
+{
+    comms.insert(id, Comm { target, state });
+}
+
+/// The comm's new state, where the answer has one.
+fn note_state(comms: &mut Comms, id: &Text, state: Option<Dict>)
+    ensures { (c : Comm) → at comms.old.all id.now ≡ Some c
+        → comms.new.all ≡ stated comms.old.all id.now c.target state }
+{
+    match state {
+        Some(state) => comms.set_state(id, state),
+        None => {}
+    }
+}
+
+/// Takes a comm out, in its target first.
+fn close<T: Target>(boxes: &mut TargetTable<T>, comms: &mut Comms, id: &Text)
+    requires agrees { Agrees (unstaged boxes.old.all) comms.old.all }
+    requires none { HaveStaged boxes.old.all (λ _. None) }
+    ensures { Carried boxes.new.all comms.new.all
+        (without_comm (machine_of boxes.old.all comms.old.all) id.now) }
+{
+    if let Some(comm) = comms.take(id) {
+        boxes.close(&comm.target, id);
+        drop(comm);
+    }
+}
+
+/// Takes a target out with its comms, which are closed in it.
+fn unregister<T: Target>(
+    boxes: &mut TargetTable<T>,
+    comms: &mut Comms,
+    name: &Text,
+) -> Option<Held<T>>
+    requires agrees { Agrees (unstaged boxes.old.all) comms.old.all }
+    requires none { HaveStaged boxes.old.all (λ _. None) }
+    ensures tables { Carried boxes.new.all comms.new.all
+        (without_target (machine_of boxes.old.all comms.old.all) name.now) }
+    ensures ended { result ≡ option_map emptied (at boxes.old.all name.now) }
+    ensures idle { IdleWhere result }
+{
+    let taken = match boxes.take(name) {
+        Some(mut held) => {
+            comms.close_those_of(name, &mut held);
+            Some(held)
+        }
+        None => None,
+    };
+    comms.remove_those_of(name);
+    taken
+}
+
+/// Puts a target in the place of the one of this name, whose comms are closed in it and taken out.
+fn replace<T: Target>(
+    boxes: &mut TargetTable<T>,
+    comms: &mut Comms,
+    name: &Text,
+    held: Held<T>,
+) -> Option<Held<T>>
+    requires agrees { Agrees (unstaged boxes.old.all) comms.old.all }
+    requires none { HaveStaged boxes.old.all (λ _. None) }
+    requires here { IsSome (at boxes.old.all name.now) }
+    requires idle { IsIdle held }
+    ensures tables { Carried boxes.new.all comms.new.all
+        (with_another (machine_of boxes.old.all comms.old.all) name.now held.kind held.notes) }
+    ensures ended { result ≡ option_map emptied (at boxes.old.all name.now) }
+    ensures idle { IdleWhere result }
+{
+    let mut replaced = boxes.replace(name, held);
+    comms.close_those_of(name, &mut replaced);
+    comms.remove_those_of(name); // The new target has none of them.
+    Some(replaced)
+}
+
+/// Takes back what the target of the update staged.
+pub fn revert<T: Target>(boxes: &mut TargetTable<T>, plan: &TableUpdate)
+    requires distinct { AreDistinct (unstaged boxes.old.all) }
+    requires staged { (c : Opens) × (boxed : Option Meaning) × (o : Option Outcome)
+        × Suits (unstaged boxes.old.all) c boxed plan.now o
+        × HaveStaged boxes.old.all (staged_by plan.now o) }
+    ensures { boxes.new.all ≡ unstaged boxes.old.all }
+{
+    match plan {
+        TableUpdate::Commit(request) => boxes.abandon(&request.name),
+        TableUpdate::Nothing => {}
+        TableUpdate::Register { .. } => {}
+        TableUpdate::Replace { .. } => {}
+        TableUpdate::Unregister { .. } => {}
+        TableUpdate::Close { .. } => {}
+    }
+}

@@ -1,0 +1,98 @@
+ghost use Rattle.std.specs.Prelude.{◌≡◌, IfOk};
+ghost use Rattle.comm_targets.specs.Answers.{payload_of, plain_of};
+ghost use Rattle.comm_targets.specs.Meaning.{new_of};
+
+use crate::answer::{Answer, Custom};
+use crate::event::Event;
+use crate::fault::TargetFault;
+use crate::kind::Kind;
+use crate::open_comms::OpenComms;
+use crate::target::Target;
+use comm_messages::Body;
+use comm_value::{Dict, Val};
+use std::alloc::{AllocError, Global};
+
+/// A target of kind Plain: it takes each opening, and hands each message whole to the caller. It sends nothing.
+///
+/// It is for a kernel's own comms: the kernel reads the message in the reply, and answers by a call of its own. Its
+/// comms have no state. The data of an opening isn't handed on, since the reply to an opening carries nothing: the
+/// kernel has it in the message that it handed in.
+#[derive(Drop)]
+pub struct PlainTarget {
+    alloc: Global,
+    comms: OpenComms,
+}
+
+impl PlainTarget {
+    /// A target with no comm. It takes no memory.
+    pub fn new(alloc: Global) -> PlainTarget
+        ensures { ⟦<PlainTarget as Target>⟧.means result ≡ new_of Kind.Plain }
+    {
+        PlainTarget {
+            alloc,
+            comms: OpenComms::new(alloc),
+        }
+    }
+}
+
+// The data and the buffers of a message, shared.
+fn payload_of(alloc: Global, body: &Body) -> Result<Custom, AllocError>
+    ensures { IfOk result (λ c. c ≡ payload_of body.now) }
+{
+    Ok(Custom {
+        content: Val::Dict(body.content().copy()?),
+        buffers: body.buffers().copy(alloc)?,
+    })
+}
+
+fn plain_of(alloc: Global, event: &Event) -> Result<Answer, AllocError>
+    ensures { IfOk result (λ a. a ≡ plain_of event.now) }
+{
+    let mut answer = Answer::empty(alloc);
+    if let Event::Msg { body, .. } = event {
+        answer.custom = Some(payload_of(alloc, body)?);
+    }
+    Ok(answer)
+}
+
+impl Target for PlainTarget {
+    ghost use Rattle.comm_targets.specs.declared.kind.Kind.TheVariants as kind;
+
+    ghost means = { λ t. record { kind = kind.Plain; notes = 0; ids = t.comms.ids; staged = t.comms.staged } };
+
+    fn kind(&self) -> Kind {
+        Kind::Plain
+    }
+
+    fn notes(&self) -> u64 {
+        0
+    }
+
+    fn idle(&self) -> bool {
+        self.comms.is_idle()
+    }
+
+    fn prepare(&mut self, event: &Event, _now: Option<&Dict>) -> Result<Answer, TargetFault> {
+        let answer = plain_of(self.alloc, event)?;
+        // Last, so that an error leaves all as it was.
+        if self.comms.stage(self.alloc, event, &answer).is_err() {
+            drop(answer);
+            return Err(TargetFault::Memory);
+        }
+        Ok(answer)
+    }
+
+    fn commit(&mut self) {
+        self.comms.commit();
+    }
+
+    fn abandon(&mut self) {
+        self.comms.abandon();
+    }
+
+    fn close(&mut self, id: &str) {
+        self.comms.close(id);
+    }
+
+    fn stop(&mut self) {}
+}

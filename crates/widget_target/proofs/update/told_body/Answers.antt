@@ -1,5 +1,0 @@
-use Rattle.widget_target.proofs.Plain.{told_free}
-use Rattle.widget_target.proofs.update.told_body.Goals as goal
-
-pub new-requires : goal.new-requires
-new-requires c = told_free _ _ _ c.args.state.now _ c.in_ok-content.ensures c.in_ok-plain.ensures.plain
