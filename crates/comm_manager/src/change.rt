@@ -38,31 +38,31 @@ pub struct MadeChange<M: ManagerId, T: Target> {
 fn build_entry<M: ManagerId, T: Target>(
     alloc: Global,
     call: Call,
-    begun: &PreparedChange<T>,
+    prepared: &PreparedChange<T>,
     writer: &mut VersionWriter<M>,
     seq: &ClientSeq<M>,
 ) -> Result<(Arc<Entry, Global>, Arc<Entry, Global>), AllocError>
-    requires call { call ≡ begun.now.call }
+    requires call { call ≡ prepared.now.call }
     requires number { seq.now.number < 2 ^ 62 }
     requires legal { IsLegal M.limits.clients M.limits.comms
         ((writer.old.front ++ writer.old.pending)
-        ++ ready_entry seq.now.client (seq.now.number + 1) begun.now ∷ []) }
-    requires ready { (core : CoreValue) × IsReady core begun.now
+        ++ ready_entry seq.now.client (seq.now.number + 1) prepared.now ∷ []) }
+    requires ready { (core : CoreValue) × IsReady core prepared.now
         × (machine core ≡ replay M.limits.comms (writer.old.front ++ writer.old.pending)) }
     ensures kept { IfOk result (λ r.
-        arc_value r.0 ≡ ready_entry seq.now.client (seq.now.number + 1) begun.now) }
+        arc_value r.0 ≡ ready_entry seq.now.client (seq.now.number + 1) prepared.now) }
     ensures sent { IfOk result (λ r. arc_value r.1 ≡ arc_value r.0) }
     ensures front { writer.new.front ≡ writer.old.front }
     ensures pending { MatchResult result
         (λ _. writer.new.pending
-        ≡ writer.old.pending ++ ready_entry seq.now.client (seq.now.number + 1) begun.now ∷ [])
+        ≡ writer.old.pending ++ ready_entry seq.now.client (seq.now.number + 1) prepared.now ∷ [])
         (λ _. writer.new.pending ≡ writer.old.pending) }
 {
     rows_are_what_entries_change();
     let client = seq.client();
     let number = seq.number() + 1;
-    let row = begun.row(alloc, &call)?;
-    let entry = begun.entry(alloc, client, number, call)?;
+    let row = prepared.row(alloc, &call)?;
+    let entry = prepared.entry(alloc, client, number, call)?;
     let kept = Arc::try_clone(&entry)?;
     let sent = Arc::try_clone(&entry)?;
     writer.append(Change::new(entry, row))?;
@@ -233,17 +233,17 @@ pub fn ask<M: ManagerId, T: Target, R: Wait>(
         drop(call);
         return Err(Unavailable::Memory);
     };
-    let Ok(begun) = core.prepare(call) else {
+    let Ok(prepared) = core.prepare(call) else {
         drop(copy);
         return Err(Unavailable::Memory);
     };
-    match build_entry(alloc, copy, &begun, &mut log.writer, seq) {
+    match build_entry(alloc, copy, &prepared, &mut log.writer, seq) {
         Ok((kept, sent)) => {
             let Finished {
                 reply,
                 outgoing: _outgoing,
                 ended,
-            } = core.commit(begun);
+            } = core.commit(prepared);
             let (number, stamp) = complete(rt, log, reader, seq, kept, sent);
             Ok(MadeChange {
                 answered: Answered {
@@ -255,7 +255,7 @@ pub fn ask<M: ManagerId, T: Target, R: Wait>(
             })
         }
         Err(_) => {
-            let _none = core.abort(begun);
+            let _none = core.abort(prepared);
             Err(Unavailable::Memory)
         }
     }
@@ -293,17 +293,17 @@ pub fn register<M: ManagerId, T: Target, R: Wait>(
         drop(name);
         return Err((why, boxed));
     }
-    let (call, begun) = match core.begin_register(name, boxed) {
+    let (call, prepared) = match core.begin_register(name, boxed) {
         Ok(ready) => ready.into_parts(),
         Err((_, boxed)) => return Err((Unavailable::Memory, boxed)),
     };
-    match build_entry(alloc, call, &begun, &mut log.writer, seq) {
+    match build_entry(alloc, call, &prepared, &mut log.writer, seq) {
         Ok((kept, sent)) => {
             let Finished {
                 reply,
                 outgoing: _outgoing,
                 ended,
-            } = core.commit(begun);
+            } = core.commit(prepared);
             let (number, stamp) = complete(rt, log, reader, seq, kept, sent);
             Ok(MadeChange {
                 answered: Answered {
@@ -314,7 +314,7 @@ pub fn register<M: ManagerId, T: Target, R: Wait>(
                 ended,
             })
         }
-        Err(_) => match core.abort(begun) {
+        Err(_) => match core.abort(prepared) {
             Some(boxed) => Err((Unavailable::Memory, boxed)),
             None => unreachable!(),
         },

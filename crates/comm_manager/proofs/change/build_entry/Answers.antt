@@ -13,7 +13,7 @@ use Rattle.comm_manager.proofs.change.build_entry.Goals as goal
 pub append-requires-clause-row : goal.append-requires-clause-row
 append-requires-clause-row g c =
     let limits = g.M.History.limits in
-    let r = c.args.begun.now in
+    let r = c.args.prepared.now in
     let t = c.args.seq.now in
     let es = c.args.writer.now.front ++ c.args.writer.now.pending in
     let e = ready_entry t.client (t.number + 1) r in

@@ -20,7 +20,7 @@ build_entry-requires-clause-legal g c κs within =
     let m = c.reserve.new in
     let b = c.in-Ok.ensures in
     let a = admitted g.M.History.limits c.args.log.now.journal.all m.log.journal.all c.args.core.now c.args.log.now.writer m.log.writer c.args.log.now.totals m.log.totals c.args.seq.now m.seq c.reserve.ensures.history c.reserve.ensures.writer c.reserve.ensures.same c.requires.kept.0 c.in_default.ensures.known c.requires.below in
-    may_follow g.M.History.limits m.log.journal.all c.args.core.now c.begin_register.new.self m.log.writer m.log.totals m.seq.client m.seq.number c.into_parts.result.1 a.0 a.1 a.2 (subst (IsReady c.begin_register.new.self) (sym c.into_parts.ensures.begun) b.ready) b.machine c.begin_register.ensures.limit
+    may_follow g.M.History.limits m.log.journal.all c.args.core.now c.begin_register.new.self m.log.writer m.log.totals m.seq.client m.seq.number c.into_parts.result.1 a.0 a.1 a.2 (subst (IsReady c.begin_register.new.self) (sym c.into_parts.ensures.prepared) b.ready) b.machine c.begin_register.ensures.limit
     c.legal_histories_grow.ensures a.3
 
 pub complete-number-requires-clause-number : goal.complete-number-requires-clause-number
@@ -43,7 +43,7 @@ returns-in-Ok-build_entry-clause-kept g c =
     let his = n.ensures.history ∙ ap (λ (e : Entry). m.log.journal.all ++ e ∷ []) c.in-Ok-build_entry.ensures.kept in
     let limits = n.ensures.limits ∙ (c.reserve.ensures.limits ∙ c.requires.kept.2) in
     let kept =
-    kept_after g.M.History.limits m.log.journal.all c.args.core.now c.begin_register.new.self m.log.writer m.log.totals m.seq.client m.seq.number c.into_parts.result.1 a.0 a.1 a.2 (subst (IsReady c.begin_register.new.self) (sym c.into_parts.ensures.begun) b.ready) b.machine c.begin_register.ensures.limit
+    kept_after g.M.History.limits m.log.journal.all c.args.core.now c.begin_register.new.self m.log.writer m.log.totals m.seq.client m.seq.number c.into_parts.result.1 a.0 a.1 a.2 (subst (IsReady c.begin_register.new.self) (sym c.into_parts.ensures.prepared) b.ready) b.machine c.begin_register.ensures.limit
     n.new.log.journal.all f.new.self n.new.log.writer n.new.log.totals c.legal_histories_grow.ensures c.replays_grow.ensures a.3 room done f.ensures.settled f.ensures.limit his n.ensures.front.0 n.ensures.front.1 n.ensures.totals in
     (kept, n.ensures.puts, limits)
 
