@@ -4,7 +4,7 @@
      MARK         from here on blocks are counted; granted
      REFUSE + n   from here on requests are counted, and the one of number n (malloc, calloc or realloc) is refused, once; granted
      ABOVE + n    from here on each request of more than n bytes is refused; granted
-     TOLD         from here on no request is refused; granted if one was since REFUSE or ABOVE
+     REFUSED      from here on no request is refused; granted if one was refused since REFUSE or ABOVE
      LEAKED       granted if more blocks are held than at MARK
    A program says no word: with REFUSE_AT=n in the environment the request of number n of the whole process is refused, once.
    At the end of the process one line goes to the descriptor REFUSE_TO: 'asked=A refused=R', A being the words REFUSE + n and ABOVE + n, and
@@ -17,7 +17,7 @@ extern long write(int, const void *, size);
 extern int *__errno_location(void);
 extern void _Exit(int) __attribute__((noreturn));
 
-static const size REFUSE = 0x5EED000100000000, TOLD = 0x5EED000200000000, LEAKED = 0x5EED000300000000, MARK = 0x5EED000400000000;
+static const size REFUSE = 0x5EED000100000000, REFUSED = 0x5EED000200000000, LEAKED = 0x5EED000300000000, MARK = 0x5EED000400000000;
 static const size ABOVE = 0x5EED000500000000, ANY = 0xFFFFFFFFFFFFFFFF;
 static const int NO_MEMORY = 12, BAD_ALIGNMENT = 22;
 
@@ -53,7 +53,7 @@ static int is_word(size n, void **answer) {
         refuse_from_here(0, n - ABOVE);
         *answer = granted;
         return 1;
-    case TOLD:
+    case REFUSED:
         counts = 0;
         *answer = was_refused ? granted : 0;
         return 1;

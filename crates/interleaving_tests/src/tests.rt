@@ -1,10 +1,13 @@
-//! What threads and single callers see of one manager.
-mod calls;
-mod ends;
-mod fronts;
+//! What threads and single callers see of one manager. `each_call` makes each call once, `reads` has what clients
+//! have seen, `limits` each limit, `many_changes` as many entries as may wait, `one_history` what threads do at once,
+//! and `target_ends` how a manager ends, by `harness`. `versions` is of `comm_versions`, and `new_queue` of
+//! `comm_outbox`.
+mod each_call;
+mod harness;
 mod limits;
-mod most;
-mod played;
-mod queue;
-mod schedules;
+mod many_changes;
+mod new_queue;
+mod one_history;
+mod reads;
+mod target_ends;
 mod versions;

@@ -2,8 +2,8 @@
 use denote.Param.Send.{IsSync, sendable}
 use Rattle.std.proofs.Crossing.{crosses}
 use Rattle.comm_value.proofs.text.Text.TheSendSync as Text
-use Rattle.load_generator.specs.contracts.working.Job as job
-use Rattle.load_generator.specs.contracts.working.Signals as signals
+use Rattle.load_generator.specs.contracts.worker.Job as job
+use Rattle.load_generator.specs.contracts.worker.Signals as signals
 
 pub job_sync : IsSync job.the_row
 job_sync = search (sendable, crosses, Text.the_sync) depth 40

@@ -2,14 +2,14 @@
 use std::string::String;
 
 /// What readers do.
-#[derive(Clone, Copy, PartialEq, Eq, Debug)]
-pub enum Read {
+#[derive(Clone, Copy, PartialEq, Eq)]
+pub enum ReadKind {
     State,
     Info,
 }
 
 /// A load: so many threads of each kind, and what they work on.
-#[derive(Clone, Copy, Debug)]
+#[derive(Clone, Copy)]
 pub struct Load {
     pub writers: u8,
     pub readers: u8,
@@ -17,14 +17,14 @@ pub struct Load {
     pub each: u64,
     pub comms: usize,
     pub keys: usize,
-    pub read: Option<Read>,
+    pub read: Option<ReadKind>,
 }
 
 /// What readers do; `none` is for a load without readers.
-fn read_of(word: &str, readers: u8) -> Option<Option<Read>> {
+fn read_of(word: &str, readers: u8) -> Option<Option<ReadKind>> {
     match word {
-        "state" if readers > 0 => Some(Some(Read::State)),
-        "info" if readers > 0 => Some(Some(Read::Info)),
+        "state" if readers > 0 => Some(Some(ReadKind::State)),
+        "info" if readers > 0 => Some(Some(ReadKind::Info)),
         "none" if readers == 0 => Some(None),
         _ => None,
     }

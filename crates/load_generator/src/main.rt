@@ -1,14 +1,14 @@
-// Puts a load on the manager that threads share, and tells what it came to.
+//! Puts a load on the manager that threads share, and tells what it came to.
 #![tactic(auto)]
 
-mod fault;
+mod fixtures;
 mod load;
-mod opening;
+mod load_error;
+mod open_comms;
+mod report;
 mod running;
-mod texts;
 mod threads;
-mod told;
-mod working;
+mod worker;
 
 use crate::load::{Load, load_of};
 use crate::running::run;
@@ -19,23 +19,24 @@ use std::string::String;
 use widget_target::WidgetTarget;
 
 // The load that the arguments ask for.
-fn asked(rt: &HostRuntime) -> Option<Load> {
-    let mut given = env::args(rt).ok()?;
-    let _program = given.next();
+fn load_in_args(rt: &HostRuntime) -> Option<Load> {
+    let mut args = env::args(rt).ok()?;
+    let _program = args.next();
     let mut words: Vec<String> = Vec::new(rt.alloc());
+    let mut are_all = true;
     // One more than a load has.
     for _ in 0..7u8 {
-        let Some(word) = given.next() else {
-            break;
-        };
-        words.push(word).ok()?;
+        match args.next() {
+            Some(word) => are_all = are_all && words.push(word).is_ok(),
+            None => break,
+        }
     }
-    load_of(&words)
+    if are_all { load_of(&words) } else { None }
 }
 
 /// The exit status is 3 for arguments that ask for no load, and 2 for a load that isn't done.
 fn main(rt: HostRuntime) -> ExitCode {
-    let Some(load) = asked(&rt) else {
+    let Some(load) = load_in_args(&rt) else {
         return ExitCode::from(3);
     };
     let Ok(boxed) = Box::new(rt.alloc(), WidgetTarget::new(rt.alloc())) else {
@@ -43,7 +44,7 @@ fn main(rt: HostRuntime) -> ExitCode {
     };
     let target: Box<dyn Target> = boxed;
     match run(&rt, rt.alloc(), &load, target) {
-        Ok(told) if println!(rt; "{told}").is_ok() => ExitCode::from(0),
+        Ok(report) if println!(rt; "{report}").is_ok() => ExitCode::from(0),
         _ => ExitCode::from(2),
     }
 }

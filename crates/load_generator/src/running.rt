@@ -2,12 +2,12 @@
 ghost use Rattle.comm_manager.specs.Names.{Named};
 ghost use Rattle.comm_targets.specs.Meaning.{IsIdle};
 
-use crate::fault::Fault;
 use crate::load::Load;
-use crate::opening::begin;
+use crate::load_error::LoadError;
+use crate::open_comms::open_comms;
+use crate::report::LoadReport;
 use crate::threads::work_at_once;
-use crate::told::Told;
-use crate::working::{Count, Job, Role, Signals};
+use crate::worker::{Job, Role, Signals, WorkCount};
 use client_threads::{Ended, shut_down};
 use comm_core::Limits;
 use comm_manager::{Cause, Client, Manager, ManagerBuilder, ManagerId, Publisher};
@@ -20,37 +20,51 @@ use std::sync::atomic::AtomicU64;
 use std::thread::Threads;
 use std::time::Instant;
 
+// The jobs of as many clients as have this role.
+fn add_jobs(
+    alloc: Global,
+    role: Role,
+    load: &Load,
+    count: u8,
+    jobs: &mut Vec<Job>,
+) -> Result<(), AllocError> {
+    for place in 0..count {
+        let job = Job::new(alloc, role, load, place, count)?;
+        jobs.push(job)?;
+    }
+    Ok(())
+}
+
 // The clients' jobs: the first are the writers', the next the readers'.
 fn jobs_of(alloc: Global, load: &Load) -> Result<Vec<Job>, AllocError> {
     let mut jobs = Vec::new(alloc);
-    for place in 0..load.writers {
-        jobs.push(Job::new(alloc, Role::Writes, load, place, load.writers)?)?;
-    }
+    add_jobs(alloc, Role::Writes, load, load.writers, &mut jobs)?;
     if let Some(read) = load.read {
-        for place in 0..load.readers {
-            jobs.push(Job::new(alloc, Role::Reads(read), load, place, load.readers)?)?;
-        }
+        add_jobs(alloc, Role::Reads(read), load, load.readers, &mut jobs)?;
     }
     Ok(jobs)
 }
 
+// What two counted together, where neither failed.
+fn add_counts(
+    all: Result<WorkCount, LoadError>,
+    one: Result<WorkCount, LoadError>,
+) -> Result<WorkCount, LoadError> {
+    let all = all?;
+    Ok(all.plus(one?))
+}
+
 // What all counted together; the time is the longest.
-fn count_of(jobs: Vec<Job>) -> Result<Count, Fault> {
-    let mut all = Count::NONE;
+fn count_of(jobs: Vec<Job>) -> Result<WorkCount, LoadError> {
+    let mut all = Ok(WorkCount::NONE);
     for job in jobs {
-        let told = job.told.into_inner()?;
-        all = Count {
-            changes: all.changes.saturating_add(told.changes),
-            reads: all.reads.saturating_add(told.reads),
-            sum: all.sum.wrapping_add(told.sum),
-            nanos: all.nanos.max(told.nanos),
-        };
+        all = add_counts(all, job.counted.into_inner());
     }
-    Ok(all)
+    all
 }
 
 // Opens the comms, and lets all threads work.
-fn worked<M: ManagerId + Send + Sync, T: Target, R: Threads + Wait + Clock + Sync>(
+fn run_clients<M: ManagerId + Send + Sync, T: Target, R: Threads + Wait + Clock + Sync>(
     rt: &R,
     alloc: Global,
     manager: &Manager<M, T>,
@@ -58,11 +72,11 @@ fn worked<M: ManagerId + Send + Sync, T: Target, R: Threads + Wait + Clock + Syn
     publisher: &mut Publisher<M>,
     load: &Load,
     target: T,
-) -> Result<Count, Fault>
+) -> Result<WorkCount, LoadError>
     requires { IsIdle (T.means target) }
 {
-    let first = clients.first_mut().ok_or(Fault::Surprising)?;
-    begin(rt, alloc, manager, first, load, target)?;
+    let first = clients.first_mut().ok_or(LoadError::WrongAnswer)?;
+    open_comms(rt, alloc, manager, first, load, target)?;
     let jobs = jobs_of(alloc, load)?;
     let signals = Signals {
         writing: AtomicU64::new(u64::from(load.writers)),
@@ -73,29 +87,42 @@ fn worked<M: ManagerId + Send + Sync, T: Target, R: Threads + Wait + Clock + Syn
 }
 
 // What a load came to whose manager has ended.
-fn told(counted: Result<Count, Fault>, ended: Result<Ended, Cause>) -> Result<Told, Fault> {
-    let count = counted?;
-    let Ok(Ended { farewell, taken }) = ended else {
-        return Err(Fault::Surprising);
+fn report_of(
+    counted: Result<WorkCount, LoadError>,
+    ended: Result<Ended, Cause>,
+) -> Result<LoadReport, LoadError> {
+    let (history, taken, untaken) = match &ended {
+        Ok(ended) => (
+            ended.farewell.history.len(),
+            ended.taken,
+            ended.farewell.untaken.len(),
+        ),
+        Err(_) => (0, 0, 0),
     };
-    Ok(Told {
+    let is_ended = ended.is_ok();
+    drop(ended);
+    let count = counted?;
+    if !is_ended {
+        return Err(LoadError::WrongAnswer);
+    }
+    Ok(LoadReport {
         changes: count.changes,
         reads: count.reads,
-        history: farewell.history.len(),
+        history,
         taken,
-        untaken: farewell.untaken.len(),
+        untaken,
         sum: count.sum,
         nanos: count.nanos,
     })
 }
 
-fn opened<M: ManagerId + Send + Sync, T: Target, R: Threads + Wait + Clock + Sync>(
+fn run_over_manager<M: ManagerId + Send + Sync, T: Target, R: Threads + Wait + Clock + Sync>(
     rt: &R,
     alloc: Global,
     builder: ManagerBuilder,
     load: &Load,
     target: T,
-) -> Result<Told, Fault>
+) -> Result<LoadReport, LoadError>
     requires named { Named builder M.book M.ledgers M.queue M.limits }
     requires target { IsIdle (T.means target) }
 {
@@ -103,10 +130,10 @@ fn opened<M: ManagerId + Send + Sync, T: Target, R: Threads + Wait + Clock + Syn
         Ok((manager, clients, publisher)) => {
             let (mut clients, mut publisher) = (clients, publisher);
             let all = clients.as_mut_slice();
-            let counted = worked(rt, alloc, &manager, all, &mut publisher, load, target);
-            told(counted, shut_down(rt, manager, clients, publisher))
+            let counted = run_clients(rt, alloc, &manager, all, &mut publisher, load, target);
+            report_of(counted, shut_down(rt, manager, clients, publisher))
         }
-        Err(fault) => Err(Fault::from(fault)),
+        Err(fault) => Err(LoadError::from(fault)),
     }
 }
 
@@ -116,7 +143,7 @@ pub(crate) fn run<T: Target, R: Threads + Wait + Clock + Sync>(
     alloc: Global,
     load: &Load,
     target: T,
-) -> Result<Told, Fault>
+) -> Result<LoadReport, LoadError>
     requires { IsIdle (T.means target) }
 {
     let limits = Limits {
@@ -126,5 +153,5 @@ pub(crate) fn run<T: Target, R: Threads + Wait + Clock + Sync>(
         outbox: 65_536,
     };
     let builder = ManagerBuilder::new(alloc, limits)?;
-    opened::<Brand, T, R>(rt, alloc, builder, load, target)
+    run_over_manager::<Brand, T, R>(rt, alloc, builder, load, target)
 }

@@ -1,5 +1,5 @@
 //! All clients at work at once.
-use crate::working::{Job, Signals, work};
+use crate::worker::{Job, Signals, work};
 use client_threads::at_work;
 use comm_manager::{Client, Manager, ManagerId, Publisher};
 use comm_targets::Target;

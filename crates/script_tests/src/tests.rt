@@ -1,49 +1,55 @@
-//! Whole scripts: `frontends`, `kernels`, `widgets` and `echoes` have rows that both managers answer alike, `shared` what the shared one alone says.
-//! `cuts` has the rows cut after each byte, `deep` what nests as deep as a line may, with a small stack, and `faults` readers, writers and
-//! heaps that fail, `ends` with a target that counts how often it is ended.
-mod cuts;
-mod deep;
-mod echoes;
-mod ends;
-mod faults;
-mod fits;
-mod frontends;
-mod kernels;
-mod often;
-mod scripts;
-mod shared;
-mod widgets;
+//! Whole scripts. `frontend_cases`, `kernel_cases`, `widget_cases` and `echo_cases` have scripts that both managers
+//! answer alike, and `shared_manager` what the shared one alone says. `truncation` has the scripts cut after each
+//! byte, `nesting` what nests as deep as a line may, with a small stack, `many_calls` readers and writers that are
+//! called often, `limits` limits that don't fit, `injected_faults` readers, writers and heaps that fail, and
+//! `target_ends` a target that counts how often it is ended. `harness` plays a script.
+mod echo_cases;
+mod frontend_cases;
+mod harness;
+mod injected_faults;
+mod kernel_cases;
+mod limits;
+mod many_calls;
+mod nesting;
+mod shared_manager;
+mod target_ends;
+mod truncation;
+mod widget_cases;
 
-use scripts::{BOTH, Script, gives, limits};
+use harness::{ScriptRun, expect_answers, program_limits};
 use std::alloc::Global;
 use std::io::Eprint;
 use std::sync::Wait;
 use std::test::Fail;
-use test_harness::Wrong;
+use test_harness::{BOTH_MANAGERS, TestError};
 
 /// How many comms there may be, at most.
-const MOST: usize = 4096;
+const MAX_COMMS: usize = 4096;
 
 /// A script and what must be written for it.
-struct Row {
+struct ScriptCase {
     name: &'static str,
     comms: usize,
     script: &'static [u8],
     answers: &'static [u8],
 }
 
-/// The row's answers are written and flushed, however many bytes are read and written at a time.
-fn all_give<R: Eprint + Wait>(rt: &R, alloc: Global, rows: &[Row]) -> Result<(), Wrong> {
-    for row in rows {
-        for over in BOTH {
+/// The answers of each case are written and flushed, however many bytes are read and written at a time.
+fn play_cases<R: Eprint + Wait>(
+    rt: &R,
+    alloc: Global,
+    cases: &[ScriptCase],
+) -> Result<(), TestError> {
+    for case in cases {
+        for over in BOTH_MANAGERS {
             for (read, write) in [(4096, 4096), (1, 4096), (4096, 1), (7, 3)] {
-                let script = Script {
-                    limits: limits(row.comms),
+                let script = ScriptRun {
+                    limits: program_limits(case.comms),
                     read,
                     write,
-                    ..Script::over(over, row.script)
+                    ..ScriptRun::over(over, case.script)
                 };
-                gives(rt, alloc, row.name, &script, Ok(()), row.answers)?;
+                expect_answers(rt, alloc, case.name, &script, Ok(()), case.answers)?;
             }
         }
     }
@@ -52,21 +58,21 @@ fn all_give<R: Eprint + Wait>(rt: &R, alloc: Global, rows: &[Row]) -> Result<(),
 
 #[test]
 fn frontends_are_answered(rt: HostRuntime) -> Result<(), Fail> {
-    Ok(all_give(&rt, rt.alloc(), &frontends::ROWS)?)
+    Ok(play_cases(&rt, rt.alloc(), &frontend_cases::ROWS)?)
 }
 
 #[test]
 fn commands_are_answered(rt: HostRuntime) -> Result<(), Fail> {
-    Ok(all_give(&rt, rt.alloc(), &kernels::ROWS)?)
+    Ok(play_cases(&rt, rt.alloc(), &kernel_cases::ROWS)?)
 }
 
 #[test]
 fn widgets_are_answered(rt: HostRuntime) -> Result<(), Fail> {
-    Ok(all_give(&rt, rt.alloc(), &widgets::ROWS)?)
+    Ok(play_cases(&rt, rt.alloc(), &widget_cases::ROWS)?)
 }
 
 #[test]
 fn widgets_that_echo_are_answered(rt: HostRuntime) -> Result<(), Fail> {
-    all_give(&rt, rt.alloc(), &echoes::ROWS)?;
-    Ok(all_give(&rt, rt.alloc(), &echoes::AS_OTHERS)?)
+    play_cases(&rt, rt.alloc(), &echo_cases::ROWS)?;
+    Ok(play_cases(&rt, rt.alloc(), &echo_cases::AS_OTHERS)?)
 }

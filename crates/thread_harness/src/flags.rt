@@ -1,9 +1,10 @@
-//! What the threads and the targets of a row tell each other.
+//! What the threads and the targets of a scenario tell each other.
 use std::hint::spin_loop;
 use std::sync::atomic::{AtomicU64, Ordering};
 use std::thread::yield_now;
 
-/// A wait ends after so many turns, in each of which it looks so often before others have theirs: some seconds in all where nobody else has work.
+/// A wait ends after so many turns, in each of which it looks so often before others have theirs: some seconds in all
+/// where nobody else has work.
 const TURNS: u32 = 5_000;
 
 const LOOKS: u32 = 20_000;
@@ -18,7 +19,7 @@ pub struct Flags {
 }
 
 impl Flags {
-    /// None is set.
+    /// Flags of which none is set.
     pub fn new() -> Flags {
         Flags {
             bits: AtomicU64::new(0),
@@ -28,10 +29,12 @@ impl Flags {
         }
     }
 
+    /// Sets it.
     pub(crate) fn set(&self, number: u64) {
         let _before = self.bits.fetch_or(1 << (number % 64), Ordering::SeqCst);
     }
 
+    /// Whether it is set.
     pub(crate) fn is_set(&self, number: u64) -> bool {
         self.bits.load(Ordering::SeqCst) & (1 << (number % 64)) != 0
     }
@@ -58,7 +61,7 @@ impl Flags {
         false
     }
 
-    /// A target waited in vain.
+    /// Counts a target that waited in vain.
     pub(crate) fn miss(&self) {
         let _before = self.late.fetch_add(1, Ordering::SeqCst);
     }
@@ -68,12 +71,12 @@ impl Flags {
         self.bits.store(u64::MAX, Ordering::SeqCst);
     }
 
-    /// Whether it was so.
+    /// Whether all are set.
     pub(crate) fn are_released(&self) -> bool {
         self.bits.load(Ordering::SeqCst) == u64::MAX
     }
 
-    /// A target ends.
+    /// Counts a target that ends.
     pub(crate) fn end(&self, is_idle: bool) {
         let ends = if is_idle {
             &self.ended
@@ -83,6 +86,7 @@ impl Flags {
         let _before = ends.fetch_add(1, Ordering::SeqCst);
     }
 
+    /// How many waits of targets were in vain.
     pub(crate) fn late(&self) -> u64 {
         self.late.load(Ordering::SeqCst)
     }

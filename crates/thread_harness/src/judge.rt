@@ -1,143 +1,185 @@
-//! Whether what came of a row is as it should be.
+//! Whether what came of a scenario is as it should be.
+use crate::expected::text_of;
 use crate::flags::Flags;
-use crate::history::{Texts, are_taken, is_answered, texts_of};
-use crate::named::Seen;
-use crate::player::Report;
-use crate::replay::{Replay, replayed};
-use crate::row::Row;
-use crate::words::{append_counted, text_of};
+use crate::history::{HistoryText, history_text};
+use crate::replay::{Replay, replay_history};
+use crate::report::Reports;
+use crate::scenario::Scenario;
 use comm_manager::Farewell;
 use comm_targets::Target;
 use std::alloc::{AllocError, Global};
-use test_harness::Wrong;
+use test_harness::{TestError, TextBuilder};
 
-fn note(is: bool, words: &str, wrong: &mut Vec<u8>) -> Result<(), AllocError> {
+/// What came of a scenario.
+#[derive(Drop)]
+pub struct Judgement {
+    /// What isn't as it should be, in lines; nothing where all is.
+    pub wrong: Vec<u8>,
+    /// The history's replies and its messages; nothing after a discard.
+    pub history: Vec<u8>,
+}
+
+fn note(is: bool, words: &str, wrong: &mut TextBuilder) {
     if !is {
-        wrong.extend_from_slice(words.as_bytes())?;
-        wrong.push(b'\n')?;
+        wrong.push(words);
+        wrong.push("\n");
     }
-    Ok(())
 }
 
 // What each text came to; and no target waited in vain, or ended with an open comm.
-fn judge_reports(reports: &[Report], flags: &Flags, wrong: &mut Vec<u8>) -> Result<(), AllocError> {
-    note(!reports.is_empty(), "no memory for reports", wrong)?;
-    for report in reports {
-        wrong.extend_from_slice(&report.wrong)?;
-        let is_told = report.is_well == report.wrong.is_empty();
-        note(is_told, "no memory to say what is wrong", wrong)?;
+fn judge_reports(reports: &Reports, flags: &Flags, wrong: &mut TextBuilder) {
+    wrong.push_bytes(reports.wrong.as_bytes());
+    for report in &reports.list {
+        wrong.push_bytes(report.wrong.as_bytes());
+        let is_said = report.is_well == report.wrong.as_bytes().is_empty();
+        note(is_said, "no memory to say what is wrong", wrong);
     }
-    note(flags.late() == 0, "a target waited in vain", wrong)?;
+    note(flags.late() == 0, "a target waited in vain", wrong);
     let (_, ended_open) = flags.ended();
-    note(ended_open == 0, "a target ended with an open comm", wrong)
+    note(ended_open == 0, "a target ended with an open comm", wrong);
 }
 
 // The history is what the clients were answered, and what was taken or wasn't.
-fn judge_texts(
+fn judge_history(
     alloc: Global,
-    reports: &mut [Report],
-    texts: &mut Texts,
-    untaken: &Texts,
-    wrong: &mut Vec<u8>,
-) -> Result<(), AllocError> {
+    reports: &Reports,
+    text: &HistoryText,
+    untaken: &HistoryText,
+    wrong: &mut TextBuilder,
+) {
     for client in 0..4u8 {
-        let is_told = is_answered(alloc, client, reports, &mut texts.answers)?;
+        let is_answered = match text.replies.of(client) {
+            Some(replies) => replies.is_whole()
+                && reports.has_replies(alloc, client, replies.as_bytes()),
+            None => false,
+        };
         note(
-            is_told,
+            is_answered,
             "a client was answered what isn't in the history",
             wrong,
-        )?;
+        );
     }
-    let are_all = are_taken(alloc, reports, &untaken.whose, &texts.whose)?;
+    let are_all = text.entries.is_whole()
+        && untaken.entries.is_whole()
+        && reports.has_taken(alloc, untaken.entries.as_bytes(), text.entries.as_bytes());
     note(
         are_all,
         "what was taken and what wasn't aren't the history",
         wrong,
-    )?;
+    );
     note(
-        texts.are_numbered,
+        text.are_numbered,
         "a client's changes aren't numbered from 1",
         wrong,
-    )?;
-    note(texts.is_ended, "no end stands last", wrong)
+    );
+    note(text.is_ended, "no end stands last", wrong);
 }
 
-fn append_sum(word: &str, number: u64, sums: &mut Vec<u8>) -> Result<(), AllocError> {
-    append_counted(word, number, sums)?;
-    sums.push(b'\n')?;
-    Ok(())
+fn push_sum(word: &str, number: u64, sums: &mut TextBuilder) {
+    sums.push_counted(word, number);
+    sums.push("\n");
 }
 
 // How many changes each client has.
-fn append_counts(counts: &[u64; 4], sums: &mut Vec<u8>) -> Result<(), AllocError> {
+fn push_counts(counts: &[u64; 4], sums: &mut TextBuilder) {
     let [first, second, third, fourth] = *counts;
-    append_sum("of 0", first, sums)?;
-    append_sum("of 1", second, sums)?;
-    append_sum("of 2", third, sums)?;
-    append_sum("of 3", fourth, sums)
+    push_sum("of 0", first, sums);
+    push_sum("of 1", second, sums);
+    push_sum("of 2", third, sums);
+    push_sum("of 3", fourth, sums);
 }
 
 // Each line that is wanted is one of the sums.
-fn judge_sums(sums: &[u8], wanted: &str, wrong: &mut Vec<u8>) -> Result<(), AllocError> {
+fn judge_sums(sums: &[u8], wanted: &str, wrong: &mut TextBuilder) {
     for line in wanted.lines() {
         if !text_of(sums).lines().any(|sum| sum == line) {
-            note(false, line, wrong)?;
-            note(false, "isn't among these:", wrong)?;
-            wrong.extend_from_slice(sums)?;
+            wrong.push(line);
+            wrong.push("\nisn't among these:\n");
+            wrong.push_bytes(sums);
         }
     }
-    Ok(())
 }
 
-// The history, played again.
+// A manager of one thread answers the history's calls as the clients were, and leaves as many targets.
+fn judge_replay<T: Target>(
+    replayed: &Result<Replay<T>, TestError>,
+    text: &HistoryText,
+    left: usize,
+    sums: &mut TextBuilder,
+    wrong: &mut TextBuilder,
+) {
+    match replayed {
+        Ok(replay) => {
+            let is_same = text.whole.is_whole()
+                && replay.whole.is_whole()
+                && replay.whole.as_bytes() == text.whole.as_bytes()
+                && replay.targets.len() == left;
+            note(is_same, "a manager of one thread answers otherwise", wrong);
+            push_sum("most", replay.most as u64, sums);
+        }
+        Err(TestError(why)) => note(false, why, wrong),
+    }
+}
+
+// The history, and what it is when it is played again. Gives its replies and messages.
 fn judge_farewell<T: Target>(
     alloc: Global,
-    row: &Row,
-    reports: &mut [Report],
+    scenario: &Scenario,
+    reports: &Reports,
     farewell: Farewell,
     left: usize,
     fresh: Vec<T>,
-    sums: &mut Vec<u8>,
-    wrong: &mut Vec<u8>,
-) -> Result<Vec<u8>, Wrong> {
-    let mut fresh = fresh;
-    let Farewell { history, untaken } = farewell;
-    let mut texts = texts_of(alloc, &history)?;
-    let rest = texts_of(alloc, &untaken)?;
-    judge_texts(alloc, reports, &mut texts, &rest, wrong)?;
-    let Replay { whole, most } = replayed(alloc, row.limits(), &history, &mut fresh)?;
-    let is_same = whole.as_slice() == texts.whole.as_slice() && fresh.len() == left;
-    note(is_same, "a manager of one thread answers otherwise", wrong)?;
-    append_sum("history", history.len() as u64, sums)?;
-    append_sum("untaken", untaken.len() as u64, sums)?;
-    append_sum("most", most as u64, sums)?;
-    append_counts(&texts.counts, sums)?;
-    Ok(whole)
+    sums: &mut TextBuilder,
+    wrong: &mut TextBuilder,
+) -> TextBuilder {
+    let text = history_text(alloc, &farewell.history);
+    let untaken = history_text(alloc, &farewell.untaken);
+    judge_history(alloc, reports, &text, &untaken, wrong);
+    push_sum("history", farewell.history.len() as u64, sums);
+    push_sum("untaken", farewell.untaken.len() as u64, sums);
+    push_counts(&text.counts, sums);
+    let replayed = replay_history(alloc, scenario.limits(), &farewell.history, fresh);
+    judge_replay(&replayed, &text, left, sums, wrong);
+    drop(replayed);
+    drop(farewell);
+    let HistoryText { whole, .. } = text;
+    whole
 }
 
-/// What came of a row, where so many targets are left.
-pub fn judged<T: Target>(
+// The words of a judgement, where there was memory for them.
+fn finish_judgement(wrong: TextBuilder, history: TextBuilder) -> Result<Judgement, AllocError> {
+    Ok(Judgement {
+        wrong: wrong.finish()?,
+        history: history.finish()?,
+    })
+}
+
+/// What came of a scenario, of whose targets so many are left. `fresh` are as many targets as it had, which play its
+/// history again.
+pub(crate) fn judge_run<T: Target>(
     alloc: Global,
-    row: &Row,
-    reports: &mut [Report],
+    scenario: &Scenario,
+    reports: Reports,
     farewell: Option<Farewell>,
     left: usize,
     fresh: Vec<T>,
     flags: &Flags,
-) -> Result<Seen, Wrong> {
-    let mut wrong = Vec::new(alloc);
-    let mut sums = Vec::new(alloc);
-    judge_reports(reports, flags, &mut wrong)?;
+) -> Result<Judgement, TestError> {
+    let mut wrong = TextBuilder::new(alloc);
+    let mut sums = TextBuilder::new(alloc);
+    judge_reports(&reports, flags, &mut wrong);
     let (ended, _) = flags.ended();
-    append_sum("ends", ended, &mut sums)?;
+    push_sum("ends", ended, &mut sums);
     // Nobody waits when the history is played again.
     flags.release();
     let history = match farewell {
         Some(farewell) => judge_farewell(
-            alloc, row, reports, farewell, left, fresh, &mut sums, &mut wrong,
-        )?,
-        None => Vec::new(alloc),
+            alloc, scenario, &reports, farewell, left, fresh, &mut sums, &mut wrong,
+        ),
+        None => TextBuilder::new(alloc),
     };
-    judge_sums(&sums, row.sums, &mut wrong)?;
-    Ok(Seen { wrong, history })
+    judge_sums(sums.as_bytes(), scenario.sums, &mut wrong);
+    drop(reports);
+    drop(sums);
+    Ok(finish_judgement(wrong, history)?)
 }

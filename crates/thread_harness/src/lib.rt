@@ -1,19 +1,21 @@
 //! Texts that the clients of one manager play, alone or in threads, and what their history must be then.
 //!
-//! A [`Row`] is a test: the limits, what is played before, at once by four threads, and after, and how the manager ends. [`play`] plays it over a
-//! manager of any targets, and says what isn't as it should be. Whatever the threads did, each line has one of the answers that it names; what
-//! each client was answered is what the history has of it; what was taken, and then what wasn't, is the history in its order; and the history's calls
+//! A [`Scenario`] is a test: the limits, what is played before, at once by four threads, and after, and how the
+//! manager ends. [`play_scenario`] plays it over a manager of any targets, and says what isn't as it should be.
+//! Whatever the threads did, each line has one of the answers that it names; what each client was answered is what
+//! the history has of it; what was taken, and then what wasn't, is the history in its order; and the history's calls
 //! give its replies and messages again on a manager of one thread.
 //!
-//! A text is lines, in parts with a blank line between them. A part that begins with `times N` is played so many times, and with
-//! `times N until WORDS` until its last line is answered so. `#` is the number of the round.
+//! A text is lines, in blocks with a blank line between them. A block that begins with `times N` is played so many
+//! times, and with `times N until WORDS` until its last line is answered so. `#` is the number of the round.
 //!
 //! | Line | Asks for | Answer |
 //! |---|---|---|
 //! | `C CALL` (a line of `call_of`), `C ask CALL` | a change of the client C, by its own function or by `ask` | the words of the reply, or `history_full N`, `outbox_full N`, `no_memory` |
 //! | `C register NAME` | the next target is registered | the same |
-//! | `C refusing N CALL` | the same as `C CALL`, while the heap is asked to refuse the allocation N | the same |
+//! | `C refusing N LINE` | what `C LINE` asks for, while the heap is asked to refuse the allocation N | the same |
 //! | `C infos`, `C infos NAME` | which comms are open | `infos FRONT ID TARGET ..`, or `no_version` |
+//! | `C count`, `C count NAME` | how many comms are open | `comms N`, or `no_version` |
 //! | `C state ID` | a comm's state | `state FRONT WORDS`, or `no_version` |
 //! | `C hear` | hears the last stamp that the same text had, by a change or a full history | `heard N` |
 //! | `C seen`, `C id` | how much it has seen, its number | `seen N`, `id N` |
@@ -23,23 +25,28 @@
 //! | `set F`, `wait F`, `is_set F` | flags that threads and targets share; a wait ends after some seconds | nothing; `set` or `late`; `set` or `unset` |
 //! | `yield` | other threads have their turn | that of the line before |
 //!
-//! A line ends in ` => ` and the answers that may come, with ` | ` between them, of which one that ends in `*` stands for all that begin so. After ` ~ `
-//! stand answers at which it is asked again. A line that begins with `after WORDS: ` is left out where the line before wasn't answered so.
+//! A line ends in ` => ` and the answers that may come, with ` | ` between them, of which one that ends in `*` stands
+//! for all that begin so. After ` ~ ` stand answers at which it is asked again. A line that begins with `after WORDS:
+//! ` is left out where the line before wasn't answered so.
 #![tactic(auto)]
 
+mod block;
+mod entry_line;
+mod expected;
 mod flags;
-mod head;
+mod gated_target;
+mod harness;
 mod history;
 mod judge;
-mod named;
 mod player;
 mod replay;
-mod row;
+mod report;
+mod scenario;
 mod threads;
-mod watched;
-mod words;
 
 pub use flags::Flags;
-pub use named::{Seen, play};
-pub use row::{End, Row};
-pub use watched::{Gates, Made, Watched, fleet};
+pub use gated_target::{GatedTarget, Gates, TestTarget, targets_of};
+pub use harness::play_scenario;
+pub use judge::Judgement;
+pub use player::{ClientPlayer, NO_MEMORY};
+pub use scenario::{Ending, Scenario};

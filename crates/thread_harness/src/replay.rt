@@ -7,13 +7,15 @@ use comm_targets::Target;
 use comm_value::Text;
 use std::alloc::Global;
 use std::sync::Arc;
-use test_harness::{Wrong, append_answer};
+use test_harness::{TestError, TextBuilder, append_answer};
 
-/// What came of it: the replies and the messages, and how many comms were open at most after a call.
+/// What came of it: the replies and the messages, how many comms were open at most after a call, and the targets that
+/// aren't registered.
 #[derive(Drop)]
-pub struct Replay {
-    pub whole: Vec<u8>,
-    pub most: usize,
+pub(crate) struct Replay<T: Target> {
+    pub(crate) whole: TextBuilder,
+    pub(crate) most: usize,
+    pub(crate) targets: Vec<T>,
 }
 
 // Registers the next target.
@@ -21,20 +23,20 @@ fn register<T: Target>(
     core: &mut Core<T>,
     name: &Text,
     targets: &mut Vec<T>,
-) -> Result<(Reply, Vec<Outgoing>), Wrong>
+) -> Result<(Reply, Vec<Outgoing>), TestError>
     requires { core.old.settled ≡ true }
     ensures { core.new.settled ≡ true }
 {
     let name = name.copy()?;
-    let target = targets.pop().ok_or(Wrong("no target is left"))?;
+    let target = targets.pop().ok_or(TestError("no target is left"))?;
     if !target.idle() {
-        return Err(Wrong("a target isn't idle"));
+        return Err(TestError("a target isn't idle"));
     }
     match core.register(name, target) {
         Ok(answered) => Ok(answered),
         Err((_, target)) => {
             drop(target);
-            Err(Wrong("no memory"))
+            Err(TestError("no memory"))
         }
     }
 }
@@ -45,7 +47,7 @@ fn step<T: Target>(
     core: &mut Core<T>,
     call: &Call,
     targets: &mut Vec<T>,
-) -> Result<(Reply, Vec<Outgoing>), Wrong>
+) -> Result<(Reply, Vec<Outgoing>), TestError>
     requires { core.old.settled ≡ true }
     ensures { core.new.settled ≡ true }
 {
@@ -59,14 +61,13 @@ fn step<T: Target>(
 }
 
 // Makes the call of an entry, if it isn't the end.
-fn play_one<T: Target>(
+fn play_entry<T: Target>(
     alloc: Global,
     core: &mut Core<T>,
     place: u64,
     entry: &Entry,
-    targets: &mut Vec<T>,
-    replay: &mut Replay,
-) -> Result<(), Wrong>
+    replay: &mut Replay<T>,
+) -> Result<(), TestError>
     requires { core.old.settled ≡ true }
     ensures { core.new.settled ≡ true }
 {
@@ -83,47 +84,48 @@ fn play_one<T: Target>(
         client: *client,
         number: *number,
     };
-    let (reply, outgoing) = step(alloc, core, call, targets)?;
-    let done = append_answer(alloc, place, &parent, &reply, &outgoing, &mut replay.whole);
+    let (reply, outgoing) = step(alloc, core, call, &mut replay.targets)?;
+    let text = replay.whole.bytes_mut();
+    let done = append_answer(alloc, place, &parent, &reply, &outgoing, text);
     drop((reply, outgoing));
-    done?;
+    replay.whole.note(done);
     let open = core.infos(None)?;
     replay.most = replay.most.max(open.as_slice().len());
     Ok(())
 }
 
-fn play_all<T: Target>(
+fn play_entries<T: Target>(
     alloc: Global,
     core: &mut Core<T>,
     history: &[Arc<Entry, Global>],
-    targets: &mut Vec<T>,
-    replay: &mut Replay,
-) -> Result<(), Wrong>
+    replay: &mut Replay<T>,
+) -> Result<(), TestError>
     requires { core.old.settled ≡ true }
     ensures { core.new.settled ≡ true }
 {
     for (place, entry) in history.iter().enumerate() {
         let place = (place as u64).saturating_add(1);
-        play_one(alloc, core, place, entry, targets, replay)?;
+        play_entry(alloc, core, place, entry, replay)?;
     }
     Ok(())
 }
 
-/// What a manager of one thread with these targets makes of the history's calls. Targets that aren't registered stay.
-pub fn replayed<T: Target>(
+/// What a manager of one thread with these targets makes of the history's calls. Err: a call can't be made.
+pub(crate) fn replay_history<T: Target>(
     alloc: Global,
     limits: Limits,
     history: &[Arc<Entry, Global>],
-    targets: &mut Vec<T>,
-) -> Result<Replay, Wrong> {
+    targets: Vec<T>,
+) -> Result<Replay<T>, TestError> {
     let mut replay = Replay {
-        whole: Vec::new(alloc),
+        whole: TextBuilder::new(alloc),
         most: 0,
+        targets,
     };
     let Ok(mut core) = Core::new(alloc, limits) else {
-        return Err(Wrong("no manager of one thread"));
+        return Err(TestError("no manager of one thread"));
     };
-    let done = play_all(alloc, &mut core, history, targets, &mut replay);
+    let done = play_entries(alloc, &mut core, history, &mut replay);
     let _ended = core.stop_all();
     done?;
     Ok(replay)

@@ -1,6 +1,7 @@
-//! A row's texts, each in a thread of its own.
+//! A scenario's texts, each in a thread of its own.
 use crate::flags::Flags;
-use crate::player::{Report, played};
+use crate::player::play_text;
+use crate::report::Report;
 use comm_manager::{Client, Manager, ManagerId, Publisher};
 use comm_targets::Target;
 use std::alloc::Global;
@@ -8,7 +9,7 @@ use std::sync::Wait;
 use std::thread::{Threads, join};
 
 // With the targets, and no publisher.
-fn with_targets<M: ManagerId, T: Target, R: Wait>(
+fn play_with_targets<M: ManagerId, T: Target, R: Wait>(
     rt: &R,
     alloc: Global,
     manager: &Manager<M, T>,
@@ -18,7 +19,7 @@ fn with_targets<M: ManagerId, T: Target, R: Wait>(
     flags: &Flags,
 ) -> Report {
     let mut none = Vec::new(alloc);
-    played(
+    play_text(
         rt,
         alloc,
         Some(manager),
@@ -31,7 +32,7 @@ fn with_targets<M: ManagerId, T: Target, R: Wait>(
 }
 
 // With the publisher, and no targets.
-fn with_publisher<M: ManagerId, T: Target, R: Wait>(
+fn play_with_publisher<M: ManagerId, T: Target, R: Wait>(
     rt: &R,
     alloc: Global,
     manager: &Manager<M, T>,
@@ -41,7 +42,7 @@ fn with_publisher<M: ManagerId, T: Target, R: Wait>(
     flags: &Flags,
 ) -> Report {
     let mut none = Vec::new(alloc);
-    played(
+    play_text(
         rt,
         alloc,
         Some(manager),
@@ -54,7 +55,7 @@ fn with_publisher<M: ManagerId, T: Target, R: Wait>(
 }
 
 // With neither.
-fn alone<M: ManagerId, T: Target, R: Wait>(
+fn play_alone<M: ManagerId, T: Target, R: Wait>(
     rt: &R,
     alloc: Global,
     manager: &Manager<M, T>,
@@ -63,7 +64,7 @@ fn alone<M: ManagerId, T: Target, R: Wait>(
     flags: &Flags,
 ) -> Report {
     let mut none = Vec::new(alloc);
-    with_targets(rt, alloc, manager, clients, text, &mut none, flags)
+    play_with_targets(rt, alloc, manager, clients, text, &mut none, flags)
 }
 
 // The first two threads.
@@ -80,8 +81,8 @@ fn first_two<M: ManagerId + Send + Sync, T: Target, R: Threads + Wait + Sync>(
     let (one, others) = clients.split_at_mut(clients.len().min(1));
     join(
         rt,
-        move || with_targets(rt, alloc, manager, one, first, targets, flags),
-        move || alone(rt, alloc, manager, others, second, flags),
+        move || play_with_targets(rt, alloc, manager, one, first, targets, flags),
+        move || play_alone(rt, alloc, manager, others, second, flags),
     )
 }
 
@@ -99,13 +100,13 @@ fn last_two<M: ManagerId + Send + Sync, T: Target, R: Threads + Wait + Sync>(
     let (one, others) = clients.split_at_mut(clients.len().min(1));
     join(
         rt,
-        move || alone(rt, alloc, manager, one, first, flags),
-        move || with_publisher(rt, alloc, manager, others, publishers, second, flags),
+        move || play_alone(rt, alloc, manager, one, first, flags),
+        move || play_with_publisher(rt, alloc, manager, others, publishers, second, flags),
     )
 }
 
-/// All four at once.
-pub fn at_once<M: ManagerId + Send + Sync, T: Target, R: Threads + Wait + Sync>(
+/// Plays all four texts at once.
+pub(crate) fn play_in_threads<M: ManagerId + Send + Sync, T: Target, R: Threads + Wait + Sync>(
     rt: &R,
     alloc: Global,
     manager: &Manager<M, T>,

@@ -1,4 +1,4 @@
--- The ids of a target as its comms are opened and told.
+-- The ids of a target as its comms are opened and get messages.
 use Rattle.std.proofs.Common.{◌≡◌, ℕ, List, [], ◌∷◌, ◌++◌, Bool, true, false, ◌||◌, cond, Option, None, Some, refl, sym, ap, ◌∙◌}
 use Rattle.std.proofs.lemmas.Slice.Eq.{bytes_eq-Decides}
 use Rattle.std.specs.Str.{bytes_eq}
@@ -35,5 +35,5 @@ pub ids_now : (old new : Meaning) (e : Event) (a : Answer) → Commits old new e
 ids_now old new e a c =
     ap (λ m. m.ids) (c.2 (record { event = e; answer = a }) (ap (λ m. m.staged) c.1)) ∙ ap (λ m. ids_after m.ids e) c.1
 
-pub told : (old new : Meaning) (e : Event) (a : Answer) → Commits old new e a → is_message e ≡ true → new.ids ≡ old.ids
-told old new e a c said = ids_now old new e a c ∙ ids_after-message old.ids e said
+pub ids_unchanged : (old new : Meaning) (e : Event) (a : Answer) → Commits old new e a → is_message e ≡ true → new.ids ≡ old.ids
+ids_unchanged old new e a c said = ids_now old new e a c ∙ ids_after-message old.ids e said

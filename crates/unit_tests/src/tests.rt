@@ -1,13 +1,14 @@
-//! A file or a few for each crate that has tests: `json_values`, `value`, `messages`, `targets`, `widget` and `fakes` are of the crates of these
-//! names, `core_calls`, `core_free` and `core_entries` of `comm_core`, and `faults` of what the faults of all say.
+//! A file or a few for each crate that has tests, named after it: `json_reading` is of `comm_json`, `value`,
+//! `messages`, `targets` and `widget` of the crates of these names, `core_calls`, `core_entries` and `core_scripted`
+//! of `comm_core`, by `core_scenes`, and `refusing_heap` of `test_support`. `faults` has what the faults of all say.
 mod core_calls;
 mod core_entries;
-mod core_free;
-mod fakes;
+mod core_scenes;
+mod core_scripted;
 mod faults;
-mod json_values;
-mod managed;
+mod json_reading;
 mod messages;
+mod refusing_heap;
 mod targets;
 mod value;
 mod widget;

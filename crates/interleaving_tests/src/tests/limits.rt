@@ -1,14 +1,14 @@
-//! Each limit is met and told.
-use crate::tests::played::plays_all;
+//! Each limit is met and said.
+use crate::tests::harness::play_all_of;
 use comm_core::{Limits, NewFault};
 use comm_manager::ManagerBuilder;
 use comm_targets::Echo;
 use std::alloc::Global;
 use std::test::*;
-use thread_harness::Row;
+use thread_harness::Scenario;
 
-const ROWS: [Row; 6] = [
-    Row {
+const ROWS: [Scenario; 6] = [
+    Scenario {
         name: "an outbox of one: an entry must be taken before the next change",
         limits: (1, 4_096, 1_000, 1),
         before: "0 close q => no_comm
@@ -25,9 +25,9 @@ times 100
 take => took 0 *
 take => none",
         sums: "history 103\nuntaken 1",
-        ..Row::NOTHING
+        ..Scenario::NOTHING
     },
-    Row {
+    Scenario {
         name: "an outbox of three: three changes, one that is refused, and three entries to take",
         limits: (2, 4_096, 1_000, 3),
         before: "times 100
@@ -42,9 +42,9 @@ take => none
 
 taken => taken 300",
         sums: "history 301\nuntaken 1",
-        ..Row::NOTHING
+        ..Scenario::NOTHING
     },
-    Row {
+    Scenario {
         name: "a history of two is full whether or not entries wait; reads go on",
         limits: (1, 4_096, 2, 64),
         before: "0 close q => no_comm
@@ -54,9 +54,9 @@ take => took 0 1
 0 close q => history_full 2
 0 infos => infos 2",
         sums: "history 3\nuntaken 2",
-        ..Row::NOTHING
+        ..Scenario::NOTHING
     },
-    Row {
+    Scenario {
         name: "where the history is full and too many entries wait, the history is said to be full",
         limits: (1, 4_096, 2, 2),
         before: "0 close q => no_comm
@@ -67,9 +67,9 @@ take => took 0 1
 take => took 0 2
 0 close q => history_full 2",
         sums: "history 3\nuntaken 1",
-        ..Row::NOTHING
+        ..Scenario::NOTHING
     },
-    Row {
+    Scenario {
         name: "one entry may wait, and two clients make changes while a third thread takes",
         limits: (2, 16, 1_000, 1),
         threads: [
@@ -85,9 +85,9 @@ taken => taken 200",
         ],
         after: "take => none",
         sums: "history 201\nuntaken 1\nmost 0\nof 0 100\nof 1 100",
-        ..Row::NOTHING
+        ..Scenario::NOTHING
     },
-    Row {
+    Scenario {
         name: "two threads put, and a third takes of it what it can",
         limits: (2, 16, 1_000, 64),
         threads: [
@@ -101,18 +101,18 @@ take => took * ~ none",
         ],
         after: "taken => taken 150",
         sums: "history 201\nuntaken 51\nof 0 100\nof 1 100",
-        ..Row::NOTHING
+        ..Scenario::NOTHING
     },
 ];
 
 #[test]
-fn limits_are_met_and_told(rt: HostRuntime) -> Result<(), Fail> {
-    plays_all::<Echo, HostRuntime>(&rt, rt.alloc(), &ROWS)?;
+fn limits_are_met_and_said(rt: HostRuntime) -> Result<(), Fail> {
+    play_all_of::<Echo, HostRuntime>(&rt, rt.alloc(), &ROWS)?;
     Ok(())
 }
 
 // Whether there is no manager of these limits, since they are out of their bounds.
-fn is_bad(alloc: Global, clients: u8, comms: usize, history: u64, outbox: usize) -> bool {
+fn are_refused(alloc: Global, clients: u8, comms: usize, history: u64, outbox: usize) -> bool {
     let limits = Limits {
         clients,
         comms,
@@ -138,9 +138,12 @@ fn limits_out_of_their_bounds_make_no_manager(rt: HostRuntime) {
     let alloc = rt.alloc();
     for (clients, comms, history, outbox) in bad {
         assert!(rt;
-            is_bad(alloc, clients, comms, history, outbox),
+            are_refused(alloc, clients, comms, history, outbox),
             "{clients} {comms} {history} {outbox}"
         );
     }
-    assert!(rt; !is_bad(alloc, 4, 4_096, 4_294_967_295, 65_536), "the most");
+    assert!(rt;
+        !are_refused(alloc, 4, 4_096, 4_294_967_295, 65_536),
+        "the most"
+    );
 }

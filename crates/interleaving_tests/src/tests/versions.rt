@@ -1,8 +1,9 @@
-//! A writer and two readers of the versions: what each has seen, alone and with threads, of two entries that one publish shows.
+//! A writer and two readers of the versions: what each has seen, alone and with threads, of two entries that one
+//! publish shows.
 ghost use Rattle.std.specs.Prelude.{◌≡◌, ◌<◌, ◌∷◌, [], IfOk, true};
 ghost use Rattle.std.specs.Arc.{arc_value};
 ghost use Rattle.comm_core.specs.declared.row.Row.TheVariants as row;
-ghost use Rattle.interleaving_tests.specs.Days.{close_of};
+ghost use Rattle.interleaving_tests.specs.Closes.{close_of};
 
 use comm_core::{Call, Entry, Outgoings, Reply, Row, StateAnswer};
 use comm_value::Text;
@@ -12,10 +13,10 @@ use std::marker::Brand;
 use std::sync::{Arc, Wait};
 use std::test::*;
 use std::thread::{Threads, join, yield_now};
-use test_harness::{Wrong, holds};
+use test_harness::{TestError, holds};
 
 // The entry of a close of a comm that isn't there.
-fn closed(alloc: Global, number: u64) -> Result<Change, AllocError>
+fn close_change(alloc: Global, number: u64) -> Result<Change, AllocError>
     ensures entry { IfOk result (λ c. arc_value c.entry ≡ close_of number) }
     ensures row { IfOk result (λ c. c.row ≡ row.Same) }
 {
@@ -57,12 +58,12 @@ fn append_two<M: History>(writer: &mut VersionWriter<M>, change: Change) -> bool
 }
 
 // Appends two, and then publishes both.
-fn wrote<M: History, R: Wait>(rt: &R, alloc: Global, writer: &mut VersionWriter<M>) -> bool
+fn write_both<M: History, R: Wait>(rt: &R, alloc: Global, writer: &mut VersionWriter<M>) -> bool
     requires front { writer.old.front ≡ [] }
     requires pending { writer.old.pending ≡ [] }
     requires limits { 0 < M.limits.clients }
 {
-    let (Ok(one), Ok(two)) = (closed(alloc, 1), closed(alloc, 2)) else {
+    let (Ok(one), Ok(two)) = (close_change(alloc, 1), close_change(alloc, 2)) else {
         return false;
     };
     if !append_one(writer, one) || !append_two(writer, two) {
@@ -88,18 +89,18 @@ fn read_both<M: History>(alloc: Global, mut reader: VersionReader<M>) -> (Versio
 }
 
 // No comm is there, after so many entries.
-fn nothing_there<M: History>(
+fn find_nothing<M: History>(
     alloc: Global,
     reader: &mut VersionReader<M>,
     front: u64,
-) -> Result<(), Wrong> {
+) -> Result<(), TestError> {
     let id = Text::copy_of(alloc, "q")?;
     let Ok(infos) = reader.read_infos(alloc, Some(&id)) else {
-        return Err(Wrong("no list is read"));
+        return Err(TestError("no list is read"));
     };
     let is_empty = infos.front == front && infos.comms.as_slice().is_empty();
     let Ok(state) = reader.read_state(&id) else {
-        return Err(Wrong("no state is read"));
+        return Err(TestError("no state is read"));
     };
     let is_none = state.front == front && matches!(state.answer, StateAnswer::NoComm);
     holds(
@@ -109,22 +110,22 @@ fn nothing_there<M: History>(
 }
 
 // A reader that hears a stamp has seen what it tells of.
-fn heard<M: History>(
+fn hear_stamp<M: History>(
     alloc: Global,
     writer: &VersionWriter<M>,
     reader: &mut VersionReader<M>,
-) -> Result<(), Wrong> {
+) -> Result<(), TestError> {
     let stamp = writer.stamp();
     let copy = stamp.copy();
     let was_none = reader.seen() == 0;
     reader.hear(&copy);
     let are_two = reader.seen() == 2 && stamp.number() == 2 && copy.number() == 2;
     holds(was_none && are_two, "a stamp tells of something else")?;
-    nothing_there(alloc, reader, 2)
+    find_nothing(alloc, reader, 2)
 }
 
 // One writes while the other reads.
-fn both<M: History + Send + Sync, R: Threads + Wait + Sync>(
+fn write_and_read<M: History + Send + Sync, R: Threads + Wait + Sync>(
     rt: &R,
     alloc: Global,
     writer: &mut VersionWriter<M>,
@@ -138,57 +139,60 @@ fn both<M: History + Send + Sync, R: Threads + Wait + Sync>(
         rt,
         move || -> bool
             requires { (writer.now.front ≡ []) × (writer.now.pending ≡ []) × (0 < M.limits.clients) }
-        { wrote(rt, alloc, writer) },
+        { write_both(rt, alloc, writer) },
         move || read_both(alloc, reader),
     )
 }
 
-fn played<M: History + Send + Sync, R: Threads + Wait + Sync>(
+fn play_readers<M: History + Send + Sync, R: Threads + Wait + Sync>(
     rt: &R,
     alloc: Global,
     writer: &mut VersionWriter<M>,
     readers: Vec<VersionReader<M>>,
-) -> Result<(), Wrong>
+) -> Result<(), TestError>
     requires front { writer.old.front ≡ [] }
     requires pending { writer.old.pending ≡ [] }
     requires limits { 0 < M.limits.clients }
 {
     let mut readers = readers;
-    let mut two = readers.pop().ok_or(Wrong("no reader"))?;
-    let one = readers.pop().ok_or(Wrong("one reader"))?;
-    nothing_there(alloc, &mut two, 0)?;
-    let (done, (one, front)) = both(rt, alloc, writer, one);
-    holds(
-        done && front == 2 && one.seen() == 2,
-        "a reader doesn't see both entries",
-    )?;
-    heard(alloc, writer, &mut two)
+    let (Some(mut two), Some(one)) = (readers.pop(), readers.pop()) else {
+        return Err(TestError("not two readers"));
+    };
+    let is_nothing = find_nothing(alloc, &mut two, 0);
+    let (done, (one, front)) = write_and_read(rt, alloc, writer, one);
+    let are_seen = done && front == 2 && one.seen() == 2;
+    drop(one);
+    let is_heard = hear_stamp(alloc, writer, &mut two);
+    drop(two);
+    is_nothing?;
+    holds(are_seen, "a reader doesn't see both entries")?;
+    is_heard
 }
 
-fn opened<M: History + Send + Sync, R: Threads + Wait + Sync>(
+fn play_over_versions<M: History + Send + Sync, R: Threads + Wait + Sync>(
     rt: &R,
     alloc: Global,
     history: BlankHistory,
-) -> Result<(), Wrong>
+) -> Result<(), TestError>
     requires book { history ≡ M.book }
     requires clients { M.limits.clients ≡ 2 }
     requires comms { M.limits.comms ≡ 16 }
 {
     let Ok((mut writer, readers)) = versions::<M, R>(rt, alloc, history, 2, 16) else {
-        return Err(Wrong("no versions"));
+        return Err(TestError("no versions"));
     };
-    let came = played(rt, alloc, &mut writer, readers);
+    let came = play_readers(rt, alloc, &mut writer, readers);
     writer.end(rt);
     came
 }
 
-// The call of `opened` picks the history's name.
-fn named<R: Threads + Wait + Sync>(rt: &R, alloc: Global) -> Result<(), Wrong> {
-    opened::<Brand, R>(rt, alloc, BlankHistory::new())
+// The call of `play_over_versions` picks the history's name.
+fn play_new_history<R: Threads + Wait + Sync>(rt: &R, alloc: Global) -> Result<(), TestError> {
+    play_over_versions::<Brand, R>(rt, alloc, BlankHistory::new())
 }
 
 #[test]
-fn a_writer_and_two_readers(rt: HostRuntime) -> Result<(), Fail> {
-    named(&rt, rt.alloc())?;
+fn readers_see_two_entries_that_one_publish_shows(rt: HostRuntime) -> Result<(), Fail> {
+    play_new_history(&rt, rt.alloc())?;
     Ok(())
 }

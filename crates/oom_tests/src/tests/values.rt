@@ -1,5 +1,5 @@
 //! Values of widget states, and messages, that are made with an allocation refused.
-use crate::tests::steps::PARENT;
+use crate::tests::core_steps::PARENT;
 use crate::tests::trial::MEMORY;
 use comm_messages::{Incoming, MessageFault, Outgoing, message_of, read_message, write_message};
 use comm_value::{
@@ -8,12 +8,12 @@ use comm_value::{
 };
 use serde_json::Value;
 use std::alloc::Global;
-use test_harness::{Wrong, body_of, buffers_of};
+use test_harness::{TestError, TextBuilder, body_of, buffers_of};
 use test_support::{refuse, was_refused};
 
 /// What meets the refusal.
 #[derive(Clone, Copy, Debug, PartialEq, Eq, Drop)]
-pub enum Made {
+pub enum MadeBy {
     /// A value of JSON, JSON of that, and a value again.
     Json,
     /// A copy, which shares all that it is made of.
@@ -33,14 +33,14 @@ pub enum Made {
 }
 
 /// What is made of a text, and of another, and what comes, as a text.
-pub struct Making {
-    pub made: Made,
+pub struct MakingCase {
+    pub made: MadeBy,
     pub of: &'static str,
     pub other: &'static str,
     pub text: &'static str,
 }
 
-const STATE: &str =
+const NESTED_STATE: &str =
     r#"{"k":1,"l":[null,true,"text",-5,{"z":"y"}],"m":{"a":{"b":{}},"c":[[],["deep"]]},"n":18446744073709551615}"#;
 
 const PATHS: &str = r#"[["k"],["l",0],["m","c",1,0]]"#;
@@ -51,85 +51,87 @@ const LINE: &str =
 
 const OPENS: &str = "client 0 opens a of t, with a version, 1 key and 2 buffers";
 
-pub const VALUES: [Making; 2] = [
-    Making {
-        made: Made::Json,
-        of: STATE,
+pub const VALUES: [MakingCase; 2] = [
+    MakingCase {
+        made: MadeBy::Json,
+        of: NESTED_STATE,
         other: "{}",
-        text: STATE,
+        text: NESTED_STATE,
     },
-    Making {
-        made: Made::Merged,
-        of: STATE,
+    MakingCase {
+        made: MadeBy::Merged,
+        of: NESTED_STATE,
         other: r#"{"a":[1],"k":2,"z":{"new":"key"}}"#,
         text: r#"{"a":[1],"k":2,"l":[null,true,"text",-5,{"z":"y"}],"m":{"a":{"b":{}},"c":[[],["deep"]]},"n":18446744073709551615,"z":{"new":"key"}}"#,
     },
 ];
 
-pub const PLACES: [Making; 2] = [
-    Making {
-        made: Made::Paths,
+pub const PLACES: [MakingCase; 2] = [
+    MakingCase {
+        made: MadeBy::Paths,
         of: PATHS,
         other: "{}",
         text: PATHS,
     },
-    Making {
-        made: Made::Placed,
-        of: STATE,
+    MakingCase {
+        made: MadeBy::Placed,
+        of: NESTED_STATE,
         other: PATHS,
         text: r#"{"l":[null,true,"text",-5,{"z":"y"}],"m":{"a":{"b":{}},"c":[[],[null]]},"n":18446744073709551615}[["k"],["l",0],["m","c",1,0]]3 buffers"#,
     },
 ];
 
-pub const COPIES: [Making; 1] = [Making {
-    made: Made::Copy,
-    of: STATE,
+pub const COPIES: [MakingCase; 1] = [MakingCase {
+    made: MadeBy::Copy,
+    of: NESTED_STATE,
     other: "{}",
-    text: STATE,
+    text: NESTED_STATE,
 }];
 
-pub const MESSAGES: [Making; 3] = [
-    Making {
-        made: Made::Read,
+pub const MESSAGES: [MakingCase; 3] = [
+    MakingCase {
+        made: MadeBy::Read,
         of: LINE,
         other: "{}",
         text: OPENS,
     },
-    Making {
-        made: Made::Taken,
+    MakingCase {
+        made: MadeBy::Taken,
         of: LINE,
         other: "{}",
         text: OPENS,
     },
-    Making {
-        made: Made::Written,
+    MakingCase {
+        made: MadeBy::Written,
         of: r#"{"k":[1,"x"]}"#,
         other: r#"{"k":[1,"x"]} 0102"#,
         text: r#"{"buffers":["AQI="],"call":1,"client":0,"content":{"comm_id":"a","data":{"k":[1,"x"]}},"header":{"msg_type":"comm_msg"},"metadata":{}}"#,
     },
 ];
 
-/// Whether it is right that this came. The arena for lines asks again for less where it is refused a chunk, so a refusal needn't end the
-/// reading of a line.
-pub fn wanted(row: &Making, is_refused: bool, came: &[u8]) -> &'static str {
-    let may_do_without = row.made == Made::Read && came == row.text.as_bytes();
+/// Whether it is right that this came. The arena for lines asks again for less where it is refused a chunk, so a
+/// refusal needn't end the reading of a line.
+pub(super) fn expected_text(case: &MakingCase, is_refused: bool, came: &[u8]) -> &'static str {
+    let may_do_without = case.made == MadeBy::Read && came == case.text.as_bytes();
     if is_refused && !may_do_without {
         MEMORY
     } else {
-        row.text
+        case.text
     }
 }
 
-fn json_of(alloc: Global, text: &str) -> Result<Value, Wrong> {
+fn json_of(alloc: Global, text: &str) -> Result<Value, TestError> {
     match Value::from_str(alloc, text) {
         Ok(json) => Ok(json),
-        Err(_) => Err(Wrong("no JSON")),
+        Err(_) => Err(TestError("no JSON")),
     }
 }
 
-fn val_of(alloc: Global, text: &str) -> Result<Val, Wrong> {
+fn val_of(alloc: Global, text: &str) -> Result<Val, TestError> {
     let json = json_of(alloc, text)?;
-    Ok(Val::from_json(alloc, &json)?)
+    let value = Val::from_json(alloc, &json);
+    drop(json);
+    Ok(value?)
 }
 
 fn through_json(alloc: Global, json: &Value) -> Result<Val, ValueFault> {
@@ -137,45 +139,92 @@ fn through_json(alloc: Global, json: &Value) -> Result<Val, ValueFault> {
     if value.has_bytes() {
         return Ok(value);
     }
-    let again = value.to_json(alloc)?;
-    Val::from_json(alloc, &again)
+    let again = value.to_json(alloc);
+    drop(value);
+    let again = again?;
+    let value = Val::from_json(alloc, &again);
+    drop(again);
+    value
 }
 
 fn through_paths(alloc: Global, list: &Val) -> Result<Val, ValueFault> {
     let paths = paths_of(alloc, Some(list))?;
-    Ok(paths_val(alloc, paths.as_slice())?)
+    let list = paths_val(alloc, paths.as_slice());
+    drop(paths);
+    Ok(list?)
 }
 
-fn merged(alloc: Global, value: Val, other: Val) -> Result<Val, ValueFault> {
+// The first dict with the second merged into it; of other values the first.
+fn merge_values(alloc: Global, value: Val, other: Val) -> Result<Val, ValueFault> {
     match (value, other) {
         (Val::Dict(state), Val::Dict(update)) => Ok(Val::Dict(merge(alloc, state, update)?)),
         (value, _) => Ok(value),
     }
 }
 
-// What came, or that there was no memory for it.
-fn append_val(given: Result<Val, ValueFault>, text: &mut Vec<u8>) -> Result<(), Wrong> {
-    match given {
-        Ok(value) if value.has_bytes() => Err(Wrong("bytes")),
-        Ok(value) => Ok(value.write_json(text)?),
-        Err(ValueFault::Memory) => Ok(text.extend_from_slice(MEMORY.as_bytes())?),
-        Err(_) => Err(Wrong("another fault")),
+fn push_json(value: Val, text: &mut TextBuilder) {
+    if value.has_bytes() {
+        text.push("bytes");
+    } else {
+        let done = value.write_json(text.bytes_mut());
+        text.note(done);
     }
 }
 
-fn value(alloc: Global, row: &Making, number: u32, text: &mut Vec<u8>) -> Result<bool, Wrong> {
-    let json = json_of(alloc, row.of)?;
-    let value = val_of(alloc, row.of)?;
-    let other = val_of(alloc, row.other)?;
+// What came, or that there was no memory for it.
+fn push_val(given: Result<Val, ValueFault>, text: &mut TextBuilder) {
+    match given {
+        Ok(value) => push_json(value, text),
+        Err(ValueFault::Memory) => text.push(MEMORY),
+        Err(_) => text.push("another fault"),
+    }
+}
+
+fn make_of_json(
+    alloc: Global,
+    case: &MakingCase,
+    number: u32,
+    text: &mut TextBuilder,
+) -> Result<bool, TestError> {
+    let json = json_of(alloc, case.of)?;
     let _is_heard = refuse(alloc, number);
-    let given = match row.made {
-        Made::Json => through_json(alloc, &json),
-        Made::Copy => value.copy().map_err(ValueFault::from),
-        Made::Paths => through_paths(alloc, &value),
-        _ => merged(alloc, value, other),
+    let given = through_json(alloc, &json);
+    let is_refused = was_refused(alloc);
+    drop(json);
+    push_val(given, text);
+    Ok(is_refused)
+}
+
+fn make_of_value(
+    alloc: Global,
+    case: &MakingCase,
+    number: u32,
+    text: &mut TextBuilder,
+) -> Result<bool, TestError> {
+    let value = val_of(alloc, case.of)?;
+    let _is_heard = refuse(alloc, number);
+    let given = match case.made {
+        MadeBy::Copy => value.copy().map_err(ValueFault::from),
+        _ => through_paths(alloc, &value),
     };
     let is_refused = was_refused(alloc);
-    append_val(given, text)?;
+    drop(value);
+    push_val(given, text);
+    Ok(is_refused)
+}
+
+fn make_of_two(
+    alloc: Global,
+    case: &MakingCase,
+    number: u32,
+    text: &mut TextBuilder,
+) -> Result<bool, TestError> {
+    let value = val_of(alloc, case.of)?;
+    let other = val_of(alloc, case.other)?;
+    let _is_heard = refuse(alloc, number);
+    let given = merge_values(alloc, value, other);
+    let is_refused = was_refused(alloc);
+    push_val(given, text);
     Ok(is_refused)
 }
 
@@ -189,11 +238,7 @@ fn through_places(
     Ok(separate(alloc, &placed)?)
 }
 
-fn append_parts(
-    alloc: Global,
-    given: Result<Separated, ValueFault>,
-    text: &mut Vec<u8>,
-) -> Result<(), Wrong> {
+fn push_separated(alloc: Global, given: Result<Separated, ValueFault>, text: &mut TextBuilder) {
     match given {
         Ok(
             Separated {
@@ -202,100 +247,134 @@ fn append_parts(
                 buffers,
             },
         ) => {
-            let count = buffers.as_slice().len();
-            append_val(Ok(Val::Dict(plain)), text)?;
-            append_val(Ok(paths_val(alloc, paths.as_slice())?), text)?;
-            Ok(text.extend_from_slice(format!(in alloc; "{count} buffers")?.as_bytes())?)
+            push_json(Val::Dict(plain), text);
+            push_val(
+                paths_val(alloc, paths.as_slice()).map_err(ValueFault::from),
+                text,
+            );
+            text.push_number(buffers.as_slice().len() as u64);
+            text.push(" buffers");
         }
-        Err(fault) => append_val(Err(fault), text),
+        Err(fault) => push_val(Err(fault), text),
     }
 }
 
-fn places(alloc: Global, row: &Making, number: u32, text: &mut Vec<u8>) -> Result<bool, Wrong> {
-    let Val::Dict(state) = val_of(alloc, row.of)? else {
-        return Err(Wrong("no dict"));
+// A dict, and paths into it.
+fn places_of(alloc: Global, case: &MakingCase) -> Result<(Dict, Vec<Path>), TestError> {
+    let Val::Dict(state) = val_of(alloc, case.of)? else {
+        return Err(TestError("no dict"));
     };
-    let paths = paths_of(alloc, Some(&val_of(alloc, row.other)?))?;
+    let list = val_of(alloc, case.other)?;
+    let paths = paths_of(alloc, Some(&list));
+    drop(list);
+    Ok((state, paths?))
+}
+
+fn make_of_places(
+    alloc: Global,
+    case: &MakingCase,
+    number: u32,
+    text: &mut TextBuilder,
+) -> Result<bool, TestError> {
     let buffers = buffers_of(alloc, "01 02 03")?;
+    let (state, paths) = places_of(alloc, case)?;
     let _is_heard = refuse(alloc, number);
     let given = through_places(alloc, state, paths.as_slice(), buffers);
     let is_refused = was_refused(alloc);
-    append_parts(alloc, given, text)?;
+    drop(paths);
+    push_separated(alloc, given, text);
     Ok(is_refused)
 }
 
 // What a client's message is.
-fn incoming_words(alloc: Global, client: u8, message: &Incoming) -> Result<String, Wrong> {
-    match message {
-        Incoming::Open {
-            id,
-            target,
-            version: Some(_),
-            body,
-        } => {
-            let (id, target) = (id.as_str(), target.as_str());
-            let (keys, buffers) = (body.content().len(), body.buffers().as_slice().len());
-            Ok(format!(in alloc;
-                "client {client} opens {id} of {target}, with a version, {keys} key and {buffers} buffers"
-            )?)
-        }
-        _ => Err(Wrong("another message")),
-    }
+fn push_incoming(client: u8, message: &Incoming, text: &mut TextBuilder) {
+    let Incoming::Open {
+        id,
+        target,
+        version: Some(_),
+        body,
+    } = message
+    else {
+        return text.push("another message");
+    };
+    text.push_counted("client", client as u64);
+    text.push(" opens ");
+    text.push(id.as_str());
+    text.push(" of ");
+    text.push(target.as_str());
+    text.push_counted(", with a version,", body.content().len() as u64);
+    text.push_counted(" key and", body.buffers().as_slice().len() as u64);
+    text.push(" buffers");
 }
 
-fn append_incoming(
-    alloc: Global,
-    given: Result<(u8, Incoming), MessageFault>,
-    text: &mut Vec<u8>,
-) -> Result<(), Wrong> {
+fn push_message(given: Result<(u8, Incoming), MessageFault>, text: &mut TextBuilder) {
     match given {
         Ok((client, message)) => {
-            let words = incoming_words(alloc, client, &message)?;
-            Ok(text.extend_from_slice(words.as_bytes())?)
+            push_incoming(client, &message, text);
+            drop(message);
         }
-        Err(MessageFault::Memory) => Ok(text.extend_from_slice(MEMORY.as_bytes())?),
-        Err(_) => Err(Wrong("another fault")),
+        Err(MessageFault::Memory) => text.push(MEMORY),
+        Err(_) => text.push("another fault"),
     }
 }
 
-fn message(alloc: Global, row: &Making, number: u32, text: &mut Vec<u8>) -> Result<bool, Wrong> {
-    let json = json_of(alloc, row.of)?;
+fn read_line(alloc: Global, case: &MakingCase, number: u32, text: &mut TextBuilder) -> bool {
     let _is_heard = refuse(alloc, number);
-    let given = match row.made {
-        Made::Read => read_message(alloc, row.of.as_bytes(), 2),
-        _ => message_of(alloc, &json, 2),
-    };
+    let given = read_message(alloc, case.of.as_bytes(), 2);
     let is_refused = was_refused(alloc);
-    append_incoming(alloc, given, text)?;
+    push_message(given, text);
+    is_refused
+}
+
+fn take_message(
+    alloc: Global,
+    case: &MakingCase,
+    number: u32,
+    text: &mut TextBuilder,
+) -> Result<bool, TestError> {
+    let json = json_of(alloc, case.of)?;
+    let _is_heard = refuse(alloc, number);
+    let given = message_of(alloc, &json, 2);
+    let is_refused = was_refused(alloc);
+    drop(json);
+    push_message(given, text);
     Ok(is_refused)
 }
 
-fn written(alloc: Global, row: &Making, number: u32, text: &mut Vec<u8>) -> Result<bool, Wrong> {
-    let body = body_of(alloc, row.other)?;
+fn write_line(
+    alloc: Global,
+    case: &MakingCase,
+    number: u32,
+    text: &mut TextBuilder,
+) -> Result<bool, TestError> {
     let id = Text::copy_of(alloc, "a")?;
+    let body = body_of(alloc, case.other)?;
     let message = Outgoing::Msg { id, body };
     let _is_heard = refuse(alloc, number);
     let given = write_message(alloc, &message, &PARENT);
     let is_refused = was_refused(alloc);
     drop(message);
     match given {
-        Ok(line) => text.extend_from_slice(line.as_slice())?,
-        Err(_) => text.extend_from_slice(MEMORY.as_bytes())?,
+        Ok(line) => text.push_bytes(&line),
+        Err(_) => text.push(MEMORY),
     }
     Ok(is_refused)
 }
 
-/// Makes it with the allocation of this number refused. Tells whether one was.
-pub fn make_once(
+/// Makes it with the allocation of this number refused. Gives whether one was.
+pub(super) fn make_once(
     alloc: Global,
-    row: &Making,
+    case: &MakingCase,
     number: u32,
-    text: &mut Vec<u8>,
-) -> Result<bool, Wrong> {
-    match row.made {
-        Made::Placed => places(alloc, row, number, text),
-        Made::Read | Made::Taken => message(alloc, row, number, text),
-        Made::Written => written(alloc, row, number, text),
-        _ => value(alloc, row, number, text),
+    text: &mut TextBuilder,
+) -> Result<bool, TestError> {
+    match case.made {
+        MadeBy::Json => make_of_json(alloc, case, number, text),
+        MadeBy::Copy | MadeBy::Paths => make_of_value(alloc, case, number, text),
+        MadeBy::Merged => make_of_two(alloc, case, number, text),
+        MadeBy::Placed => make_of_places(alloc, case, number, text),
+        MadeBy::Read => Ok(read_line(alloc, case, number, text)),
+        MadeBy::Taken => take_message(alloc, case, number, text),
+        MadeBy::Written => write_line(alloc, case, number, text),
     }
 }

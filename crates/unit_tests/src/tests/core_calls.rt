@@ -1,14 +1,14 @@
 //! How often a target is called, and in which order; what targets of the stock are answered, and how many comms may
 //! be open.
-use super::managed::{Scene, play_scenes};
+use super::core_scenes::{CoreScene, play_scenes};
 use comm_core::Limits;
 use std::test::Fail;
-use test_harness::{Row, Wrong, holds};
+use test_harness::{Case, TestError, holds};
 
-const CALLED: Scene = Scene {
-    stocks: &["told"],
+const CALLED: CoreScene = CoreScene {
+    stocks: &["scripted"],
     comms: 3,
-    row: Row {
+    case: Case {
         name: "a target is called once for each thing, and only for what is its own",
         lines: r#"register t
 open a t - {"code":7}
@@ -84,10 +84,10 @@ log open:b commit close:a close:x close:b stop
     },
 };
 
-const STOPPED: Scene = Scene {
-    stocks: &["told"],
+const STOPPED: CoreScene = CoreScene {
+    stocks: &["scripted"],
     comms: 3,
-    row: Row {
+    case: Case {
         name: "a target hears of each close before it stops with its manager",
         lines: r#"register t
 open b t - {"n":1}
@@ -104,10 +104,10 @@ log open:b commit open:c commit open:a commit close:b close:c close:a stop
     },
 };
 
-const REPLACED: Scene = Scene {
-    stocks: &["told"],
+const REPLACED: CoreScene = CoreScene {
+    stocks: &["scripted"],
     comms: 3,
-    row: Row {
+    case: Case {
         name: "a target that is replaced hears of each close before it stops, and not where that is taken back",
         lines: r#"register t
 open b t - {"n":1}
@@ -141,10 +141,10 @@ log next.open:a next.commit next.message:a next.commit next.close:a next.stop
     },
 };
 
-const COUNTED: Scene = Scene {
+const COUNTED: CoreScene = CoreScene {
     stocks: &["counter"],
     comms: 4096,
-    row: Row {
+    case: Case {
         name: "a counter counts the messages of all its comms, and isn't a widget",
         lines: r#"register n
 open b n -
@@ -197,10 +197,10 @@ log
     },
 };
 
-const ECHOED: Scene = Scene {
+const ECHOED: CoreScene = CoreScene {
     stocks: &["echo"],
     comms: 4096,
-    row: Row {
+    case: Case {
         name: "a message comes back, an id in use is refused without a close, and an unknown target with one",
         lines: r#"infos
 register t
@@ -231,10 +231,10 @@ log
     },
 };
 
-const LIMITED: Scene = Scene {
+const LIMITED: CoreScene = CoreScene {
     stocks: &["echo"],
     comms: 1,
-    row: Row {
+    case: Case {
         name: "as many comms are open as the limit allows, and there is room again after a close",
         lines: r#"register t
 open a t -
@@ -255,7 +255,7 @@ log
 };
 
 #[test]
-fn calls_over_a_manager(rt: HostRuntime) -> Result<(), Fail> {
+fn calls_over_a_manager_are_answered(rt: HostRuntime) -> Result<(), Fail> {
     play_scenes(&rt, &[CALLED, STOPPED, REPLACED, COUNTED, ECHOED, LIMITED])
 }
 
@@ -281,7 +281,7 @@ const TOO_LARGE: [Limits; 5] = [
 ];
 
 #[test]
-fn limits_have_bounds() -> Result<(), Wrong> {
+fn limits_have_bounds() -> Result<(), TestError> {
     holds(MOST.are_allowed(), "the greatest limits are refused")?;
     for limits in &TOO_LARGE {
         holds(

@@ -1,12 +1,12 @@
 //! The entries and the rows of changes that stand ready.
-use super::managed::{Scene, play_scenes};
+use super::core_scenes::{CoreScene, play_scenes};
 use std::test::Fail;
-use test_harness::Row;
+use test_harness::Case;
 
-const SILENT: Scene = Scene {
+const SILENT: CoreScene = CoreScene {
     stocks: &["widget"],
     comms: 4096,
-    row: Row {
+    case: Case {
         name: "what stands ready gives its entry and its row, with a widget",
         lines: r#"tell register w
 tell launch 67e55044-10b1-426f-9247-bb680e5fe0c8 w {}
@@ -56,10 +56,10 @@ log
     },
 };
 
-const ECHOING: Scene = Scene {
+const ECHOING: CoreScene = CoreScene {
     stocks: &["widget_echo"],
     comms: 4096,
-    row: Row {
+    case: Case {
         name: "what stands ready gives its entry and its row, with a widget that echoes",
         lines: r#"tell register w
 tell launch 67e55044-10b1-426f-9247-bb680e5fe0c8 w {}
@@ -111,11 +111,11 @@ log
     },
 };
 
-const FREE: Scene = Scene {
-    stocks: &["told"],
+const FREE: CoreScene = CoreScene {
+    stocks: &["scripted"],
     comms: 4096,
-    row: Row {
-        name: "what stands ready gives its entry and its row, with a target that is told",
+    case: Case {
+        name: "what stands ready gives its entry and its row, with a scripted target",
         lines: r#"tell register t
 tell open a t 2.0.0 {"first":{"m":1},"state":{"s":1}} 0102
 tell register t

@@ -5,7 +5,7 @@ use comm_targets::TargetFault;
 use comm_value::ValueFault;
 use std::fmt::Display;
 use std::test::Fail;
-use test_harness::{Wrong, append_words, same};
+use test_harness::{TestError, append_words, expect_text};
 
 const VALUES: [(ValueFault, &str); 6] = [
     (
@@ -120,7 +120,7 @@ const NEW: [(NewFault, &str); 2] = [
 ];
 
 // What each of these faults says, a line each.
-fn say<F: Display>(rt: &HostRuntime, name: &str, rows: &[(F, &str)]) -> Result<(), Wrong> {
+fn say<F: Display>(rt: &HostRuntime, name: &str, rows: &[(F, &str)]) -> Result<(), TestError> {
     let alloc = rt.alloc();
     let mut text = Vec::new(alloc);
     let mut want = Vec::new(alloc);
@@ -129,7 +129,7 @@ fn say<F: Display>(rt: &HostRuntime, name: &str, rows: &[(F, &str)]) -> Result<(
         append_words(&[*words], &mut want)?;
         want.push(b'\n')?;
     }
-    same(rt, name, &text, &want)
+    expect_text(rt, name, &text, &want)
 }
 
 #[test]

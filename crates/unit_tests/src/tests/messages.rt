@@ -1,3 +1,4 @@
+//! Messages as they are read, the first test that one fails, and the parts of reading one by one.
 use comm_json::{JsonRef, ParseArena};
 use comm_messages::{
     Fields, Incoming, MessageFault, buffers_of, client_of, fields_of, member, message_of,
@@ -8,10 +9,11 @@ use serde_json::Value;
 use std::alloc::{AllocError, Global};
 use std::test::Fail;
 use test_harness::{
-    Reader, Row, Wrong, append_body, append_buffers, append_words, cut, read_rows, same,
+    Case, Subject, TestError, append_body, append_buffers, append_words, expect_text, run_cases,
+    split_word,
 };
 
-mod written;
+mod writing;
 
 fn or_dash(text: &Option<Text>) -> &str {
     match text {
@@ -55,7 +57,7 @@ fn append_read(
     alloc: Global,
     read: Result<(u8, Incoming), MessageFault>,
     out: &mut Vec<u8>,
-) -> Result<(), Wrong> {
+) -> Result<(), TestError> {
     match read {
         Ok((client, message)) => {
             let done = append_message(alloc, client, &message, out);
@@ -68,7 +70,7 @@ fn append_read(
 }
 
 // A message whose data nests so many lists; its first words.
-fn append_nested(alloc: Global, lists: usize, out: &mut Vec<u8>) -> Result<(), Wrong> {
+fn append_nested(alloc: Global, lists: usize, out: &mut Vec<u8>) -> Result<(), TestError> {
     let mut line = String::from_str(
         alloc,
         r#"{"header":{"msg_type":"comm_msg"},"content":{"comm_id":"a","data":{"x":"#,
@@ -87,9 +89,9 @@ fn append_nested(alloc: Global, lists: usize, out: &mut Vec<u8>) -> Result<(), W
     Ok(append_words(&["\n"], out)?)
 }
 
-fn append_base64(alloc: Global, json: &str, out: &mut Vec<u8>) -> Result<(), Wrong> {
+fn append_base64(alloc: Global, json: &str, out: &mut Vec<u8>) -> Result<(), TestError> {
     let Ok(value) = Value::from_str(alloc, json) else {
-        return Err(Wrong("no JSON"));
+        return Err(TestError("no JSON"));
     };
     let buffers = buffers_of(alloc, Some(JsonRef::Owned(&value)));
     drop(value);
@@ -104,18 +106,18 @@ fn append_base64(alloc: Global, json: &str, out: &mut Vec<u8>) -> Result<(), Wro
 /// as a list of buffers, and any other line as a message.
 struct Messages;
 
-impl Reader for Messages {
-    fn answer(&self, alloc: Global, line: &str, text: &mut Vec<u8>) -> Result<(), Wrong> {
-        let (word, rest) = cut(line);
+impl Subject for Messages {
+    fn answer(&self, alloc: Global, line: &str, text: &mut Vec<u8>) -> Result<(), TestError> {
+        let (word, rest) = split_word(line);
         if word == "hex" {
             match hex::decode(alloc, rest) {
                 Ok(bytes) => append_read(alloc, read_message(alloc, &bytes, 4), text),
-                Err(_) => Err(Wrong("no hexadecimal digits")),
+                Err(_) => Err(TestError("no hexadecimal digits")),
             }
         } else if word == "nested" {
             match rest.parse::<usize>() {
                 Ok(lists) => append_nested(alloc, lists, text),
-                Err(_) => Err(Wrong("no number")),
+                Err(_) => Err(TestError("no number")),
             }
         } else if word == "base64" {
             append_base64(alloc, rest, text)
@@ -125,8 +127,8 @@ impl Reader for Messages {
     }
 }
 
-const READ: [Row; 5] = [
-    Row {
+const READ: [Case; 5] = [
+    Case {
         name: "openings, messages and closes are read, with their buffers",
         lines: r#"{"header":{"msg_type":"comm_open"},"content":{"comm_id":"a","target_name":"t","data":{}}}
 {"header":{"msg_type":"comm_open"},"content":{"comm_id":"a","target_name":"jupyter.widget","data":{"state":{"y":{"z":[null]}},"buffer_paths":[["x"],["y","z",0]]}},"metadata":{"version":"2.0.0"},"buffers":["AQI=","/w=="]}
@@ -142,35 +144,35 @@ const READ: [Row; 5] = [
 0 msg a {"v":18446744073709551615,"w":-9223372036854775808}
 "#,
     },
-    Row {
+    Case {
         name: "absent and null are the same, and unknown keys and what isn't used are ignored",
         lines: r#"{"client":null,"header":{"msg_type":"comm_open","x":1.5},"content":{"comm_id":"","target_name":"","data":null,"y":[]},"metadata":null,"buffers":null,"z":0}
 {"header":{"msg_type":"comm_open"},"content":{"comm_id":"a","target_name":"t"},"metadata":{"version":2}}
 {"header":{"msg_type":"comm_close"},"content":{"comm_id":"a","data":{"v":1.5}}}"#,
         want: "0 open   - {}\n0 open a t - {}\n0 close a\n",
     },
-    Row {
+    Case {
         name: "requests of infos are read",
         lines: r#"{"header":{"msg_type":"comm_info_request"}}
 {"header":{"msg_type":"comm_info_request"},"content":{"target_name":null,"comm_id":7,"data":7},"buffers":["AQI="]}
 {"header":{"msg_type":"comm_info_request"},"content":{"target_name":""}}"#,
         want: "0 info -\n0 info -\n0 info \n",
     },
-    Row {
+    Case {
         name: "of a key that stands twice the last value stays",
         lines: r#"{"client":9,"client":3,"header":{"msg_type":"comm_msg"},"content":{"comm_id":7,"comm_id":"a","data":{"x":1.5,"x":2}}}"#,
         want: r#"3 msg a {"x":2}
 "#,
     },
-    Row {
+    Case {
         name: "at most 127 levels are read",
         lines: "nested 124\nnested 125",
         want: "0 msg a {\"x\":[\nthe line is no\n",
     },
 ];
 
-const REFUSED: [Row; 7] = [
-    Row {
+const REFUSED: [Case; 7] = [
+    Case {
         name: "a line that isn't one JSON object",
         lines: r#"{
 []
@@ -196,7 +198,7 @@ the line is not a JSON object
 the line is not a JSON object
 ",
     },
-    Row {
+    Case {
         name: "a client that isn't a whole number below their number",
         lines: r#"{"client":4,"header":{"msg_type":"comm_msg"}}
 {"client":1.0}
@@ -212,7 +214,7 @@ the line is not a JSON object
 `client` is not a whole number below the number of clients
 ",
     },
-    Row {
+    Case {
         name: "no type, or one that isn't known",
         lines: r#"{}
 {"header":null}
@@ -224,7 +226,7 @@ the line is not a JSON object
 `msg_type` names no message of a comm
 ",
     },
-    Row {
+    Case {
         name: "a content with a part of another type",
         lines: r#"{"header":{"msg_type":"comm_msg"},"content":7,"metadata":7}
 {"header":{"msg_type":"comm_msg"},"content":{"comm_id":7,"data":7}}
@@ -240,7 +242,7 @@ the line is not a JSON object
 `data` in `content` is not an object
 ",
     },
-    Row {
+    Case {
         name: "metadata of another type, before numbers that aren't whole, and these before buffers",
         lines: r#"{"header":{"msg_type":"comm_msg"},"content":{"comm_id":"a","data":{"v":1.5}},"metadata":"2.0.0"}
 {"header":{"msg_type":"comm_msg"},"content":{"comm_id":"a","data":{"v":1.5}},"buffers":{}}
@@ -250,7 +252,7 @@ a number in `data` is not a whole number from -2^63 to 2^64 - 1
 a number in `data` is not a whole number from -2^63 to 2^64 - 1
 ",
     },
-    Row {
+    Case {
         name: "buffers of another type, and the first that isn't base64",
         lines: r#"{"header":{"msg_type":"comm_close"},"content":{"comm_id":"a"},"buffers":"AQI="}
 {"header":{"msg_type":"comm_info_request"},"buffers":[7]}
@@ -262,7 +264,7 @@ buffer 0 is not a text in base64
 buffer 1 is not a text in base64
 ",
     },
-    Row {
+    Case {
         name: "base64: the vectors of RFC 4648, section 10, and what isn't in its alphabet, padded or whole",
         lines: r#"base64 ["","Zg==","Zm8=","Zm9v","Zm9vYg==","Zm9vYmE=","Zm9vYmFy"]
 base64 ["AQJ="]
@@ -290,8 +292,8 @@ buffer 0 is not a text in base64
 
 #[test]
 fn messages_are_read_or_the_first_test_that_fails_is_named(rt: HostRuntime) -> Result<(), Fail> {
-    read_rows(&rt, rt.alloc(), &Messages, &READ)?;
-    Ok(read_rows(&rt, rt.alloc(), &Messages, &REFUSED)?)
+    run_cases(&rt, rt.alloc(), &Messages, &READ)?;
+    Ok(run_cases(&rt, rt.alloc(), &Messages, &REFUSED)?)
 }
 
 const COMMAND: &[u8] = br#"{"call":"send","client":2,"data":{"x":1},"state":null}"#;
@@ -302,7 +304,7 @@ fn append_object(
     fields: Fields<'_, '_>,
     key: &str,
     out: &mut Vec<u8>,
-) -> Result<(), Wrong> {
+) -> Result<(), TestError> {
     match object_or_empty(member(fields, key)) {
         None => Ok(append_words(&["?"], out)?),
         Some(None) => Ok(append_words(&["-"], out)?),
@@ -320,7 +322,7 @@ fn append_field(
     fields: Fields<'_, '_>,
     key: &str,
     out: &mut Vec<u8>,
-) -> Result<(), Wrong> {
+) -> Result<(), TestError> {
     let of_three = client_of(member(fields, key), 3);
     let of_two = client_of(member(fields, key), 2);
     let as_text = text(member(fields, key)).unwrap_or("?");
@@ -335,7 +337,7 @@ fn append_field(
     Ok(append_words(&["\n"], out)?)
 }
 
-fn append_fields(alloc: Global, out: &mut Vec<u8>) -> Result<(), Wrong> {
+fn append_fields(alloc: Global, out: &mut Vec<u8>) -> Result<(), TestError> {
     let mut room = ParseArena::new(alloc);
     let object = object_in(COMMAND, &mut room)?;
     for key in ["call", "client", "data", "state", "none"] {
@@ -345,9 +347,9 @@ fn append_fields(alloc: Global, out: &mut Vec<u8>) -> Result<(), Wrong> {
 }
 
 // What becomes of a line that is read as a value.
-fn append_value(alloc: Global, line: &[u8], out: &mut Vec<u8>) -> Result<(), Wrong> {
+fn append_value(alloc: Global, line: &[u8], out: &mut Vec<u8>) -> Result<(), TestError> {
     let Ok(value) = Value::from_slice(alloc, line) else {
-        return Err(Wrong("no JSON"));
+        return Err(TestError("no JSON"));
     };
     let message = message_of(alloc, &value, 4);
     drop(value);
@@ -363,10 +365,10 @@ none ? - Ok(0) Ok(0) -
 ";
 
 #[test]
-fn the_readers_are_offered(rt: HostRuntime) -> Result<(), Fail> {
+fn the_parts_of_reading_can_be_called(rt: HostRuntime) -> Result<(), Fail> {
     let alloc = rt.alloc();
     let mut text = Vec::new(alloc);
     append_fields(alloc, &mut text)?;
     append_value(alloc, COMMAND, &mut text)?;
-    Ok(same(&rt, "the readers of fields and of values", &text, OFFERED)?)
+    Ok(expect_text(&rt, "the readers of fields and of values", &text, OFFERED)?)
 }

@@ -9,11 +9,12 @@ use comm_value::Text;
 use std::alloc::Global;
 use std::test::Fail;
 use test_harness::{
-    Log, Reader, Row, ToldTarget, Wrong, append_given, append_words, body_of, cut, read_rows,
+    CallLog, Case, ScriptedTarget, Subject, TestError, append_target_answer, append_words, body_of,
+    run_cases, split_word,
 };
 
 /// Opens a comm.
-fn opened<T: Target>(held: &mut Held<T>, opening: &Event) -> Result<(), TargetFault>
+fn open_comm<T: Target>(held: &mut Held<T>, opening: &Event) -> Result<(), TargetFault>
     requires unstaged { held.old.staged ≡ None }
     requires askable { IsAskable held.old opening.now }
     ensures unstaged { OnOk result (held.new.staged ≡ None) }
@@ -27,7 +28,7 @@ fn opened<T: Target>(held: &mut Held<T>, opening: &Event) -> Result<(), TargetFa
 }
 
 /// Sends a message on a comm that is open.
-fn sent<T: Target>(held: &mut Held<T>, message: &Event) -> Result<Answer, TargetFault>
+fn send_message<T: Target>(held: &mut Held<T>, message: &Event) -> Result<Answer, TargetFault>
     requires unstaged { held.old.staged ≡ None }
     requires message { is_message message.now ≡ true }
     requires opened { is_open held.old (id_of message.now) ≡ true }
@@ -40,17 +41,17 @@ fn sent<T: Target>(held: &mut Held<T>, message: &Event) -> Result<Answer, Target
 }
 
 // The words of a copy of an answer, which is let go first, or of a fault.
-fn append_answer(
+fn append_answer_copy(
     alloc: Global,
     answer: Result<Answer, TargetFault>,
     text: &mut Vec<u8>,
-) -> Result<(), Wrong> {
+) -> Result<(), TestError> {
     match answer {
         Ok(answer) => {
             let copy = answer.copy(alloc);
             drop(answer);
             let copy = copy?;
-            let done = append_given(alloc, &copy, text);
+            let done = append_target_answer(alloc, &copy, text);
             drop(copy);
             Ok(done?)
         }
@@ -81,7 +82,7 @@ fn talk<T: Target>(
     opening: &Event,
     message: &Event,
     text: &mut Vec<u8>,
-) -> Result<(), Wrong>
+) -> Result<(), TestError>
     requires idle { IsIdle (T.means target) }
     requires askable { IsAskable (T.means target) opening.now }
     requires opens { ids_after [] opening.now ≡ id_of message.now ∷ [] }
@@ -89,17 +90,17 @@ fn talk<T: Target>(
 {
     let mut held = Held::new(target);
     let is_back = is_taken_back(&mut held, opening);
-    if let Err(fault) = opened(&mut held, opening) {
+    if let Err(fault) = open_comm(&mut held, opening) {
         held.end();
-        return append_answer(alloc, Err(fault), text);
+        return append_answer_copy(alloc, Err(fault), text);
     }
-    let first = sent(&mut held, message);
-    let second = sent(&mut held, message);
+    let first = send_message(&mut held, message);
+    let second = send_message(&mut held, message);
     let notes = held.notes();
     held.close(message.id().as_str());
     held.end();
-    let done = append_answer(alloc, first, text);
-    append_answer(alloc, second, text)?;
+    let done = append_answer_copy(alloc, first, text);
+    append_answer_copy(alloc, second, text)?;
     done?;
     let end = format!(in alloc; "taken back {is_back}, notes {notes}\n")?;
     Ok(text.extend_from_slice(end.as_bytes())?)
@@ -112,7 +113,7 @@ fn conversation<T: Target>(
     opening: Body,
     message: Body,
     text: &mut Vec<u8>,
-) -> Result<(), Wrong>
+) -> Result<(), TestError>
     requires { IsIdle (T.means target) }
 {
     let id = Text::copy_of(alloc, "a")?;
@@ -132,15 +133,15 @@ fn conversation<T: Target>(
     end
 }
 
-/// Reads `TARGET OPENING MESSAGE BUFFER..`, of the data of an opening and of a message. At the end stands what a told
-/// target noted.
+/// Reads `TARGET OPENING MESSAGE BUFFER..`, of the data of an opening and of a message. At the end stands what a
+/// scripted target noted.
 struct Conversations;
 
-impl Reader for Conversations {
-    fn answer(&self, alloc: Global, line: &str, text: &mut Vec<u8>) -> Result<(), Wrong> {
-        let (name, words) = cut(line);
-        let (opening, message) = cut(words);
-        let log = Log::new(alloc)?;
+impl Subject for Conversations {
+    fn answer(&self, alloc: Global, line: &str, text: &mut Vec<u8>) -> Result<(), TestError> {
+        let (name, words) = split_word(line);
+        let (opening, message) = split_word(words);
+        let log = CallLog::new(alloc)?;
         let again = log.share()?;
         let opening = body_of(alloc, opening)?;
         let message = body_of(alloc, message)?;
@@ -153,16 +154,16 @@ impl Reader for Conversations {
         } else if name == "latest" {
             conversation(alloc, Latest::new(alloc), opening, message, text)?;
         } else {
-            let told = ToldTarget::with_log(alloc, "", again);
-            conversation(alloc, told, opening, message, text)?;
+            let scripted = ScriptedTarget::with_log(alloc, "", again);
+            conversation(alloc, scripted, opening, message, text)?;
         }
         log.take(text)?;
         Ok(append_words(&["\n"], text)?)
     }
 }
 
-const TALKS: [Row; 6] = [
-    Row {
+const TALKS: [Case; 6] = [
+    Case {
         name: "an echo sends each message back",
         lines: r#"echo {} {"n":1} 0102"#,
         want: r#"given message {"n":1} 0102
@@ -171,7 +172,7 @@ taken back true, notes 0
 
 "#,
     },
-    Row {
+    Case {
         name: "a counter counts the messages",
         lines: "counter {} {}",
         want: r#"given message {"count":1}
@@ -180,7 +181,7 @@ taken back true, notes 2
 
 "#,
     },
-    Row {
+    Case {
         name: "a plain target hands each message on whole",
         lines: r#"plain {} {"n":1} 0102"#,
         want: r#"given custom {"n":1} 0102
@@ -189,7 +190,7 @@ taken back true, notes 0
 
 "#,
     },
-    Row {
+    Case {
         name: "a latest keeps the data that came last",
         lines: r#"latest {"n":1} {"n":5} 0102"#,
         want: r#"given state {"n":5} []
@@ -198,11 +199,11 @@ taken back true, notes 0
 
 "#,
     },
-    Row {
+    Case {
         name: "a target ends once after its comms, where it answers and where it refuses",
-        lines: r#"told {} {"n":1} 0102
-told {} {"code":7} 0102
-told {"code":7} {}"#,
+        lines: r#"scripted {} {"n":1} 0102
+scripted {} {"code":7} 0102
+scripted {"code":7} {}"#,
         want: r#"taken back true, notes 0
  open:a abandon open:a commit message:a commit message:a commit close:a stop
 Other(7)
@@ -213,9 +214,9 @@ Other(7)
  open:a open:a stop
 "#,
     },
-    Row {
+    Case {
         name: "an answer and its copy are the same",
-        lines: r#"told {} {"state":{},"first":{"n":3},"custom":null} 0102"#,
+        lines: r#"scripted {} {"state":{},"first":{"n":3},"custom":null} 0102"#,
         want: r#"given state {} []
 given message {"n":3}
 given custom null 0102
@@ -229,6 +230,6 @@ taken back true, notes 0
 ];
 
 #[test]
-fn targets_by_themselves(rt: HostRuntime) -> Result<(), Fail> {
-    Ok(read_rows(&rt, rt.alloc(), &Conversations, &TALKS)?)
+fn targets_answer_by_themselves(rt: HostRuntime) -> Result<(), Fail> {
+    Ok(run_cases(&rt, rt.alloc(), &Conversations, &TALKS)?)
 }

@@ -1,3 +1,4 @@
+//! Values: paths, buffers in states, merges, copies and texts.
 use comm_value::{
     Buffers, Bytes, Dict, Path, Text, Val, ValueFault, Whole, merge, paths_of, paths_val, put_all,
     write_text,
@@ -6,11 +7,11 @@ use serde_json::Value;
 use std::alloc::{AllocError, Global};
 use std::test::Fail;
 use test_harness::{
-    Reader, Row, Wrong, append_buffers, append_state, append_words, buffers_of, cut, dict_of,
-    holds, read_rows, same,
+    Case, Subject, TestError, append_buffers, append_state, append_words, buffers_of, dict_of,
+    expect_text, holds, run_cases, split_word,
 };
 
-mod many;
+mod large;
 
 fn value_of(alloc: Global, json: &str) -> Result<Val, ValueFault> {
     let Ok(json) = Value::from_str(alloc, json) else {
@@ -22,7 +23,7 @@ fn value_of(alloc: Global, json: &str) -> Result<Val, ValueFault> {
 }
 
 // The text of a value without bytes, which is the one of `serde_json`'s value.
-fn append_value(alloc: Global, value: &Val, text: &mut Vec<u8>) -> Result<(), Wrong> {
+fn append_value(alloc: Global, value: &Val, text: &mut Vec<u8>) -> Result<(), TestError> {
     if value.has_bytes() {
         return Ok(append_words(&["bytes"], text)?);
     }
@@ -47,7 +48,7 @@ fn append_copy(
     alloc: Global,
     value: Result<Val, ValueFault>,
     text: &mut Vec<u8>,
-) -> Result<(), Wrong> {
+) -> Result<(), TestError> {
     let value = match value {
         Ok(value) => value,
         Err(fault) => return Ok(append_fault(alloc, fault, text)?),
@@ -75,7 +76,7 @@ fn paths_in(alloc: Global, json: &str) -> Result<Vec<Path>, ValueFault> {
     Ok(copies)
 }
 
-fn append_paths(alloc: Global, json: &str, text: &mut Vec<u8>) -> Result<(), Wrong> {
+fn append_paths(alloc: Global, json: &str, text: &mut Vec<u8>) -> Result<(), TestError> {
     match paths_in(alloc, json) {
         Ok(paths) => append_copy(alloc, Ok(paths_val(alloc, &paths)?), text),
         Err(fault) => Ok(append_fault(alloc, fault, text)?),
@@ -83,9 +84,9 @@ fn append_paths(alloc: Global, json: &str, text: &mut Vec<u8>) -> Result<(), Wro
 }
 
 // A state with these buffers at these paths, taken apart again, or the fault.
-fn append_placed(alloc: Global, words: &str, text: &mut Vec<u8>) -> Result<(), Wrong> {
-    let (json, words) = cut(words);
-    let (paths, words) = cut(words);
+fn append_placed(alloc: Global, words: &str, text: &mut Vec<u8>) -> Result<(), TestError> {
+    let (json, words) = split_word(words);
+    let (paths, words) = split_word(words);
     let buffers = buffers_of(alloc, words)?;
     let paths = paths_in(alloc, paths)?;
     let state = dict_of(alloc, json)?;
@@ -100,7 +101,7 @@ fn append_placed(alloc: Global, words: &str, text: &mut Vec<u8>) -> Result<(), W
 }
 
 // How many keys a dict has, and it.
-fn append_dict(alloc: Global, dict: &Dict, text: &mut Vec<u8>) -> Result<(), Wrong> {
+fn append_dict(alloc: Global, dict: &Dict, text: &mut Vec<u8>) -> Result<(), TestError> {
     let len = dict.len();
     let (is_empty, has_bytes) = (dict.is_empty(), dict.has_bytes());
     holds(is_empty == (len == 0), "an empty dict has keys")?;
@@ -110,8 +111,8 @@ fn append_dict(alloc: Global, dict: &Dict, text: &mut Vec<u8>) -> Result<(), Wro
 }
 
 // A state, what an update makes of it, and the state as it still is.
-fn append_merged(alloc: Global, words: &str, text: &mut Vec<u8>) -> Result<(), Wrong> {
-    let (state, update) = cut(words);
+fn append_merged(alloc: Global, words: &str, text: &mut Vec<u8>) -> Result<(), TestError> {
+    let (state, update) = split_word(words);
     let state = dict_of(alloc, state)?;
     let merged = merge(alloc, state.copy()?, dict_of(alloc, update)?)?;
     append_dict(alloc, &merged, text)?;
@@ -119,11 +120,11 @@ fn append_merged(alloc: Global, words: &str, text: &mut Vec<u8>) -> Result<(), W
 }
 
 // A dict with bytes at a key, and a copy that was made before.
-fn append_inserted(alloc: Global, words: &str, text: &mut Vec<u8>) -> Result<(), Wrong> {
-    let (json, words) = cut(words);
-    let (key, bytes) = cut(words);
+fn append_inserted(alloc: Global, words: &str, text: &mut Vec<u8>) -> Result<(), TestError> {
+    let (json, words) = split_word(words);
+    let (key, bytes) = split_word(words);
     let Ok(bytes) = hex::decode(alloc, bytes) else {
-        return Err(Wrong("no hexadecimal digits"));
+        return Err(TestError("no hexadecimal digits"));
     };
     let bytes = Bytes::new(alloc, bytes)?;
     let key = Text::new(alloc, String::from_str(alloc, key)?)?;
@@ -134,8 +135,8 @@ fn append_inserted(alloc: Global, words: &str, text: &mut Vec<u8>) -> Result<(),
 }
 
 // Whether a copy of a text is it, and isn't another.
-fn append_is(alloc: Global, words: &str, text: &mut Vec<u8>) -> Result<(), Wrong> {
-    let (word, other) = cut(words);
+fn append_is(alloc: Global, words: &str, text: &mut Vec<u8>) -> Result<(), TestError> {
+    let (word, other) = split_word(words);
     let from = Text::copy_of(alloc, word)?;
     let copy = from.copy()?;
     drop(from);
@@ -144,9 +145,9 @@ fn append_is(alloc: Global, words: &str, text: &mut Vec<u8>) -> Result<(), Wrong
 }
 
 // A number, where it is whole.
-fn append_whole(alloc: Global, digits: &str, text: &mut Vec<u8>) -> Result<(), Wrong> {
+fn append_whole(alloc: Global, digits: &str, text: &mut Vec<u8>) -> Result<(), TestError> {
     let Ok(number) = digits.parse::<i128>() else {
-        return Err(Wrong("no number"));
+        return Err(TestError("no number"));
     };
     match Whole::new(number) {
         Some(whole) => {
@@ -167,7 +168,7 @@ fn append_last(alloc: Global, buffers: &Buffers, text: &mut Vec<u8>) -> Result<(
 }
 
 // A copy of buffers, which are let go first.
-fn append_buffers_copy(alloc: Global, words: &str, text: &mut Vec<u8>) -> Result<(), Wrong> {
+fn append_buffers_copy(alloc: Global, words: &str, text: &mut Vec<u8>) -> Result<(), TestError> {
     let all = buffers_of(alloc, words)?;
     let copy = all.copy(alloc);
     drop(all);
@@ -177,13 +178,13 @@ fn append_buffers_copy(alloc: Global, words: &str, text: &mut Vec<u8>) -> Result
 }
 
 // The JSON text of the text of these bytes.
-fn append_quoted(alloc: Global, word: &str, text: &mut Vec<u8>) -> Result<(), Wrong> {
+fn append_quoted(alloc: Global, word: &str, text: &mut Vec<u8>) -> Result<(), TestError> {
     let Ok(bytes) = hex::decode(alloc, word) else {
-        return Err(Wrong("no hexadecimal digits"));
+        return Err(TestError("no hexadecimal digits"));
     };
     match std::str::from_utf8(&bytes) {
         Ok(of) => Ok(write_text(of, text)?),
-        Err(_) => Err(Wrong("no text")),
+        Err(_) => Err(TestError("no text")),
     }
 }
 
@@ -191,9 +192,9 @@ fn append_quoted(alloc: Global, word: &str, text: &mut Vec<u8>) -> Result<(), Wr
 /// `inserted DICT KEY BYTES`, `is TEXT OTHER`, `whole NUMBER`, `buffers BUFFER..` and `quoted HEX`.
 struct Values;
 
-impl Reader for Values {
-    fn answer(&self, alloc: Global, line: &str, text: &mut Vec<u8>) -> Result<(), Wrong> {
-        let (kind, words) = cut(line);
+impl Subject for Values {
+    fn answer(&self, alloc: Global, line: &str, text: &mut Vec<u8>) -> Result<(), TestError> {
+        let (kind, words) = split_word(line);
         let done = if kind == "value" {
             append_copy(alloc, value_of(alloc, words), text)
         } else if kind == "paths" {
@@ -218,8 +219,8 @@ impl Reader for Values {
     }
 }
 
-const VALUES: [Row; 9] = [
-    Row {
+const VALUES: [Case; 9] = [
+    Case {
         name: "buffers are placed in a state and separated from it",
         lines: r#"placed {"y":{"z":[null]}} [["x"],["y","z",0]] 0102 ff
 placed {"k":1} [["x"]] 0102 ff
@@ -231,7 +232,7 @@ placed {"b":{"k":1},"a":[[2],3]} [["b","x"],["a",0,0]] 07 08"#,
  {"a":[[null],3],"b":{"k":1}} [["a",0,0],["b","x"]] 08 07
 "#,
     },
-    Row {
+    Case {
         name: "paths without a place, or without a buffer, are refused",
         lines: r#"placed {} [[]] 0102
 placed {"l":[null]} [["l",1]] 0102
@@ -241,7 +242,7 @@ placed {} [["x"],["y"]] 0102
 placed {} [[]]"#,
         want: "BadPath(0)\nBadPath(0)\nBadPath(0)\nBadPath(1)\nBufferMissing(1)\nBufferMissing(0)\n",
     },
-    Row {
+    Case {
         name: "paths are read and written",
         lines: r#"paths [["a",18446744073709551615],[],["0",0]]
 paths null
@@ -261,7 +262,7 @@ BadPath(1)
 [["key",7]]
 "#,
     },
-    Row {
+    Case {
         name: "whole numbers alone are read",
         lines: r#"value [-9223372036854775808,0,18446744073709551615,{"a":[],"b":"text"},true,null]
 value {"v":[18446744073709551615]}
@@ -283,7 +284,7 @@ not whole
 -5
 "#,
     },
-    Row {
+    Case {
         name: "an update changes top-level keys, and leaves the state that it was made of",
         lines: r#"merged {"a":{"old":1},"b":2,"d":4} {"a":{"new":1},"c":3}
 merged {} {}"#,
@@ -291,13 +292,13 @@ merged {} {}"#,
  0 false {} [] 0 false {} []
 "#,
     },
-    Row {
+    Case {
         name: "bytes are let in at a key, and copies are left as they were",
         lines: r#"inserted {"b":true} a 0102"#,
         want: r#" 2 true {"b":true} [["a"]] 0102 1 false {"b":true} []
 "#,
     },
-    Row {
+    Case {
         name: "texts, short and long, and buffers are copied",
         lines: "is key other
 is more_than_four_and_twenty_bytes more_than
@@ -306,7 +307,7 @@ buffers 0102 ff
 buffers",
         want: "true false\ntrue false\ntrue false\n 0102 ff last ff\n none\n",
     },
-    Row {
+    Case {
         name: "JSON texts are written",
         lines: r#"value {"a":[-9223372036854775808,18446744073709551615,[],{}],"b":null,"c":[true,false],"d":""}
 value {}"#,
@@ -314,7 +315,7 @@ value {}"#,
 {}
 "#,
     },
-    Row {
+    Case {
         name: "a text is quoted, each control by its escape",
         lines: "quoted 225c2f080c0a0d09011f7fe280a8c3a9",
         want: "\"\\\"\\\\/\\b\\f\\n\\r\\t\\u0001\\u001f\u{7f}\u{2028}é\"\n",
@@ -322,6 +323,6 @@ value {}"#,
 ];
 
 #[test]
-fn values_and_their_texts(rt: HostRuntime) -> Result<(), Fail> {
-    Ok(read_rows(&rt, rt.alloc(), &Values, &VALUES)?)
+fn values_are_read_and_written(rt: HostRuntime) -> Result<(), Fail> {
+    Ok(run_cases(&rt, rt.alloc(), &Values, &VALUES)?)
 }

@@ -1,15 +1,15 @@
 //! Worked cases of the widgets' protocol, played with a widget and with one that echoes. The base64 AQI= is the bytes
 //! 0102, /w== is ff.
-use super::managed::{Scene, play_scenes};
+use super::core_scenes::{CoreScene, play_scenes};
 use std::test::Fail;
-use test_harness::Row;
+use test_harness::Case;
 
 mod updates;
 
-const PLACED: Scene = Scene {
+const PLACED: CoreScene = CoreScene {
     stocks: &["widget", "widget_echo"],
     comms: 4096,
-    row: Row {
+    case: Case {
         name: "an opening places its buffers, and request_state tells the state and its buffers",
         lines: r#"register w
 open a w 2.0.0 {"state":{"y":{"z":[null]}},"buffer_paths":[["x"],["y","z",0]]} 0102 ff
@@ -29,10 +29,10 @@ log
     },
 };
 
-const VERSIONS: Scene = Scene {
+const VERSIONS: CoreScene = CoreScene {
     stocks: &["widget", "widget_echo"],
     comms: 4096,
-    row: Row {
+    case: Case {
         name: "only version two is spoken",
         lines: r#"register w
 open a w 1.0.0 {"state":{}}
@@ -67,10 +67,10 @@ log
     },
 };
 
-const STATES: Scene = Scene {
+const STATES: CoreScene = CoreScene {
     stocks: &["widget", "widget_echo"],
     comms: 4096,
-    row: Row {
+    case: Case {
         name: "an opening needs a dict as its state, whose numbers are kept",
         lines: r#"register w
 open a w 2.0.0 {}
@@ -94,10 +94,10 @@ log
     },
 };
 
-const OTHERS: Scene = Scene {
+const OTHERS: CoreScene = CoreScene {
     stocks: &["widget", "widget_echo"],
     comms: 4096,
-    row: Row {
+    case: Case {
         name: "custom hands over its content, and other messages change nothing or are refused",
         lines: r#"register w
 open a w 2.0.0 {"state":{"k":1}}
@@ -136,10 +136,10 @@ log
     },
 };
 
-const PUSHED: Scene = Scene {
+const PUSHED: CoreScene = CoreScene {
     stocks: &["widget", "widget_echo"],
     comms: 4096,
-    row: Row {
+    case: Case {
         name: "a push tells just its keys, and nothing is echoed",
         lines: r#"register w
 open a w 2.0.0 {"state":{"value":1,"min":0}}
@@ -162,10 +162,10 @@ log
     },
 };
 
-const LAUNCHED: Scene = Scene {
+const LAUNCHED: CoreScene = CoreScene {
     stocks: &["widget"],
     comms: 4096,
-    row: Row {
+    case: Case {
         name: "a launch of a widget gives its state, and is taken back",
         lines: r#"tell register w
 withdraw launch 67e55044-10b1-426f-9247-bb680e5fe0c8 w {"value":1}
@@ -191,10 +191,10 @@ log
     },
 };
 
-const LAUNCHED_ECHO: Scene = Scene {
+const LAUNCHED_ECHO: CoreScene = CoreScene {
     stocks: &["widget_echo"],
     comms: 4096,
-    row: Row {
+    case: Case {
         name: "a launch of a widget_echo gives its state, and is taken back",
         lines: r#"tell register w
 withdraw launch 67e55044-10b1-426f-9247-bb680e5fe0c8 w {"value":1}
@@ -221,7 +221,7 @@ log
 };
 
 #[test]
-fn the_protocol_of_widgets(rt: HostRuntime) -> Result<(), Fail> {
+fn widgets_keep_to_their_protocol(rt: HostRuntime) -> Result<(), Fail> {
     play_scenes(
         &rt,
         &[

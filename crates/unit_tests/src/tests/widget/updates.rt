@@ -1,12 +1,12 @@
 //! Updates: what they change, and what a widget that echoes tells of them.
-use crate::tests::managed::{Scene, play_scenes};
+use crate::tests::core_scenes::{CoreScene, play_scenes};
 use std::test::Fail;
-use test_harness::Row;
+use test_harness::Case;
 
-const UPDATED: Scene = Scene {
+const UPDATED: CoreScene = CoreScene {
     stocks: &["widget"],
     comms: 4096,
-    row: Row {
+    case: Case {
         name: "an update changes key by key and places its buffers or is refused, of a widget that is silent",
         lines: r#"register w
 open a w 2.0.0 {"state":{"value":1,"min":0},"buffer_paths":[]}
@@ -105,10 +105,10 @@ log
     },
 };
 
-const ECHOED: Scene = Scene {
+const ECHOED: CoreScene = CoreScene {
     stocks: &["widget_echo"],
     comms: 4096,
-    row: Row {
+    case: Case {
         name: "an update changes key by key and places its buffers or is refused, of a widget that echoes",
         lines: r#"register w
 open a w 2.0.0 {"state":{"value":1,"min":0},"buffer_paths":[]}
@@ -212,6 +212,6 @@ log
 };
 
 #[test]
-fn updates_of_widgets(rt: HostRuntime) -> Result<(), Fail> {
+fn updates_of_widgets_are_merged(rt: HostRuntime) -> Result<(), Fail> {
     play_scenes(&rt, &[UPDATED, ECHOED])
 }

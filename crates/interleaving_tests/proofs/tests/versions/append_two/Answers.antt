@@ -5,7 +5,7 @@ use Rattle.comm_core.specs.Row.{rows, with_row}
 use Rattle.comm_core.specs.declared.entry.Entry.{Entry}
 use Rattle.comm_core.specs.declared.row.Row.{Row}
 use Rattle.comm_core.specs.declared.row.Row.TheVariants as row
-use Rattle.interleaving_tests.specs.Days.{close_of}
+use Rattle.interleaving_tests.specs.Closes.{close_of}
 use Rattle.interleaving_tests.proofs.tests.versions.append_two.Goals as goal
 
 pub append-requires-clause-legal : goal.append-requires-clause-legal
