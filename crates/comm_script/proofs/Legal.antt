@@ -1,5 +1,5 @@
 -- The changes that a script makes are a legal history.
-use Rattle.std.proofs.Common.{◌≡◌, ℕ, ◌+◌, ◌<◌, List, [], ◌∷◌, ◌++◌, length, Bool, true, false, Option, Some, None, Ok, Err, refl, ap, sym, cond, true≢false, arith}
+use Rattle.std.proofs.Common.{◌≡◌, ℕ, ◌+◌, ◌<◌, List, [], ◌∷◌, ◌++◌, Bool, true, false, Option, Some, None, Ok, Err, refl, ap, sym, cond, true≢false}
 use Rattle.std.specs.Prelude.{IfOk, nat_lt, option_and_then, codes}
 use Rattle.std.proofs.lemmas.Bool.{ltb-true}
 use Rattle.serde_json.specs.Data.{Data, Members}
@@ -26,7 +26,7 @@ use Rattle.comm_core.specs.declared.question.Question.{Question}
 use Rattle.comm_core.specs.declared.entry.Entry.{Entry}
 use Rattle.comm_core.specs.declared.entry.Entry.TheVariants.{Change, End}
 use Rattle.comm_core.specs.Machine.{Name, Machine, Registered, at}
-use Rattle.comm_core.specs.Step.{Outcome, Stepped, Verdict, Done, Request, Allowed, Gives, asks, judged, question_of, step, stepped}
+use Rattle.comm_core.specs.Step.{Outcome, Stepped, Verdict, Done, Asked, Allowed, Gives, asks, judged, question_of, step, stepped}
 use Rattle.comm_core.specs.Exact.{exact_outcome, outcome_at, outcome_by}
 use Rattle.comm_core.specs.History.{Follows, IsLegal, has_end}
 use Rattle.comm_value.specs.Gives.{◌>>=◌}
@@ -120,13 +120,13 @@ outcome_given WidgetEcho notes q (Err f) is = is
 outcome_given Free notes q (Ok a) is = free_given q.event a is
 outcome_given Free notes q (Err f) is = cc
 
-question_allowed : (m : Machine) (q : Question) (s : Stepped) (r : Option Registered) → at m.targets q.name ≡ r → stepped m (Request q) (outcome_by r q) ≡ Some s → Allowed m (Some q) (outcome_by r q)
+question_allowed : (m : Machine) (q : Question) (s : Stepped) (r : Option Registered) → at m.targets q.name ≡ r → stepped m (Asked q) (outcome_by r q) ≡ Some s → Allowed m (Some q) (outcome_by r q)
 question_allowed m q s None there is = cc
 question_allowed m q s (Some r) there is = rw there (outcome_given r.kind r.notes q (answer_of r.kind r.notes q.state q.event) refl)
 
 verdict_allowed : (m : Machine) (v : Verdict) (s : Stepped) → stepped m v (outcome_at m (question_of v)) ≡ Some s → Allowed m (question_of v) (outcome_at m (question_of v))
 verdict_allowed m (Done r out next) s is = tt
-verdict_allowed m (Request q) s is = question_allowed m q s (at m.targets q.name) refl is
+verdict_allowed m (Asked q) s is = question_allowed m q s (at m.targets q.name) refl is
 
 exact_allowed : (limit : ℕ) (m : Machine) (c : Call) (s : Stepped) → step limit m c (exact_outcome limit m c) ≡ Some s → Allowed m (asks limit m c) (exact_outcome limit m c)
 exact_allowed limit m c s is = verdict_allowed m (judged limit m c) s is
