@@ -1,6 +1,6 @@
 use Rattle.std.proofs.Common.{◌≡◌, List, ℕ, [], ◌∷◌, ◌++◌, ap, ◌∙◌, append_assoc, codes, decimal}
 use Rattle.shared_script.specs.Words.{full_words}
-use Rattle.shared_script.proofs.words.append_unavailable.Goals as goal
+use Rattle.shared_script.proofs.wording.append_unavailable.Goals as goal
 
 two : (o a b o1 o2 : List ℕ) → o1 ≡ o ++ a → o2 ≡ o1 ++ b → o2 ≡ o ++ (a ++ b)
 two o a b o1 o2 p q = q ∙ ap (λ l. l ++ b) p ∙ append_assoc o a b

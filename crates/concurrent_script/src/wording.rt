@@ -1,5 +1,5 @@
 //! The lines that this program alone writes.
-use crate::account::Account;
+use crate::transcript::Transcript;
 use comm_core::{Entry, Reply};
 use comm_messages::Parent;
 use comm_script::{append_outs, append_reply};
@@ -9,7 +9,8 @@ use std::sync::Arc;
 /// What stands before the words of a reply that is numbered 0.
 const NUMBERED: &[u8] = b"reply 0 ";
 
-/// What stands before a line's answer: whose it is, and how many entries the client had seen before it asked, and then.
+/// Appends what stands before a line's answer: whose it is, and how many entries the client had seen before it asked,
+/// and then. Err: memory.
 pub(crate) fn append_seen(
     alloc: Global,
     line: u64,
@@ -37,7 +38,7 @@ fn append_entry(
     alloc: Global,
     place: u64,
     entry: &Entry,
-    accounts: &[Account],
+    transcripts: &[Transcript],
     out: &mut Vec<u8>,
 ) -> Result<(), AllocError> {
     match entry {
@@ -50,8 +51,8 @@ fn append_entry(
             outgoing,
         } => {
             let (client, number) = (*client, *number);
-            let line = match accounts.get(usize::from(client)) {
-                Some(account) => account.line_of(number),
+            let line = match transcripts.get(usize::from(client)) {
+                Some(transcript) => transcript.line_of(number),
                 None => 0,
             };
             let words = format!(in alloc;
@@ -70,22 +71,22 @@ fn append_entry(
     }
 }
 
-/// The lines of each entry of a history; its end has none.
+/// Appends the lines of each entry of a history; its end has none. Err: memory.
 pub(crate) fn append_history(
     alloc: Global,
     history: &[Arc<Entry, Global>],
-    accounts: &[Account],
+    transcripts: &[Transcript],
     out: &mut Vec<u8>,
 ) -> Result<(), AllocError> {
     let mut place = 0u64;
     for entry in history {
         place = place.saturating_add(1);
-        append_entry(alloc, place, entry, accounts, out)?;
+        append_entry(alloc, place, entry, transcripts, out)?;
     }
     Ok(())
 }
 
-/// How many entries the publisher took, and how many it left, the end among them.
+/// Appends how many entries the publisher took, and how many it left, the end among them. Err: memory.
 pub(crate) fn append_taken(
     alloc: Global,
     taken: u64,

@@ -11,29 +11,34 @@ use std::sync::{Mutex, Wait};
 use std::thread::yield_now;
 
 /// How often a thread looks at most whether the others have come.
-const LOOKS: u32 = 100_000;
+const MAX_SPINS: u32 = 100_000;
 
 /// The stock, the stamps that clients have got, and what the threads tell one another.
 #[derive(Drop)]
-pub struct Desk<M: ManagerId, T: Target> {
+pub struct SharedState<M: ManagerId, T: Target> {
     pub alloc: Global,
-    /// Who registers has the lock until the box is registered or lies in the stock again, so no box is on its way when another looks.
+    /// Who registers has the lock until the box is registered or lies in the stock again, so no box is on its way
+    /// when another looks.
     pub stock: Mutex<Stock<T>>,
     // each client's last
     stamps: Vec<Mutex<Option<Stamp<M>>>>,
     missing: AtomicU64,
 }
 
-impl<M: ManagerId, T: Target> Desk<M, T> {
-    /// For so many clients, whose threads begin at once.
-    pub(crate) fn new(alloc: Global, stock: Vec<T>, clients: u8) -> Result<Desk<M, T>, AllocError>
+impl<M: ManagerId, T: Target> SharedState<M, T> {
+    /// For so many clients, whose threads begin at once. Err: memory; the stock is let go then.
+    pub(crate) fn new(
+        alloc: Global,
+        stock: Vec<T>,
+        clients: u8,
+    ) -> Result<SharedState<M, T>, AllocError>
         requires { AreIdle (map T.means stock.items) }
     {
         let mut stamps = Vec::new(alloc);
         for _ in 0..clients {
             stamps.push(Mutex::new(None))?;
         }
-        Ok(Desk {
+        Ok(SharedState {
             alloc,
             stock: Mutex::new(Stock::new(stock)),
             stamps,
@@ -41,8 +46,8 @@ impl<M: ManagerId, T: Target> Desk<M, T> {
         })
     }
 
-    /// Lays the stamp of a client's change out for others.
-    pub(crate) fn lay_out<R: Wait>(&self, rt: &R, client: u8, stamp: Stamp<M>) {
+    /// Shows the stamp of a client's change to the others.
+    pub(crate) fn publish_stamp<R: Wait>(&self, rt: &R, client: u8, stamp: Stamp<M>) {
         if let Some(last) = self.stamps.get(usize::from(client)) {
             *last.lock(rt) = Some(stamp);
         }
@@ -60,10 +65,11 @@ impl<M: ManagerId, T: Target> Desk<M, T> {
         }
     }
 
-    /// Waits until all threads have come, so that they begin at once. Not for ever: one that can't be made is run by another, later.
+    /// Waits until all threads have come, so that they begin at once. Not for ever: one that can't be made is run by
+    /// another, later.
     pub(crate) fn begin(&self) {
         let _missing = self.missing.fetch_sub(1, Ordering::AcqRel);
-        for _ in 0..LOOKS {
+        for _ in 0..MAX_SPINS {
             if self.missing.load(Ordering::Acquire) == 0 {
                 return;
             }

@@ -2,7 +2,7 @@ use Rattle.std.proofs.Common.{◌≡◌, ◌+◌, ◌≤◌, ℕ, zero, suc, [],
 use Rattle.std.proofs.lemmas.List.{length-append}
 use Rattle.comm_core.specs.Limits.{AreAllowed}
 use Rattle.comm_manager.specs.Who.{all_new, who}
-use Rattle.shared_script.proofs.running.opened.Goals as goal
+use Rattle.shared_script.proofs.running.run_named.Goals as goal
 
 so_many : (n : ℕ) → length (all_new n) ≡ n
 so_many zero = refl
@@ -11,8 +11,8 @@ so_many (suc n) =
     let fewer : length (all_new n) ≡ n = so_many n in
     omega (arith, more, fewer)
 
-pub play-played-requires-clause-clients : goal.play-played-requires-clause-clients
-play-played-requires-clause-clients g c κs live =
+pub play_over-played-requires-clause-clients : goal.play_over-played-requires-clause-clients
+play_over-played-requires-clause-clients g c κs live =
     let all : length c.in-Ok.clients.items ≡ g.M.History.limits.clients = ap length c.in-Ok.ensures.clients ∙ so_many _ in
     let long : c.in-Ok.clients.len ≡ length c.in-Ok.clients.items = c.in-Ok.clients.ok.0 in
     let allowed : AreAllowed g.M.History.limits = subst AreAllowed c.requires.named.limits_are c.requires.allowed in

@@ -1,34 +1,22 @@
 //! The lines that a manager gives which threads share.
-ghost use Rattle.std.specs.Prelude.{◌≡◌, ◌++◌, OnOk, IfErr, decimal};
+ghost use Rattle.std.specs.Prelude.{◌≡◌, ◌++◌, OnOk, IfErr};
+ghost use Rattle.comm_script.specs.Player.{IsBackendFault};
 ghost use Rattle.shared_script.specs.Faults.{IsSaid, full_of, run_fault};
 ghost use Rattle.shared_script.specs.Words.{full_words, unavailable_line, entry_lines};
 
 use comm_core::{Entry, Unavailable};
 use comm_manager::ReadFault;
 use comm_messages::Parent;
-use comm_script::{RunFault, append_outs, append_reply};
+use comm_script::{RunFault, append, append_counted, append_outs, append_reply};
 use std::alloc::{AllocError, Global};
 
 /// What has no room for a change.
 #[derive(Clone, Copy, Debug, PartialEq, Eq, Drop)]
 pub enum Full {
+    /// The history has as many entries as the limits allow.
     History,
+    /// As many entries as the limits allow wait to be taken.
     Outbox,
-}
-
-fn append(words: &[u8], out: &mut Vec<u8>) -> Result<(), AllocError>
-    ensures { OnOk result (out.new.items ≡ out.old.items ++ words.now) }
-{
-    out.extend_from_slice(words)
-}
-
-fn append_counted(words: &[u8], number: u64, out: &mut Vec<u8>) -> Result<(), AllocError>
-    ensures { OnOk result (out.new.items ≡ out.old.items ++ (words.now ++ decimal number)) }
-{
-    let mut digits = itoa::Buffer::new();
-    append(words, out)?;
-    append(digits.format(number).as_bytes(), out)?;
-    Ok(())
 }
 
 fn append_full_words(full: Full, out: &mut Vec<u8>) -> Result<(), AllocError>
@@ -40,7 +28,7 @@ fn append_full_words(full: Full, out: &mut Vec<u8>) -> Result<(), AllocError>
     }
 }
 
-/// What has no room for a change that isn't made; None for want of memory.
+/// What has no room for a change that isn't made; None where memory ran out.
 pub fn full_of<S>(why: &Unavailable<S>) -> Option<Full>
     ensures { result ≡ full_of why.now }
 {
@@ -53,7 +41,8 @@ pub fn full_of<S>(why: &Unavailable<S>) -> Option<Full>
 
 /// Why a read that gives nothing ends a script.
 pub fn run_fault(fault: ReadFault) -> RunFault
-    ensures { result ≡ run_fault fault }
+    ensures given { result ≡ run_fault fault }
+    ensures known { IsBackendFault result }
 {
     match fault {
         ReadFault::Memory => RunFault::Memory,
@@ -72,7 +61,8 @@ fn append_unavailable(number: u64, full: Full, out: &mut Vec<u8>) -> Result<(), 
     Ok(())
 }
 
-/// Says what has no room for a change that isn't made. Where it is memory, nothing can be said.
+/// Appends, by its line's number in the script, what has no room for a change that isn't made. None says that memory
+/// ran out, and gives Memory.
 pub fn append_full(number: u64, full: Option<Full>, out: &mut Vec<u8>) -> Result<(), RunFault>
     ensures said { OnOk result (IsSaid number full out.old.items out.new.items) }
     ensures fault { IfErr result (λ e. e ≡ RunFault.Memory) }
@@ -86,7 +76,8 @@ pub fn append_full(number: u64, full: Option<Full>, out: &mut Vec<u8>) -> Result
     }
 }
 
-/// The lines of the entry that stands at this place of the history, from 1: its reply, and what it sends.
+/// Appends the lines of the entry that stands at this place of the history, from 1: its reply, and what it sends. The
+/// end has none. Err: memory.
 pub fn append_entry(
     alloc: Global,
     place: u64,

@@ -1,28 +1,29 @@
-//! What is told of a client's lines.
-use crate::words::append_seen;
+//! What came of a client's lines.
+use crate::wording::append_seen;
 use comm_script::RunFault;
 use std::alloc::{AllocError, Global};
 
+/// What came of the lines of one client.
 #[derive(Drop)]
-pub struct Account {
-    /// What its lines came to, in their order.
+pub struct Transcript {
+    /// What its lines were answered, in their order.
     pub text: Vec<u8>,
     /// The line of each of its changes that was answered, in their order.
     pub changes: Vec<u64>,
-    /// Whether all its lines were played.
+    /// Why not all its lines were played.
     pub played: Result<(), RunFault>,
 }
 
-impl Account {
-    pub(crate) fn new(alloc: Global) -> Account {
-        Account {
+impl Transcript {
+    pub(crate) fn new(alloc: Global) -> Transcript {
+        Transcript {
             text: Vec::new(alloc),
             changes: Vec::new(alloc),
             played: Ok(()),
         }
     }
 
-    /// Notes what was said to a line, and how many entries its client had seen before it asked, and then.
+    /// Notes what a line was answered, and how many entries its client had seen before it asked, and then. Err: memory.
     pub(crate) fn note(
         &mut self,
         alloc: Global,
