@@ -1,5 +1,5 @@
--- The program: what it plays within, what it has in stock, and its exit status.
-use Rattle.std.specs.Prelude.{ℕ, List, [], ◌∷◌, Option, Some, None, if◌then◌else◌, codes, Result, Ok, Err, ⊤}
+-- The program: what it plays within, what it has in stock, and what its arguments ask for.
+use Rattle.std.specs.Prelude.{ℕ, List, [], ◌∷◌, Option, Some, None, if◌then◌else◌, codes}
 use Rattle.std.specs.Str.{bytes_eq}
 use Rattle.comm_targets.specs.declared.kind.Kind.{Kind}
 use Rattle.comm_targets.specs.declared.kind.Kind.TheVariants.{Echo, Counter, Widget, WidgetEcho}
@@ -7,8 +7,6 @@ use Rattle.comm_core.specs.declared.limits.Limits.{Limits}
 use Rattle.comm_core.specs.Machine.{Registered}
 use Rattle.comm_driver.specs.declared.Over.{Over}
 use Rattle.comm_driver.specs.declared.Over.TheVariants.{OneThread, Shared}
-use Rattle.comm_script.specs.declared.fault.RunFault.{RunFault}
-use Rattle.comm_script.specs.declared.fault.RunFault.TheVariants.{Read, Write, Memory, BadLimits, NoReader}
 
 abbrev pub program_limits : Limits
 program_limits = record { clients = 4; comms = 4096; history = 1000000; outbox = 64 }
@@ -23,16 +21,8 @@ program_stock =
     new_target Echo ∷ new_target Echo ∷ new_target Counter ∷ new_target Counter
     ∷ new_target Widget ∷ new_target Widget ∷ new_target WidgetEcho ∷ new_target WidgetEcho ∷ []
 
--- 1: the script couldn't be read, or the answers couldn't be written; 2: there was no memory, or no version to read
-abbrev pub status_of : Result ⊤ RunFault → ℕ
-status_of (Ok done) = 0
-status_of (Err Read) = 1
-status_of (Err Write) = 1
-status_of (Err Memory) = 2
-status_of (Err BadLimits) = 2
-status_of (Err NoReader) = 2
-
--- no argument asks for the manager of one thread, the one word 'shared' for the one that threads share; nothing else asks for any
+-- no argument asks for the manager of one thread, the one word 'shared' for the one that threads share; nothing else
+-- asks for any
 abbrev pub over_of : List (List ℕ) → Option Over
 over_of [] = Some OneThread
 over_of (word ∷ []) = if bytes_eq word (codes "shared") then Some Shared else None

@@ -5,10 +5,10 @@ ghost use Rattle.std.specs.Prelude.{◌≡◌, ◌≢◌, OnOk, IfErr, IfSome, m
 ghost use Rattle.std.specs.Vec.Iter.{into_iter_items};
 ghost use Rattle.std.specs.Io.KnownBytes.{Appends};
 ghost use Rattle.comm_script.specs.Played.{played};
-ghost use Rattle.comm_driver.specs.Program.{over_of, program_limits, program_stock, status_of};
+ghost use Rattle.comm_driver.specs.Program.{over_of, program_limits, program_stock};
 
 use comm_core::Limits;
-use comm_script::{RunFault, add, run_with};
+use comm_script::{RunFault, boxed_stock, exit_status, run_with};
 use comm_targets::{Counter, Echo, Target};
 use shared_script::run_shared_with;
 use std::alloc::Global;
@@ -30,11 +30,13 @@ const LIMITS: Limits = Limits {
 /// Which manager a script is played over.
 #[derive(Clone, Copy, PartialEq, Eq, Debug)]
 enum Over {
+    /// The manager of one thread.
     OneThread,
+    /// The manager that threads share.
     Shared,
 }
 
-/// Plays a script with the program's limits, and two targets of each kind in stock.
+/// Plays a script with the program's limits, and two targets of each kind in stock. The fault is never BadLimits.
 fn play<R: Read, W: Write, H: Wait>(
     rt: &H,
     alloc: Global,
@@ -46,42 +48,15 @@ fn play<R: Read, W: Write, H: Wait>(
         Appends (W.contents writer.old) (W.contents writer.new) (played program_limits program_stock input))) }
     ensures limits { IfErr result (λ e. e ≢ RunFault.BadLimits) }
 {
-    let mut stock = Vec::new(alloc);
-    let echo: Box<dyn Target> = Box::new(alloc, Echo::new(alloc))?;
-    add(&mut stock, echo)?;
-    let other_echo: Box<dyn Target> = Box::new(alloc, Echo::new(alloc))?;
-    add(&mut stock, other_echo)?;
-    let counter: Box<dyn Target> = Box::new(alloc, Counter::new(alloc))?;
-    add(&mut stock, counter)?;
-    let other_counter: Box<dyn Target> = Box::new(alloc, Counter::new(alloc))?;
-    add(&mut stock, other_counter)?;
-    let widget: Box<dyn Target> = Box::new(alloc, WidgetTarget::new(alloc))?;
-    add(&mut stock, widget)?;
-    let other_widget: Box<dyn Target> = Box::new(alloc, WidgetTarget::new(alloc))?;
-    add(&mut stock, other_widget)?;
-    let echoing: Box<dyn Target> = Box::new(alloc, WidgetTarget::with_echo(alloc))?;
-    add(&mut stock, echoing)?;
-    let other_echoing: Box<dyn Target> = Box::new(alloc, WidgetTarget::with_echo(alloc))?;
-    add(&mut stock, other_echoing)?;
+    let stock = boxed_stock!(alloc);
     match over {
         Over::OneThread => run_with(alloc, reader, writer, LIMITS, stock),
         Over::Shared => run_shared_with(rt, alloc, reader, writer, LIMITS, stock),
     }
 }
 
-/// The exit status: 0 where the whole script was played, 1 where it couldn't be read or the answers couldn't be written, 2 for
-/// want of memory or of a version to read.
-fn status(end: Result<(), RunFault>) -> u8
-    ensures { result ≡ status_of end }
-{
-    match end {
-        Ok(()) => 0,
-        Err(RunFault::Read | RunFault::Write) => 1,
-        Err(RunFault::Memory | RunFault::BadLimits | RunFault::NoReader) => 2,
-    }
-}
-
-/// What the arguments ask for: none, or the one word `shared`.
+/// Which manager the arguments after the program's name ask for: none for that of one thread, the one word `shared`
+/// for the shared one.
 fn over_of(mut words: Args) -> Option<Over>
     ensures { result ≡ over_of (map string_bytes (into_iter_items words)) }
 {
@@ -95,7 +70,7 @@ fn over_of(mut words: Args) -> Option<Over>
     }
 }
 
-/// What the program is asked for. The first argument is its own name.
+/// Which manager the program is asked for; None where its arguments can't be read, or ask for none.
 fn asked(rt: &HostRuntime) -> Option<Over> {
     let mut words = env::args(rt).ok()?;
     let _name = words.next();
@@ -114,5 +89,5 @@ fn main(rt: HostRuntime) -> ExitCode {
         &mut rt.reader(),
         &mut io::writer(&rt),
     );
-    ExitCode::from(status(end))
+    ExitCode::from(exit_status(end))
 }

@@ -12,7 +12,7 @@ use Rattle.comm_core.specs.declared.call.Call.{Call}
 use Rattle.comm_core.specs.declared.call.Call.TheVariants.{Register, Open, Msg, Close, Unregister, Launch, Push, Send, HangUp}
 use Rattle.comm_core.specs.Machine.{Machine, Registered, Name, has}
 use Rattle.comm_core.specs.Step.{Outcome, Stepped, step, asks, Allowed}
-use Rattle.comm_core.specs.Exact.{exact_outcome, outcome_at, is_exact, is_free, registers_free}
+use Rattle.comm_core.specs.Exact.{exact_outcome, is_exact, is_free, registers_free}
 use Rattle.comm_core.specs.declared.target_request.TargetRequest.{TargetRequest}
 use Rattle.comm_core.specs.History.{mine, applied, next_of, replay, replay_from, is_of}
 use Rattle.comm_core.specs.declared.entry.Entry.{Entry}

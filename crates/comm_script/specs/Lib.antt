@@ -4,4 +4,6 @@ pub mod Lines
 pub mod Stock
 pub mod Words
 pub mod Played
+pub mod Player
 pub mod Session
+pub mod Status

@@ -1,5 +1,6 @@
 -- What a script gives: its lines, one after the other, over a manager that holds nothing at first.
-use Rattle.std.specs.Prelude.{◌≡◌, ℕ, ◌+◌, ◌≤◌, List, [], ◌∷◌, ◌++◌, length, if◌then◌else◌, Option, Some, None, Ok, Err, false}
+use Rattle.std.specs.Prelude.{◌≡◌, ℕ, ◌+◌, ◌≤◌, List, [], ◌∷◌, ◌++◌, length, if◌then◌else◌, Option, Some, None, Ok, Err}
+use Rattle.std.specs.Prelude.{false}
 use Rattle.std.specs.Io.KnownBytes.{Appends}
 use Rattle.comm_messages.specs.declared.outgoing.Outgoing.TheVariants as out
 use Rattle.comm_messages.specs.declared.outgoing.Parent.TheVariants as parent
@@ -39,8 +40,8 @@ says now text = record { after = now; text = text }
 abbrev pub machine : Limits → Standing → Machine
 machine limits now = replay limits.comms now.history
 
--- The client's next change, where it comes to this; `left` is the stock after it. A step is none only where an outcome is missing,
--- and an exact one never is.
+-- The client's next change, where it comes to this; `left` is the stock after it. A step is none only where an
+-- outcome is missing, and an exact one never is.
 abbrev pub changed : Limits → Standing → ℕ → Call → List Registered → Option Stepped → Turn
 changed limits now client asked left None = says now []
 changed limits now client asked left (Some s) =
@@ -106,8 +107,8 @@ pub record Begins (before now : Option (List ℕ)) (text : List ℕ) : Type 0 wh
   pub appends : Appends before now part
   pub is : text ≡ part ++ rest
 
--- The lines are answered that were whole before the last piece was read, which is at most 65,536 bytes. Nothing else is: neither what was cut
--- then, nor the piece, nor the rest, which is left.
+-- The lines are answered that were whole before the last piece was read, which is at most 65,536 bytes. Nothing else
+-- is: neither what was cut then, nor the piece, nor the rest, which is left.
 pub record Pauses (limits : Limits) (stock : List Registered) (input : List ℕ) (left before now : Option (List ℕ)) : Type 0 where
   pub whole : List ℕ
   pub ended : IsWhole whole

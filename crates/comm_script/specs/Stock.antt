@@ -1,5 +1,6 @@
 -- The stock of targets that scripts register.
-use Rattle.std.specs.Prelude.{◌≡◌, ◌<◌, ℕ, Bool, true, false, List, [], ◌∷◌, Option, Some, None, if◌then◌else◌, map, length, take, slice_index_or}
+use Rattle.std.specs.Prelude.{◌≡◌, ◌<◌, ℕ, Bool, true, false, List, [], ◌∷◌, Option, Some, None, if◌then◌else◌, map}
+use Rattle.std.specs.Prelude.{length, take, slice_index_or}
 use Rattle.std.specs.List.{list_any}
 use Rattle.comm_core.specs.Machine.{Registered}
 use Rattle.comm_core.specs.Tables.{registered_of}

@@ -28,7 +28,8 @@ use Rattle.comm_core.specs.declared.reply.StateAnswer.TheVariants.{NoComm, NoSta
 use Rattle.comm_script.specs.declared.asked.Key.{Key}
 use Rattle.comm_script.specs.declared.asked.Key.TheVariants as key
 use Rattle.comm_script.specs.declared.asked.LineFault.{LineFault}
-use Rattle.comm_script.specs.declared.asked.LineFault.TheVariants.{Message, UnknownCall, BadField, Value, BadUuid, NoStock}
+use Rattle.comm_script.specs.declared.asked.LineFault.TheVariants.{Message, UnknownCall, BadField, Value, BadUuid}
+use Rattle.comm_script.specs.declared.asked.LineFault.TheVariants.{NoStock}
 
 -- ---- faults
 

@@ -1,4 +1,5 @@
 ghost use Rattle.std.specs.Prelude.{◌≡◌};
+ghost use Rattle.comm_script.specs.Line.{is_memory};
 ghost use Rattle.comm_script.specs.declared.asked.LineFault.TheVariants.{Message, Value};
 
 use crate::stock::StockKind;
@@ -54,6 +55,19 @@ pub enum LineFault {
     BadUuid,
     /// No target of this kind is left.
     NoStock,
+}
+
+impl LineFault {
+    /// Whether memory ran out while the line was read. Nothing is said of the line then.
+    pub fn is_memory(self) -> bool
+        ensures { result ≡ is_memory self }
+    {
+        match self {
+            LineFault::Message(MessageFault::Memory) => true,
+            LineFault::Value(ValueFault::Memory) => true,
+            _ => false,
+        }
+    }
 }
 
 impl From<MessageFault> for LineFault {

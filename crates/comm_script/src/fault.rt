@@ -10,6 +10,7 @@ pub enum RunFault {
     Read,
     /// What is said couldn't be written.
     Write,
+    /// Memory ran out.
     Memory,
     /// A limit is out of its bounds.
     BadLimits,

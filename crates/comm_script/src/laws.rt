@@ -8,8 +8,8 @@ ghost use Rattle.comm_script.specs.Played.{history_of};
 
 use comm_core::legal_histories_grow;
 
-/// The changes that a script makes, whatever it is, are a legal history. So comm_core's laws over whole runs hold of each script:
-/// after it those comms are listed that it left open, with the states that it gave them last.
+/// The changes that a script makes, whatever it is, are a legal history. So comm_core's laws over whole runs hold of
+/// each script: after it those comms are listed that it left open, with the states that it gave them last.
 pub fn scripts_make_legal_histories()
     ensures { (limits : Limits) (stock : List Registered) (input : List ℕ) → AreAllowed limits
         → IsLegal limits.clients limits.comms (history_of limits stock input) }

@@ -1,31 +1,44 @@
-//! Plays scripts of comm messages and commands over a manager: a script is lines of JSON, and what is said to it is a text.
+//! Plays scripts of comm messages and commands over a manager: a script is lines of JSON, and what is said to it is a
+//! text.
 //!
-//! [`run_with`] plays a script with a stock of targets of one type, [`run`] with boxes; [`add`] puts an idle target into a stock, and a
-//! [`RunFault`] says why a script wasn't played to its end. The law [`scripts_make_legal_histories`] ties what a script does to the laws
-//! that `comm_core` has of whole runs.
+//! [`run_with`] plays a script with a stock of targets of one type, [`run`] with boxes; [`push_target`] puts an idle
+//! target into a stock, [`boxed_stock!`] makes that of a program, a [`RunFault`] says why a script wasn't played to
+//! its end, and [`exit_status`] is what a program ends with then. The law [`scripts_make_legal_histories`] ties what
+//! a script does to the laws that `comm_core` has of whole runs.
 //!
-//! Its parts serve who plays scripts over another manager (`shared_script`): [`split_line`] and [`is_blank`] find the lines, [`parse_line`]
-//! reads one, a [`Stock`] has the targets, `append_*` are the lines that are written, and [`send`] writes them.
+//! A [`Backend`] is what a script is played over: [`play_script`] plays a whole script over any, [`play_line`] a
+//! line, and [`execute`] what a line asks for. `shared_script` has one over the manager that threads share.
+//! [`split_line`] and [`is_blank`] find lines, [`parse_line`] reads one, a [`Stock`] has the targets, `append_*` are
+//! the lines that are written, and [`write_all_and_flush`] writes them.
 #![tactic(auto)]
 
 mod asked;
+mod backend;
 mod command;
 mod fault;
 mod laws;
 mod line;
 mod lines;
+mod player;
 mod running;
 mod session;
+mod status;
 mod stock;
 mod stream;
-mod words;
+mod wording;
 
 pub use asked::{Key, LineFault, Request};
+pub use backend::Backend;
 pub use fault::RunFault;
 pub use laws::scripts_make_legal_histories;
 pub use line::parse_line;
 pub use lines::{is_blank, split_line};
+pub use player::{append_fault, play_line};
 pub use running::{run, run_with};
-pub use stock::{Stock, StockKind, add};
-pub use stream::{PIECE, send};
-pub use words::{append_bad, append_out, append_outs, append_reply, append_state_line};
+pub use status::exit_status;
+pub use stock::{Stock, StockKind, push_target};
+pub use stream::{play_script, write_all_and_flush};
+pub use wording::{
+    append, append_bad, append_counted, append_infos, append_number, append_out, append_outs,
+    append_reply, append_state_line,
+};

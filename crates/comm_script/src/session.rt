@@ -1,52 +1,50 @@
-ghost use Rattle.std.specs.Prelude.{◌≡◌, ◌+◌, ◌^◌, ◌<◌, ◌≤◌, ◌++◌, ℕ, List, OnOk, IfOk, IfErr, [], true, false, slice_index, slice_set, map, option_map};
+//! The manager of one thread, with its stock, as what a script is played over.
+ghost use Rattle.std.specs.Prelude.{◌≡◌, ◌+◌, ◌^◌, ◌<◌, ◌≤◌, ◌++◌, ℕ, OnOk, IfOk, IfErr, [], true, slice_index};
+ghost use Rattle.std.specs.Prelude.{slice_set, map, option_map};
 ghost use Rattle.comm_messages.specs.declared.outgoing.Parent.TheVariants as parent;
-ghost use Rattle.comm_targets.specs.Meaning.{IsIdle};
-ghost use Rattle.comm_core.specs.Limits.{AreAllowed};
-ghost use Rattle.comm_core.specs.Ready.{HandsNothingIn};
-ghost use Rattle.comm_core.specs.declared.limits.Limits.{Limits};
-ghost use Rattle.comm_script.specs.Stock.{first_of, shelved, AreIdle};
 ghost use Rattle.comm_messages.specs.declared.outgoing.Outgoing.TheVariants as out;
-ghost use Rattle.comm_core.specs.Ready.{machine};
+ghost use Rattle.comm_core.specs.declared.limits.Limits.{Limits};
+ghost use Rattle.comm_core.specs.Limits.{AreAllowed};
 ghost use Rattle.comm_core.specs.Reads.{infos, state_of};
-ghost use Rattle.comm_script.specs.Words.{reply_line, out_line, out_lines, state_line};
-ghost use Rattle.comm_script.specs.Played.{Standing, called, registered, obeyed, turn};
+ghost use Rattle.comm_core.specs.Ready.{HandsNothingIn, machine};
 ghost use Rattle.comm_script.specs.Command.{HandsNothing};
+ghost use Rattle.comm_script.specs.Played.{Standing, called, registered, obeyed};
+ghost use Rattle.comm_script.specs.Stock.{first_of, shelved, AreIdle};
+ghost use Rattle.comm_script.specs.Words.{reply_line, out_line, out_lines, state_line};
 
 use crate::asked::{LineFault, Request};
+use crate::backend::Backend;
 use crate::fault::RunFault;
-use crate::line::parse_line;
-use crate::lines::is_blank;
 use crate::stock::{Stock, StockKind};
-use crate::words::{append_bad, append_out, append_outs, append_reply, append_state_line};
+use crate::wording::{append_bad, append_infos, append_outs, append_reply, append_state_line};
 use comm_core::{
     Call, Core, Limits, NewFault, Reply, exact_machines_leave_no_choice, steps_keep_machines_exact,
 };
-use comm_json::ParseArena;
-use comm_messages::{MessageFault, Outgoing, Parent};
+use comm_messages::{Outgoing, Parent};
 use comm_targets::Target;
-use comm_value::{Text, ValueFault};
-use std::alloc::{AllocError, Global};
+use comm_value::Text;
+use std::alloc::Global;
 
-/// A manager, the stock of targets, how many changes were made, by each client too, and what the reading of a line needs.
+/// A manager, the stock of targets, and how many changes were made, by each client too.
 pub struct Session<T: Target> {
     pub limits: Limits,
     pub core: Core<T>,
     pub stock: Stock<T>,
     pub changes: u64,
     pub made: [u64; 4],
-    pub room: ParseArena,
 }
 
-ghost use Rattle.comm_script.specs.Session.{Stands, IsWithin};
+ghost use Rattle.comm_script.specs.Session.{Stands, IsSound};
 
 impl<T: Target> Session<T> {
-    /// A session that has played nothing.
+    /// A session that has played nothing. BadLimits: a limit is out of its bounds.
     pub fn new(alloc: Global, limits: Limits, targets: Vec<T>) -> Result<Session<T>, RunFault>
         requires { AreIdle (map T.means targets.items) }
-        ensures stands { IfOk result (λ s. Stands limits (record { history = []; stock = shelved (map T.means targets.items) }) s) }
-        ensures within { IfOk result (IsWithin 0) }
-        ensures settled { IfOk result (λ s. s.core.settled ≡ true) }
-        ensures fits { IfOk result (λ s. AreAllowed limits × (s.limits ≡ limits)) }
+        ensures stands { IfOk result (λ s. Stands limits
+            (record { history = []; stock = shelved (map T.means targets.items) }) s) }
+        ensures fresh { IfOk result (λ s. s.changes ≡ 0) }
+        ensures sound { IfOk result IsSound }
+        ensures fits { IfOk result (λ s. AreAllowed limits) }
         ensures fault { IfErr result (λ e. (e ≡ RunFault.BadLimits) × ¬ (AreAllowed limits)) }
     {
         match Core::new(alloc, limits) {
@@ -56,14 +54,13 @@ impl<T: Target> Session<T> {
                 stock: Stock::new(targets),
                 changes: 0,
                 made: [0; 4],
-                room: ParseArena::new(alloc),
             }),
             Err(NewFault::BadLimits) => Err(RunFault::BadLimits),
             Err(NewFault::Memory) => Err(RunFault::Memory),
         }
     }
 
-    /// Counts a change, and says what it came to.
+    // Counts a change, and says what it came to.
     fn answer(
         &mut self,
         alloc: Global,
@@ -71,12 +68,19 @@ impl<T: Target> Session<T> {
         reply: &Reply,
         outgoing: &[Outgoing],
         text: &mut Vec<u8>,
-    ) -> Result<(), AllocError>
+    ) -> Result<(), RunFault>
         requires client { client < 4 }
-        requires room { IsWithin (2 ^ 63) self.old }
+        requires few { self.old.changes < 2 ^ 63 }
+        requires made { (c : ℕ) → slice_index self.old.made c ≤ self.old.changes }
         ensures text { OnOk result (text.new.items ≡ text.old.items
-            ++ (reply_line (self.old.changes + 1) reply.now ++ out_lines outgoing.now (parent.Call client (slice_index self.old.made client + 1)))) }
-        ensures counted { self.new ≡ record self.old { changes = self.old.changes + 1; made = slice_set self.old.made client (slice_index self.old.made client + 1) } }
+            ++ (reply_line (self.old.changes + 1) reply.now
+            ++ out_lines outgoing.now (parent.Call client (slice_index self.old.made client + 1)))) }
+        ensures counted { self.new ≡ record self.old {
+          changes = self.old.changes + 1;
+          made = slice_set self.old.made client (slice_index self.old.made client + 1);
+        } }
+        ensures made { (c : ℕ) → slice_index self.new.made c ≤ self.new.changes }
+        ensures fault { IfErr result (λ e. e ≡ RunFault.Memory) }
     {
         self.changes += 1;
         let i = client as usize;
@@ -87,25 +91,42 @@ impl<T: Target> Session<T> {
         Ok(())
     }
 
-    /// Makes a change, and says what it came to.
+    /// Ends every target that is registered, after its comms, and lets the rest of the stock go.
+    pub fn end(self)
+        requires { self.core.settled ≡ true }
+    {
+        let Session {
+            limits: _,
+            core,
+            stock: _,
+            changes: _,
+            made: _,
+        } = self;
+        core.stop_all();
+    }
+}
+
+impl<T: Target> Session<T> {
+    // Makes the change that a call asks for, and says what it came to.
     fn change(
         &mut self,
         alloc: Global,
         client: u8,
         call: Call,
         text: &mut Vec<u8>,
-    ) -> Result<(), AllocError>
+    ) -> Result<(), RunFault>
         requires client { client < 4 }
-        requires room { IsWithin (2 ^ 63) self.old }
-        requires settled { self.old.core.settled ≡ true }
+        requires few { self.old.changes < 2 ^ 63 }
+        requires sound { IsSound self.old }
         requires call { HandsNothingIn call }
         ensures text { OnOk result ((limits : Limits) (now : Standing) → Stands limits now self.old
             → text.new.items ≡ text.old.items ++ (called limits now client call now.stock).text) }
         ensures stands { OnOk result ((limits : Limits) (now : Standing) → Stands limits now self.old
             → Stands limits (called limits now client call now.stock).after self.new) }
-        ensures within { (n : ℕ) → IsWithin n self.old → IsWithin (n + 1) self.new }
-        ensures settled { self.new.core.settled ≡ true }
+        ensures count { self.new.changes ≤ self.old.changes + 1 }
+        ensures kept { IsSound self.new }
         ensures limits { self.new.limits ≡ self.old.limits }
+        ensures fault { IfErr result (λ e. e ≡ RunFault.Memory) }
     {
         exact_machines_leave_no_choice();
         steps_keep_machines_exact();
@@ -115,7 +136,7 @@ impl<T: Target> Session<T> {
         answered
     }
 
-    /// Registers the first target of the kind that the stock has.
+    // Registers the first target of the kind that the stock has, and says what that came to.
     fn register(
         &mut self,
         alloc: Global,
@@ -124,17 +145,19 @@ impl<T: Target> Session<T> {
         kind: StockKind,
         name: Text,
         text: &mut Vec<u8>,
-    ) -> Result<(), AllocError>
+    ) -> Result<(), RunFault>
         requires client { client < 4 }
-        requires room { IsWithin (2 ^ 63) self.old }
-        requires settled { self.old.core.settled ≡ true }
+        requires few { self.old.changes < 2 ^ 63 }
+        requires sound { IsSound self.old }
         ensures text { OnOk result ((limits : Limits) (now : Standing) → Stands limits now self.old
-            → text.new.items ≡ text.old.items ++ (registered limits now number client kind name (first_of kind now.stock)).text) }
+            → text.new.items
+            ≡ text.old.items ++ (registered limits now number client kind name (first_of kind now.stock)).text) }
         ensures stands { OnOk result ((limits : Limits) (now : Standing) → Stands limits now self.old
             → Stands limits (registered limits now number client kind name (first_of kind now.stock)).after self.new) }
-        ensures within { (n : ℕ) → IsWithin n self.old → IsWithin (n + 1) self.new }
-        ensures settled { self.new.core.settled ≡ true }
+        ensures count { self.new.changes ≤ self.old.changes + 1 }
+        ensures kept { IsSound self.new }
         ensures limits { self.new.limits ≡ self.old.limits }
+        ensures fault { IfErr result (λ e. e ≡ RunFault.Memory) }
     {
         exact_machines_leave_no_choice();
         steps_keep_machines_exact();
@@ -149,108 +172,89 @@ impl<T: Target> Session<T> {
                     drop(reply);
                     answered
                 }
-                Err((_, _target)) => Err(AllocError),
+                Err((_, _target)) => Err(RunFault::Memory),
             },
         }
     }
 
-    /// Says which comms are open.
+    // Says which comms are open.
     fn infos(
         &mut self,
         alloc: Global,
         client: u8,
         target: Option<&Text>,
         text: &mut Vec<u8>,
-    ) -> Result<(), AllocError>
+    ) -> Result<(), RunFault>
         ensures text { OnOk result (text.new.items ≡ text.old.items
-            ++ out_line (out.InfoReply (infos (machine self.old.core) (option_map (λ t. t.now) target.entry))) (parent.Read client self.old.changes)) }
+            ++ out_line (out.InfoReply (infos (machine self.old.core) (option_map (λ t. t.now) target.entry)))
+            (parent.Read client self.old.changes)) }
         ensures same { self.new ≡ self.old }
+        ensures fault { IfErr result (λ e. e ≡ RunFault.Memory) }
     {
         let comms = self.core.listing(target)?;
-        let front = self.changes;
-        let message = Outgoing::InfoReply { comms };
-        let written = append_out(alloc, &message, &Parent::Read { client, front }, text);
-        drop(message);
-        written
+        append_infos(alloc, client, self.changes, comms, text)?;
+        Ok(())
     }
 
-    /// Says which state a comm has.
-    fn state(&self, alloc: Global, id: &Text, text: &mut Vec<u8>) -> Result<(), AllocError>
-        ensures { OnOk result (text.new.items ≡ text.old.items ++ state_line self.now.changes (state_of (machine self.now.core) id.now)) }
+    // Says which state a comm has.
+    fn state(&self, alloc: Global, id: &Text, text: &mut Vec<u8>) -> Result<(), RunFault>
+        ensures text { OnOk result (text.new.items
+            ≡ text.old.items ++ state_line self.now.changes (state_of (machine self.now.core) id.now)) }
+        ensures fault { IfErr result (λ e. e ≡ RunFault.Memory) }
     {
         let answer = self.core.state(id)?;
         let written = append_state_line(alloc, self.changes, &answer, text);
         drop(answer);
-        written
+        written?;
+        Ok(())
     }
 
-    /// Does what a line asks for, and says what came of it.
-    fn obey(
+    /// Does what a line asks for, and says what came of it. Err: Memory.
+    pub fn execute(
         &mut self,
         alloc: Global,
         number: u64,
         client: u8,
-        asked: Request,
-        text: &mut Vec<u8>,
-    ) -> Result<(), AllocError>
-        requires client { client < 4 }
-        requires room { IsWithin (2 ^ 63) self.old }
-        requires settled { self.old.core.settled ≡ true }
-        requires handless { HandsNothing asked }
-        ensures text { OnOk result ((limits : Limits) (now : Standing) → Stands limits now self.old
-            → text.new.items ≡ text.old.items ++ (obeyed limits now number client asked).text) }
-        ensures stands { OnOk result ((limits : Limits) (now : Standing) → Stands limits now self.old
-            → Stands limits (obeyed limits now number client asked).after self.new) }
-        ensures within { (n : ℕ) → IsWithin n self.old → IsWithin (n + 1) self.new }
-        ensures settled { self.new.core.settled ≡ true }
-        ensures limits { self.new.limits ≡ self.old.limits }
-    {
-        match asked {
-            Request::Change(call) => self.change(alloc, client, call, text)?,
-            Request::Register { kind, name } => self.register(
-                alloc, number, client, kind, name, text,
-            )?,
-            Request::Infos { target } => self.infos(alloc, client, target.as_ref(), text)?,
-            Request::State { id } => self.state(alloc, &id, text)?,
-        }
-        Ok(())
-    }
-
-    /// Plays the line of this number.
-    #[tactic(auto, unfolding(crate::specs::Played::turn))]
-    pub fn line(
-        &mut self,
-        alloc: Global,
-        number: u64,
-        line: &[u8],
+        request: Request,
         text: &mut Vec<u8>,
     ) -> Result<(), RunFault>
-        requires fits { AreAllowed self.old.limits }
-        requires room { IsWithin (2 ^ 63) self.old }
-        requires settled { self.old.core.settled ≡ true }
+        requires client { client < 4 }
+        requires few { self.old.changes < 2 ^ 63 }
+        requires sound { IsSound self.old }
+        requires handless { HandsNothing request }
         ensures text { OnOk result ((limits : Limits) (now : Standing) → Stands limits now self.old
-            → text.new.items ≡ text.old.items ++ (turn limits now number line.now).text) }
+            → text.new.items ≡ text.old.items ++ (obeyed limits now number client request).text) }
         ensures stands { OnOk result ((limits : Limits) (now : Standing) → Stands limits now self.old
-            → Stands limits (turn limits now number line.now).after self.new) }
-        ensures within { (n : ℕ) → IsWithin n self.old → IsWithin (n + 1) self.new }
-        ensures settled { self.new.core.settled ≡ true }
+            → Stands limits (obeyed limits now number client request).after self.new) }
+        ensures count { self.new.changes ≤ self.old.changes + 1 }
+        ensures kept { IsSound self.new }
         ensures limits { self.new.limits ≡ self.old.limits }
         ensures fault { IfErr result (λ e. e ≡ RunFault.Memory) }
     {
-        if is_blank(line) {
-            return Ok(());
-        }
-        match parse_line(alloc, line, self.limits.clients, &mut self.room) {
-            Ok((client, asked)) => {
-                self.obey(alloc, number, client, asked, text)?;
-                Ok(())
+        match request {
+            Request::Change(call) => self.change(alloc, client, call, text),
+            Request::Register { kind, name } => {
+                self.register(alloc, number, client, kind, name, text)
             }
-            Err(LineFault::Message(MessageFault::Memory)) => Err(RunFault::Memory),
-            Err(LineFault::Value(ValueFault::Memory)) => Err(RunFault::Memory),
-            Err(fault) => {
-                append_bad(number, fault, text)?;
-                Ok(())
-            }
+            Request::Infos { target } => self.infos(alloc, client, target.as_ref(), text),
+            Request::State { id } => self.state(alloc, &id, text),
         }
     }
+}
+
+impl<T: Target> Backend for Session<T> {
+    ghost use Rattle.std.proofs.Common.{ap, refl, sym, ◌∙◌};
+
+    ghost is_sound = { λ clients s. IsSound s × (s.limits.clients ≡ clients) };
+
+    ghost stands = { λ limits now s. Stands limits now s };
+
+    ghost follows = { λ old new. new.limits ≡ old.limits };
+
+    ghost change_count = { λ s. s.changes };
+
+    ghost follows_itself = { λ s. refl };
+
+    ghost has_clients = { λ clients limits now s sound stands.
+        ap (λ (l : Limits). l.clients) (sym stands.same) ∙ sound.1 };
 }

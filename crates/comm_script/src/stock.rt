@@ -1,4 +1,5 @@
-ghost use Rattle.std.specs.Prelude.{◌≡◌, ◌<◌, ◌++◌, [], ◌∷◌, true, IfSome, IfNone, IfErr, OnOk, OnErr, OnSome, map, option_map};
+ghost use Rattle.std.specs.Prelude.{◌≡◌, ◌<◌, ◌++◌, [], ◌∷◌, true, IfSome, IfNone, IfErr, OnOk, OnErr, OnSome, map};
+ghost use Rattle.std.specs.Prelude.{option_map};
 ghost use Rattle.comm_targets.specs.Meaning.{Meaning, IsIdle};
 ghost use Rattle.comm_core.specs.Tables.{registered_of};
 ghost use Rattle.comm_script.specs.Stock.{has_kind, first_of, rest_of, shelved, AreIdle, IsPlace, IsWithout};
@@ -7,12 +8,16 @@ use comm_targets::{Kind, Target};
 use std::alloc::AllocFailed;
 use std::marker::Model;
 
-/// A kind of target that a script can register.
+/// A kind of target that a script can register, by the word of its `kind`.
 #[derive(Clone, Copy, Debug, PartialEq, Eq, Drop)]
 pub enum StockKind {
+    /// `echo`
     Echo,
+    /// `counter`
     Counter,
+    /// `widget`
     Widget,
+    /// `widget_echo`
     WidgetEcho,
 }
 
@@ -53,12 +58,16 @@ impl<T: Target> Model for Stock<T> {
 
     ghost Value = { Shelf };
 
-    ghost view = { λ s. record { targets = shelved (map T.means s.targets.items); room = vec_capacity s.targets - vec_len s.targets } };
+    ghost view = { λ s. record {
+      targets = shelved (map T.means s.targets.items);
+      room = vec_capacity s.targets - vec_len s.targets;
+    } };
 
     ghost invariant = { λ s. AreIdle (map T.means s.targets.items) };
 }
 
 impl<T: Target> Stock<T> {
+    /// The stock of these targets, to be taken in their order.
     pub fn new(targets: Vec<T>) -> Stock<T>
         requires { AreIdle (map T.means targets.items) }
         ensures { result.targets ≡ shelved (map T.means targets.items) }
@@ -66,7 +75,7 @@ impl<T: Target> Stock<T> {
         Stock { targets }
     }
 
-    /// The first target of the kind, and there is room to put it back.
+    /// Takes out the first target of the kind, so that there is room to put it back; None where none is left.
     pub fn take(&mut self, kind: StockKind) -> Option<T>
         ensures taken { option_map (λ t. registered_of (T.means t)) result ≡ first_of kind self.old.targets }
         ensures targets { self.new.targets ≡ rest_of kind self.old.targets }
@@ -79,7 +88,7 @@ impl<T: Target> Stock<T> {
         }
     }
 
-    /// Puts a target at the end.
+    /// Puts a target at the end. It takes no memory.
     pub fn put_back(&mut self, target: T)
         requires idle { IsIdle (T.means target) }
         requires room { 0 < self.old.room }
@@ -90,7 +99,7 @@ impl<T: Target> Stock<T> {
 }
 
 /// Puts an idle target at the end of a stock. Err: memory; the stock stays as it was, and the target comes back.
-pub fn add<T: Target>(stock: &mut Vec<T>, target: T) -> Result<(), AllocFailed<T>>
+pub fn push_target<T: Target>(stock: &mut Vec<T>, target: T) -> Result<(), AllocFailed<T>>
     requires { IsIdle (T.means target) }
     ensures added { OnOk result (stock.new.items ≡ stock.old.items ++ target ∷ []) }
     ensures idle { AreIdle (map T.means stock.old.items) → OnOk result (AreIdle (map T.means stock.new.items)) }
@@ -98,4 +107,34 @@ pub fn add<T: Target>(stock: &mut Vec<T>, target: T) -> Result<(), AllocFailed<T
     ensures back { IfErr result (λ refused. refused.value ≡ target) }
 {
     stock.push(target)
+}
+
+/// Two boxed targets of each kind, in the order of the words `echo`, `counter`, `widget` and `widget_echo`: the stock
+/// of a program.
+///
+/// It stands in a function whose error an `AllocError` and an `AllocFailed` convert into, in a file that imports
+/// `Counter`, `Echo`, `Target` and `WidgetTarget`. A function that returned the boxes would hide which targets they
+/// have.
+#[macro_export]
+macro_rules! boxed_stock {
+    ($alloc:expr) => {{
+        let mut stock = Vec::new($alloc);
+        let echo: Box<dyn Target> = Box::new($alloc, Echo::new($alloc))?;
+        $crate::push_target(&mut stock, echo)?;
+        let other_echo: Box<dyn Target> = Box::new($alloc, Echo::new($alloc))?;
+        $crate::push_target(&mut stock, other_echo)?;
+        let counter: Box<dyn Target> = Box::new($alloc, Counter::new($alloc))?;
+        $crate::push_target(&mut stock, counter)?;
+        let other_counter: Box<dyn Target> = Box::new($alloc, Counter::new($alloc))?;
+        $crate::push_target(&mut stock, other_counter)?;
+        let widget: Box<dyn Target> = Box::new($alloc, WidgetTarget::new($alloc))?;
+        $crate::push_target(&mut stock, widget)?;
+        let other_widget: Box<dyn Target> = Box::new($alloc, WidgetTarget::new($alloc))?;
+        $crate::push_target(&mut stock, other_widget)?;
+        let echoing: Box<dyn Target> = Box::new($alloc, WidgetTarget::with_echo($alloc))?;
+        $crate::push_target(&mut stock, echoing)?;
+        let other_echoing: Box<dyn Target> = Box::new($alloc, WidgetTarget::with_echo($alloc))?;
+        $crate::push_target(&mut stock, other_echoing)?;
+        stock
+    }};
 }

@@ -1,51 +1,58 @@
-ghost use Rattle.std.specs.Prelude.{◌≡◌, ◌+◌, ◌^◌, ◌<◌, ◌≤◌, ◌++◌, ◌≢◌, ℕ, List, [], OnOk, IfErr, IfSome, length, true, false};
-ghost use Rattle.std.specs.Io.KnownBytes.{Appends, Keeps};
+//! A script that comes in chunks, played over any backend.
+ghost use Rattle.std.specs.Prelude.{◌≡◌, ◌+◌, ◌^◌, ◌<◌, ◌≤◌, ◌++◌, ◌≢◌, ℕ, List, [], OnOk, IfErr, IfSome, IsErrOf};
+ghost use Rattle.std.specs.Prelude.{length, false};
+ghost use Rattle.std.specs.Io.KnownBytes.{Appends};
 ghost use Rattle.comm_core.specs.declared.limits.Limits.{Limits};
-ghost use Rattle.comm_core.specs.Limits.{AreAllowed};
 ghost use Rattle.comm_core.specs.Machine.{Registered};
 ghost use Rattle.comm_script.specs.Lines.{has_line_feed};
-ghost use Rattle.comm_script.specs.Played.{played, Begins};
-ghost use Rattle.comm_script.specs.Session.{IsWithin, Says, Cuts};
+ghost use Rattle.comm_script.specs.Played.{played, Begins, Stops, Pauses};
+ghost use Rattle.comm_script.specs.Player.{Says, Cuts, Executes, IsBackendFault};
 
+use crate::asked::Request;
+use crate::backend::Backend;
 use crate::fault::RunFault;
 use crate::lines::split_line;
-use crate::session::Session;
-use comm_targets::Target;
+use crate::player::play_line;
+use comm_json::ParseArena;
 use std::alloc::Global;
-use std::io::{ErrorKind, Write};
+use std::io::{ErrorKind, Read, Write};
 
-/// How many bytes are read at a time, at most.
-pub const PIECE: usize = 65_536;
+/// How many bytes of a script are read at a time, at most.
+const CHUNK: usize = 65_536;
 
-/// Plays the lines that end in a piece of the script. What follows them is pending.
-pub fn play_piece<T: Target>(
-    session: &mut Session<T>,
+// Plays the lines that end in a chunk of the script. What follows them is pending.
+fn play_chunk<B: Backend, F: Fn(&mut B, u64, u8, Request, &mut Vec<u8>) -> Result<(), RunFault>>(
+    backend: &mut B,
+    execute: &F,
     alloc: Global,
+    clients: u8,
+    room: &mut ParseArena,
     number: &mut u64,
     pending: &mut Vec<u8>,
-    piece: &[u8],
+    chunk: &[u8],
     text: &mut Vec<u8>,
 ) -> Result<(), RunFault>
-    requires fits { AreAllowed session.old.limits }
-    requires settled { session.old.core.settled ≡ true }
-    requires within { IsWithin number.old session.old }
-    requires room { number.old + length piece.now < 2 ^ 62 }
-    requires small { length piece.now ≤ PIECE }
+    requires some { 0 < clients }
+    requires sound { B.is_sound clients backend.old }
+    requires executes { Executes F.Fn execute.now B.stands (B.is_sound clients) B.follows B.change_count clients }
+    requires within { B.change_count backend.old ≤ number.old }
+    requires few { number.old + length chunk.now < 2 ^ 62 }
+    requires small { length chunk.now ≤ CHUNK }
     requires one_line { has_line_feed pending.old.items ≡ false }
-    ensures says { OnOk result (Cuts session.old number.old pending.old.items piece.now text.old.items session.new number.new pending.new.items text.new.items) }
-    ensures room { OnOk result (number.new ≤ number.old + PIECE) }
-    ensures within { OnOk result (IsWithin number.new session.new) }
-    ensures fits { OnOk result (AreAllowed session.new.limits) }
-    ensures settled { session.new.core.settled ≡ true }
+    ensures says { OnOk result (Cuts B.stands backend.old number.old pending.old.items chunk.now text.old.items
+        backend.new number.new pending.new.items text.new.items) }
+    ensures few { OnOk result (number.new ≤ number.old + CHUNK) }
+    ensures within { OnOk result (B.change_count backend.new ≤ number.new) }
+    ensures kept { B.is_sound clients backend.new }
     ensures one_line { OnOk result (has_line_feed pending.new.items ≡ false) }
-    ensures fault { IfErr result (λ e. e ≡ RunFault.Memory) }
+    ensures fault { IfErr result IsBackendFault }
 {
-    let mut rest = piece;
+    let mut rest = chunk;
     let mut n = *number;
     while let Some((line, more)) = split_line(rest) {
         pending.extend_from_slice(line)?;
         n += 1;
-        session.line(alloc, n, pending, text)?;
+        play_line(backend, execute, alloc, clients, n, pending, room, text)?;
         pending.clear();
         rest = more;
     }
@@ -54,33 +61,126 @@ pub fn play_piece<T: Target>(
     Ok(())
 }
 
-/// Plays what no line feed ended, as the last line.
-pub fn play_last<T: Target>(
-    session: &mut Session<T>,
+// Plays what no line feed ended, as the last line.
+fn play_last<B: Backend, F: Fn(&mut B, u64, u8, Request, &mut Vec<u8>) -> Result<(), RunFault>>(
+    backend: &mut B,
+    execute: &F,
     alloc: Global,
+    clients: u8,
+    room: &mut ParseArena,
     number: u64,
     pending: &[u8],
     text: &mut Vec<u8>,
 ) -> Result<(), RunFault>
-    requires fits { AreAllowed session.old.limits }
-    requires settled { session.old.core.settled ≡ true }
-    requires within { IsWithin number session.old }
-    requires room { number < 2 ^ 62 }
+    requires some { 0 < clients }
+    requires sound { B.is_sound clients backend.old }
+    requires executes { Executes F.Fn execute.now B.stands (B.is_sound clients) B.follows B.change_count clients }
+    requires within { B.change_count backend.old ≤ number }
+    requires few { number < 2 ^ 62 }
     requires one_line { has_line_feed pending.now ≡ false }
     ensures says { OnOk result ((limits : Limits) (stock : List Registered) (input written : List ℕ)
-        → Says limits stock input session.old number pending.now (written ++ text.old.items) → written ++ text.new.items ≡ played limits stock input) }
-    ensures settled { session.new.core.settled ≡ true }
-    ensures fault { IfErr result (λ e. e ≡ RunFault.Memory) }
+        → Says B.stands limits stock input backend.old number pending.now (written ++ text.old.items)
+        → written ++ text.new.items ≡ played limits stock input) }
+    ensures kept { B.is_sound clients backend.new }
+    ensures fault { IfErr result IsBackendFault }
 {
     if pending.is_empty() {
         return Ok(());
     }
-    session.line(alloc, number + 1, pending, text)?;
+    play_line(
+        backend,
+        execute,
+        alloc,
+        clients,
+        number + 1,
+        pending,
+        room,
+        text,
+    )?;
     Ok(())
 }
 
-/// Writes what is said, and forgets it.
-pub fn send<W: Write>(writer: &mut W, text: &mut Vec<u8>) -> Result<(), RunFault>
+/// Plays the script that the reader has, each line as it ends, over a backend that has played nothing, and writes
+/// what is said to it.
+///
+/// What the lines of a chunk of 64 KiB say is written before the next chunk is read. A reader that was called
+/// 4,294,967,295 times without ending gives Read, and so does one that fails; a call that was interrupted is made
+/// again.
+pub fn play_script<
+    B: Backend,
+    F: Fn(&mut B, u64, u8, Request, &mut Vec<u8>) -> Result<(), RunFault>,
+    R: Read,
+    W: Write,
+>(
+    backend: &mut B,
+    execute: &F,
+    alloc: Global,
+    clients: u8,
+    reader: &mut R,
+    writer: &mut W,
+) -> Result<(), RunFault>
+    requires some { 0 < clients }
+    requires sound { B.is_sound clients backend.old }
+    requires executes { Executes F.Fn execute.now B.stands (B.is_sound clients) B.follows B.change_count clients }
+    requires fresh { B.change_count backend.old ≡ 0 }
+    ensures played { OnOk result ((limits : Limits) (stock : List Registered)
+        → B.stands limits (record { history = []; stock = stock }) backend.old
+        → IfSome (R.remaining reader.old) (λ input.
+        Appends (W.contents writer.old) (W.contents writer.new) (played limits stock input))) }
+    ensures begun { (limits : Limits) (stock : List Registered)
+        → B.stands limits (record { history = []; stock = stock }) backend.old
+        → IfSome (R.remaining reader.old) (λ input.
+        Begins (W.contents writer.old) (W.contents writer.new) (played limits stock input)) }
+    ensures read { IsErrOf result RunFault.Read → (limits : Limits) (stock : List Registered)
+        → B.stands limits (record { history = []; stock = stock }) backend.old
+        → IfSome (R.remaining reader.old) (λ input.
+        Stops limits stock input (R.remaining reader.new) (W.contents writer.old) (W.contents writer.new)) }
+    ensures memory { IsErrOf result RunFault.Memory → (limits : Limits) (stock : List Registered)
+        → B.stands limits (record { history = []; stock = stock }) backend.old
+        → IfSome (R.remaining reader.old) (λ input.
+        Pauses limits stock input (R.remaining reader.new) (W.contents writer.old) (W.contents writer.new)) }
+    ensures kept { B.is_sound clients backend.new }
+    ensures fault { IfErr result (λ e. e ≢ RunFault.BadLimits) }
+{
+    let mut room = ParseArena::new(alloc);
+    let mut number = 0u64;
+    let mut pending = Vec::new(alloc);
+    let mut text = Vec::new(alloc);
+    let mut chunk = [0u8; CHUNK];
+    for _ in 0..u32::MAX {
+        match reader.read(&mut chunk) {
+            Ok(0) => {
+                play_last(
+                    backend, execute, alloc, clients, &mut room, number, &pending, &mut text,
+                )?;
+                write_all_and_flush(writer, &mut text)?;
+                return Ok(());
+            }
+            Ok(n) => {
+                play_chunk(
+                    backend,
+                    execute,
+                    alloc,
+                    clients,
+                    &mut room,
+                    &mut number,
+                    &mut pending,
+                    &chunk[..n],
+                    &mut text,
+                )?;
+                write_all_and_flush(writer, &mut text)?;
+            }
+            Err(e) => if e.kind() != ErrorKind::Interrupted {
+                return Err(RunFault::Read);
+            },
+        }
+    }
+    Err(RunFault::Read)
+}
+
+/// Writes the whole text, flushes the writer, and empties the text. Nothing is done where the text is empty. Err is
+/// Write: then the writer took a beginning of the text.
+pub fn write_all_and_flush<W: Write>(writer: &mut W, text: &mut Vec<u8>) -> Result<(), RunFault>
     ensures sent { OnOk result (Appends (W.contents writer.old) (W.contents writer.new) text.old.items) }
     ensures begun { Begins (W.contents writer.old) (W.contents writer.new) text.old.items }
     ensures empty { OnOk result (text.new.items ≡ []) }

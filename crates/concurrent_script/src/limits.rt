@@ -4,6 +4,7 @@ use comm_core::Limits;
 /// How many clients there are.
 pub const CLIENTS: u8 = 4;
 
+/// The limits of the manager.
 pub const LIMITS: Limits = Limits {
     clients: CLIENTS,
     comms: 4096,

@@ -1,216 +1,185 @@
 //! A client's lines, played by its own thread.
 ghost use Rattle.comm_script.specs.Command.{HandsNothing};
 
-use crate::account::Account;
-use crate::desk::Desk;
 use crate::limits::CLIENTS;
-use crate::reading::{heard, said_of};
-use crate::script::{Line, Part};
+use crate::reading::heard;
+use crate::script::{ClientScript, ScriptLine};
+use crate::shared_state::SharedState;
+use crate::transcript::Transcript;
 use comm_core::Unavailable;
 use comm_json::ParseArena;
 use comm_manager::{Answered, Client, Manager, ManagerId, Stamp};
-use comm_messages::{Outgoing, Parent};
 use comm_script::{
-    LineFault, Request, RunFault, StockKind, append_bad, append_out, append_reply,
-    append_state_line, parse_line,
+    LineFault, Request, RunFault, StockKind, append_bad, append_fault, append_reply, parse_line,
 };
 use comm_targets::Target;
 use comm_value::Text;
-use shared_script::{Full, append_full, from_stock, full_of, run_fault};
-use std::alloc::Global;
+use shared_script::{
+    Full, append_full, append_infos_seen, append_state_seen, full_of, register_from_stock,
+};
 use std::sync::Wait;
 use std::thread::yield_now;
 
-// What came of a line.
+// What came of a request.
 #[derive(Clone, Copy, PartialEq, Eq)]
-enum Then {
+enum Attempt {
     Done,
     // A change was answered.
     Changed,
     // Too many entries wait to be taken, and nothing was changed or said.
-    Again,
+    Retry,
 }
 
-// Says what a client's change came to, and lays its stamp out.
-fn tell<M: ManagerId, T: Target, R: Wait>(
+// Says what a client's change came to, and shows its stamp to the others.
+fn conclude<M: ManagerId, T: Target, R: Wait>(
     rt: &R,
-    desk: &Desk<M, T>,
+    shared: &SharedState<M, T>,
     client: u8,
     line: u64,
     made: Result<Answered<M>, Unavailable<Stamp<M>>>,
     said: &mut Vec<u8>,
-) -> Result<Then, RunFault> {
+) -> Result<Attempt, RunFault> {
     let full = match made {
         Ok(answered) => {
-            let written = append_reply(desk.alloc, answered.number, &answered.reply, said);
-            desk.lay_out(rt, client, answered.stamp);
+            let written = append_reply(shared.alloc, answered.number, &answered.reply, said);
+            shared.publish_stamp(rt, client, answered.stamp);
             return match written {
-                Ok(()) => Ok(Then::Changed),
+                Ok(()) => Ok(Attempt::Changed),
                 Err(_) => Err(RunFault::Memory),
             };
         }
         Err(why) => full_of(&why),
     };
     if full == Some(Full::Outbox) {
-        return Ok(Then::Again);
+        return Ok(Attempt::Retry);
     }
     append_full(line, full, said)?;
-    Ok(Then::Done)
+    Ok(Attempt::Done)
 }
 
+// Registers the first target of the kind that the stock has, if it has one.
 fn register<M: ManagerId, T: Target, R: Wait>(
     rt: &R,
     manager: &Manager<M, T>,
-    desk: &Desk<M, T>,
+    shared: &SharedState<M, T>,
     client: &mut Client<M>,
     line: u64,
     kind: StockKind,
     name: Text,
     said: &mut Vec<u8>,
-) -> Result<Then, RunFault> {
-    match from_stock(rt, manager, client, &mut *desk.stock.lock(rt), kind, name) {
-        Some(made) => tell(rt, desk, client.id(), line, made, said),
+) -> Result<Attempt, RunFault> {
+    match register_from_stock(rt, manager, client, &mut *shared.stock.lock(rt), kind, name) {
+        Some(made) => conclude(rt, shared, client.id(), line, made, said),
         None => {
             append_bad(line, LineFault::NoStock, said)?;
-            Ok(Then::Done)
+            Ok(Attempt::Done)
         }
-    }
-}
-
-// Says which comms are open.
-fn infos<M: ManagerId>(
-    alloc: Global,
-    client: &mut Client<M>,
-    target: Option<&Text>,
-    said: &mut Vec<u8>,
-) -> Result<Then, RunFault> {
-    match client.comm_info(alloc, target) {
-        Ok(read) => {
-            let parent = Parent::Read {
-                client: client.id(),
-                front: read.front,
-            };
-            let message = Outgoing::InfoReply { comms: read.comms };
-            append_out(alloc, &message, &parent, said)?;
-            Ok(Then::Done)
-        }
-        Err(fault) => Err(run_fault(fault)),
-    }
-}
-
-// Says which state a comm has.
-fn state<M: ManagerId>(
-    alloc: Global,
-    client: &mut Client<M>,
-    id: &Text,
-    said: &mut Vec<u8>,
-) -> Result<Then, RunFault> {
-    match client.state(id) {
-        Ok(read) => {
-            append_state_line(alloc, read.front, &read.answer, said)?;
-            Ok(Then::Done)
-        }
-        Err(fault) => Err(run_fault(fault)),
     }
 }
 
 // Does what a line asks for, if it can be done now.
-fn obey<M: ManagerId, T: Target, R: Wait>(
+fn try_execute<M: ManagerId, T: Target, R: Wait>(
     rt: &R,
     manager: &Manager<M, T>,
-    desk: &Desk<M, T>,
+    shared: &SharedState<M, T>,
     client: &mut Client<M>,
     line: u64,
-    asked: &Request,
+    request: &Request,
     said: &mut Vec<u8>,
-) -> Result<Then, RunFault>
-    requires { HandsNothing asked.now }
+) -> Result<Attempt, RunFault>
+    requires { HandsNothing request.now }
 {
-    match asked {
+    match request {
         Request::Change(call) => {
-            let call = call.copy(desk.alloc)?;
+            let call = call.copy(shared.alloc)?;
             let made = client.ask(rt, manager, call);
-            tell(rt, desk, client.id(), line, made, said)
+            conclude(rt, shared, client.id(), line, made, said)
         }
         Request::Register { kind, name } => {
             let name = name.copy()?;
-            register(rt, manager, desk, client, line, *kind, name, said)
+            register(rt, manager, shared, client, line, *kind, name, said)
         }
-        Request::Infos { target } => infos(desk.alloc, client, target.as_ref(), said),
-        Request::State { id } => state(desk.alloc, client, id, said),
+        Request::Infos { target } => {
+            append_infos_seen(shared.alloc, client, target.as_ref(), said)?;
+            Ok(Attempt::Done)
+        }
+        Request::State { id } => {
+            append_state_seen(shared.alloc, client, id, said)?;
+            Ok(Attempt::Done)
+        }
     }
 }
 
 // Does what a line asks for, as soon as not too many entries wait to be taken. Tells whether a change was answered.
-fn insist<M: ManagerId, T: Target, R: Wait>(
+fn retry<M: ManagerId, T: Target, R: Wait>(
     rt: &R,
     manager: &Manager<M, T>,
-    desk: &Desk<M, T>,
+    shared: &SharedState<M, T>,
     client: &mut Client<M>,
     line: u64,
-    asked: &Request,
+    request: &Request,
     said: &mut Vec<u8>,
 ) -> Result<bool, RunFault>
-    requires { HandsNothing asked.now }
+    requires { HandsNothing request.now }
 {
     for _ in rt.forever() {
-        match obey(rt, manager, desk, client, line, asked, said)? {
-            Then::Done => return Ok(false),
-            Then::Changed => return Ok(true),
-            Then::Again => yield_now(),
+        match try_execute(rt, manager, shared, client, line, request, said)? {
+            Attempt::Done => return Ok(false),
+            Attempt::Changed => return Ok(true),
+            Attempt::Retry => yield_now(),
         }
     }
     unreachable!()
 }
 
-// Answers a line, and tells how many entries the client had seen when it asked, what it heard for this line counted; and whether a change
-// was answered.
+// Answers a line, and tells how many entries the client had seen when it asked, what it heard for this line counted; and
+// whether a change was answered.
 fn answer<M: ManagerId, T: Target, R: Wait>(
     rt: &R,
     manager: &Manager<M, T>,
-    desk: &Desk<M, T>,
+    shared: &SharedState<M, T>,
     client: &mut Client<M>,
-    line: &Line,
+    line: &ScriptLine,
     room: &mut ParseArena,
     said: &mut Vec<u8>,
 ) -> Result<(u64, bool), RunFault> {
     let other = heard(&line.text, room)?;
-    match parse_line(desk.alloc, &line.text, CLIENTS, room) {
-        Ok((_client, asked)) => {
-            desk.hear(rt, client, other);
+    match parse_line(shared.alloc, &line.text, CLIENTS, room) {
+        Ok((_client, request)) => {
+            shared.hear(rt, client, other);
             let before = client.seen();
-            let changed = insist(rt, manager, desk, client, line.number, &asked, said);
-            drop(asked);
+            let changed = retry(rt, manager, shared, client, line.number, &request, said);
+            drop(request);
             Ok((before, changed?))
         }
         Err(fault) => {
-            append_bad(line.number, said_of(fault)?, said)?;
+            append_fault(line.number, fault, said)?;
             Ok((client.seen(), false))
         }
     }
 }
 
-// Plays a line, and notes what was said to it.
+// Plays a line, and notes what it was answered.
 fn play<M: ManagerId, T: Target, R: Wait>(
     rt: &R,
     manager: &Manager<M, T>,
-    desk: &Desk<M, T>,
+    shared: &SharedState<M, T>,
     client: &mut Client<M>,
-    line: &Line,
+    line: &ScriptLine,
     room: &mut ParseArena,
-    account: &mut Account,
+    transcript: &mut Transcript,
 ) -> Result<(), RunFault> {
-    let mut said = Vec::new(desk.alloc);
-    let (before, changed) = answer(rt, manager, desk, client, line, room, &mut said)?;
-    account.note(
-        desk.alloc,
+    let mut said = Vec::new(shared.alloc);
+    let (before, changed) = answer(rt, manager, shared, client, line, room, &mut said)?;
+    transcript.note(
+        shared.alloc,
         line.number,
         client.id(),
         (before, client.seen()),
         &said,
     )?;
     if changed {
-        account.changes.push(line.number)?;
+        transcript.changes.push(line.number)?;
     }
     Ok(())
 }
@@ -219,29 +188,30 @@ fn play<M: ManagerId, T: Target, R: Wait>(
 fn play_all<M: ManagerId, T: Target, R: Wait>(
     rt: &R,
     manager: &Manager<M, T>,
-    desk: &Desk<M, T>,
+    shared: &SharedState<M, T>,
     client: &mut Client<M>,
-    lines: &[Line],
-    account: &mut Account,
+    lines: &[ScriptLine],
+    transcript: &mut Transcript,
 ) -> Result<(), RunFault> {
-    let mut room = ParseArena::new(desk.alloc);
+    let mut room = ParseArena::new(shared.alloc);
     for line in lines {
-        play(rt, manager, desk, client, line, &mut room, account)?;
+        play(rt, manager, shared, client, line, &mut room, transcript)?;
         yield_now();
     }
     Ok(())
 }
 
-/// What a client's thread does.
+/// What a client's thread does: it plays its lines as soon as all threads have come, and notes in its transcript what came of
+/// them.
 pub(crate) fn played<M: ManagerId, T: Target, R: Wait>(
     rt: &R,
     manager: &Manager<M, T>,
-    desk: &Desk<M, T>,
+    shared: &SharedState<M, T>,
     client: &mut Client<M>,
-    part: &Part,
+    script: &ClientScript,
 ) {
-    let mut account = part.account.lock(rt);
-    let account = &mut *account;
-    desk.begin();
-    account.played = play_all(rt, manager, desk, client, &part.lines, account);
+    let mut transcript = script.transcript.lock(rt);
+    let transcript = &mut *transcript;
+    shared.begin();
+    transcript.played = play_all(rt, manager, shared, client, &script.lines, transcript);
 }

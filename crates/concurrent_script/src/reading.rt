@@ -1,18 +1,8 @@
-//! What a line says.
+//! What a line says beside what it asks for.
 use crate::limits::CLIENTS;
 use comm_json::{JsonKind, ParseArena};
 use comm_messages::{MessageFault, client_of, fields_of, member, object_in};
-use comm_script::{LineFault, RunFault};
-use comm_value::ValueFault;
-
-/// What is said of a line that can't be read. Want of memory ends the script.
-pub(crate) fn said_of(fault: LineFault) -> Result<LineFault, RunFault> {
-    match fault {
-        LineFault::Message(MessageFault::Memory) => Err(RunFault::Memory),
-        LineFault::Value(ValueFault::Memory) => Err(RunFault::Memory),
-        fault => Ok(fault),
-    }
-}
+use comm_script::RunFault;
 
 /// The client that a line names by its key `hear`. What isn't the number of a client names none.
 pub(crate) fn heard(text: &[u8], room: &mut ParseArena) -> Result<Option<u8>, RunFault> {

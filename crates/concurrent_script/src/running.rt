@@ -3,16 +3,16 @@ ghost use Rattle.std.specs.Prelude.{map};
 ghost use Rattle.comm_manager.specs.Names.{Named};
 ghost use Rattle.comm_script.specs.Stock.{AreIdle};
 
-use crate::account::Account;
-use crate::desk::Desk;
 use crate::limits::{CLIENTS, LIMITS};
-use crate::script::{Part, Script, script_of};
+use crate::script::{ClientScript, Script, read_script};
+use crate::shared_state::SharedState;
 use crate::threads::play_at_once;
-use crate::words::{append_history, append_taken};
+use crate::transcript::Transcript;
+use crate::wording::{append_history, append_taken};
 use client_threads::{Ended, shut_down};
 use comm_core::NewFault;
 use comm_manager::{Cause, Client, Manager, ManagerBuilder, ManagerId, OpeningFault, Publisher};
-use comm_script::{RunFault, send};
+use comm_script::{RunFault, write_all_and_flush};
 use comm_targets::Target;
 use std::alloc::Global;
 use std::io::{Read, Write};
@@ -20,15 +20,15 @@ use std::marker::Brand;
 use std::sync::Wait;
 use std::thread::Threads;
 
-// What is told of all clients' lines, where all were played.
-fn accounts_of(alloc: Global, parts: Vec<Part>) -> Result<Vec<Account>, RunFault> {
-    let mut accounts = Vec::new(alloc);
+// What came of all clients' lines, where all were played.
+fn transcripts_of(alloc: Global, parts: Vec<ClientScript>) -> Result<Vec<Transcript>, RunFault> {
+    let mut transcripts = Vec::new(alloc);
     for part in parts {
-        let account = part.account.into_inner();
-        account.played?;
-        accounts.push(account)?;
+        let transcript = part.transcript.into_inner();
+        transcript.played?;
+        transcripts.push(transcript)?;
     }
-    Ok(accounts)
+    Ok(transcripts)
 }
 
 // Lets all threads play.
@@ -40,38 +40,39 @@ fn played<M: ManagerId + Send + Sync, T: Target, R: Threads + Wait + Sync>(
     publisher: &mut Publisher<M>,
     script: Script,
     stock: Vec<T>,
-) -> Result<Vec<Account>, RunFault>
+) -> Result<Vec<Transcript>, RunFault>
     requires idle { AreIdle (map T.means stock.items) }
 {
     let parts = script.into_parts();
-    let desk = Desk::new(alloc, stock, CLIENTS)?;
-    play_at_once(rt, manager, &desk, &parts, publisher, clients);
-    drop(desk);
-    accounts_of(alloc, parts)
+    let shared = SharedState::new(alloc, stock, CLIENTS)?;
+    play_at_once(rt, manager, &shared, &parts, publisher, clients);
+    drop(shared);
+    transcripts_of(alloc, parts)
 }
 
-// All that anybody saw.
-fn told(
+// The lines of all that anybody saw.
+fn report(
     alloc: Global,
-    accounts: Result<Vec<Account>, RunFault>,
+    transcripts: Result<Vec<Transcript>, RunFault>,
     ended: Result<Ended, Cause>,
 ) -> Result<Vec<u8>, RunFault> {
-    let accounts = accounts?;
+    let transcripts = transcripts?;
     let Ended { farewell, taken } = match ended {
         Ok(ended) => ended,
         Err(Cause::Memory) => return Err(RunFault::Memory),
         Err(Cause::MissingClients) => return Err(RunFault::NoReader),
     };
     let mut text = Vec::new(alloc);
-    for account in &accounts {
-        text.extend_from_slice(&account.text)?;
+    for transcript in &transcripts {
+        text.extend_from_slice(&transcript.text)?;
     }
-    append_history(alloc, &farewell.history, &accounts, &mut text)?;
+    append_history(alloc, &farewell.history, &transcripts, &mut text)?;
     append_taken(alloc, taken, farewell.untaken.len(), &mut text)?;
     Ok(text)
 }
 
-fn opened<M: ManagerId + Send + Sync, T: Target, R: Threads + Wait + Sync>(
+// Lets all threads play over a manager that goes by these names, and tells what anybody saw.
+fn run_threads<M: ManagerId + Send + Sync, T: Target, R: Threads + Wait + Sync>(
     rt: &R,
     alloc: Global,
     builder: ManagerBuilder,
@@ -85,16 +86,20 @@ fn opened<M: ManagerId + Send + Sync, T: Target, R: Threads + Wait + Sync>(
         Ok((manager, clients, publisher)) => {
             let (mut clients, mut publisher) = (clients, publisher);
             let seats = clients.as_mut_slice();
-            let accounts = played(rt, alloc, &manager, seats, &mut publisher, script, stock);
-            told(alloc, accounts, shut_down(rt, manager, clients, publisher))
+            let transcripts = played(rt, alloc, &manager, seats, &mut publisher, script, stock);
+            report(
+                alloc,
+                transcripts,
+                shut_down(rt, manager, clients, publisher),
+            )
         }
         Err(OpeningFault::Memory) => Err(RunFault::Memory),
         Err(OpeningFault::NoReader) => Err(RunFault::NoReader),
     }
 }
 
-/// Plays the script that the reader has with these targets in stock, and writes what anybody saw. After a fault nothing was written, or, where
-/// the writer fails, a beginning.
+/// Plays the script that the reader has with these targets in stock, and writes what anybody saw. After a fault
+/// nothing was written, or, where the writer fails, a beginning.
 pub(crate) fn run<I: Read, O: Write, T: Target, R: Threads + Wait + Sync>(
     rt: &R,
     alloc: Global,
@@ -104,12 +109,12 @@ pub(crate) fn run<I: Read, O: Write, T: Target, R: Threads + Wait + Sync>(
 ) -> Result<(), RunFault>
     requires idle { AreIdle (map T.means stock.items) }
 {
-    let script = script_of(alloc, reader)?;
+    let script = read_script(alloc, reader)?;
     let builder = match ManagerBuilder::new(alloc, LIMITS) {
         Ok(builder) => builder,
         Err(NewFault::BadLimits) => return Err(RunFault::BadLimits),
         Err(NewFault::Memory) => return Err(RunFault::Memory),
     };
-    let mut text = opened::<Brand, T, R>(rt, alloc, builder, script, stock)?;
-    send(writer, &mut text)
+    let mut text = run_threads::<Brand, T, R>(rt, alloc, builder, script, stock)?;
+    write_all_and_flush(writer, &mut text)
 }

@@ -1,7 +1,6 @@
 //! A script, taken apart by clients.
-use crate::account::Account;
 use crate::limits::CLIENTS;
-use crate::reading::said_of;
+use crate::transcript::Transcript;
 use comm_json::ParseArena;
 use comm_script::{RunFault, is_blank, parse_line, split_line};
 use std::alloc::{AllocError, Global};
@@ -10,16 +9,16 @@ use std::sync::Mutex;
 
 /// A line that isn't blank, by its number in the script, from 1.
 #[derive(Drop)]
-pub struct Line {
+pub struct ScriptLine {
     pub number: u64,
     pub text: Vec<u8>,
 }
 
-/// A client's lines, and what is told of them by the thread that plays them.
+/// A client's lines, and what came of them, which the thread that plays them notes.
 #[derive(Drop)]
-pub struct Part {
-    pub lines: Vec<Line>,
-    pub account: Mutex<Account>,
+pub struct ClientScript {
+    pub lines: Vec<ScriptLine>,
+    pub transcript: Mutex<Transcript>,
 }
 
 /// Each client's lines, in their order.
@@ -28,16 +27,16 @@ pub struct Script {
     alloc: Global,
     room: ParseArena,
     count: u64,
-    parts: Vec<Part>,
+    parts: Vec<ClientScript>,
 }
 
 impl Script {
     fn new(alloc: Global) -> Result<Script, AllocError> {
         let mut parts = Vec::new(alloc);
         for _ in 0..CLIENTS {
-            parts.push(Part {
+            parts.push(ClientScript {
                 lines: Vec::new(alloc),
-                account: Mutex::new(Account::new(alloc)),
+                transcript: Mutex::new(Transcript::new(alloc)),
             })?;
         }
         Ok(Script {
@@ -48,30 +47,28 @@ impl Script {
         })
     }
 
-    // Whose a line is. One that can't be read is client 0's.
-    fn whose(&mut self, text: &[u8]) -> Result<u8, RunFault> {
+    // The client of a line. One that can't be read is client 0's.
+    fn client_of_line(&mut self, text: &[u8]) -> Result<u8, RunFault> {
         match parse_line(self.alloc, text, CLIENTS, &mut self.room) {
             Ok((client, _asked)) => Ok(client),
-            Err(fault) => {
-                said_of(fault)?;
-                Ok(0)
-            }
+            Err(fault) if fault.is_memory() => Err(RunFault::Memory),
+            Err(_) => Ok(0),
         }
     }
 
     // The next line; a blank one is only counted.
-    fn add(&mut self, text: &[u8]) -> Result<(), RunFault> {
+    fn push_line(&mut self, text: &[u8]) -> Result<(), RunFault> {
         self.count = self.count.saturating_add(1);
         if is_blank(text) {
             return Ok(());
         }
-        let client = self.whose(text)?;
+        let client = self.client_of_line(text)?;
         let mut copy = Vec::new(self.alloc);
         copy.extend_from_slice(text)?;
         let Some(part) = self.parts.get_mut(usize::from(client)) else {
             return Err(RunFault::NoReader);
         };
-        part.lines.push(Line {
+        part.lines.push(ScriptLine {
             number: self.count,
             text: copy,
         })?;
@@ -79,26 +76,26 @@ impl Script {
     }
 
     // The lines of a text.
-    fn add_all(&mut self, text: &[u8]) -> Result<(), RunFault> {
+    fn push_lines(&mut self, text: &[u8]) -> Result<(), RunFault> {
         let mut rest = text;
         while let Some((line, more)) = split_line(rest) {
-            self.add(line)?;
+            self.push_line(line)?;
             rest = more;
         }
         if !rest.is_empty() {
-            self.add(rest)?;
+            self.push_line(rest)?;
         }
         Ok(())
     }
 
-    /// The clients' parts, in the order of their numbers.
-    pub(crate) fn into_parts(self) -> Vec<Part> {
+    /// The clients' lines, in the order of their numbers.
+    pub(crate) fn into_parts(self) -> Vec<ClientScript> {
         self.parts
     }
 }
 
 // All that the reader has.
-fn whole<I: Read>(alloc: Global, reader: &mut I) -> Result<Vec<u8>, RunFault> {
+fn read_whole<I: Read>(alloc: Global, reader: &mut I) -> Result<Vec<u8>, RunFault> {
     let mut text = Vec::new(alloc);
     match reader.read_to_end(&mut text) {
         Ok(_) => Ok(text),
@@ -109,10 +106,10 @@ fn whole<I: Read>(alloc: Global, reader: &mut I) -> Result<Vec<u8>, RunFault> {
     }
 }
 
-/// The script that the reader has.
-pub(crate) fn script_of<I: Read>(alloc: Global, reader: &mut I) -> Result<Script, RunFault> {
-    let text = whole(alloc, reader)?;
+/// Reads the whole script. Err: Read where the reader fails, or Memory.
+pub(crate) fn read_script<I: Read>(alloc: Global, reader: &mut I) -> Result<Script, RunFault> {
+    let text = read_whole(alloc, reader)?;
     let mut script = Script::new(alloc)?;
-    script.add_all(&text)?;
+    script.push_lines(&text)?;
     Ok(script)
 }

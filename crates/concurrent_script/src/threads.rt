@@ -1,7 +1,7 @@
 //! All clients at work at once.
-use crate::desk::Desk;
 use crate::player::played;
-use crate::script::Part;
+use crate::script::ClientScript;
+use crate::shared_state::SharedState;
 use client_threads::at_work;
 use comm_manager::{Client, Manager, ManagerId, Publisher};
 use comm_targets::Target;
@@ -12,13 +12,13 @@ use std::thread::Threads;
 fn played_at<M: ManagerId, T: Target, R: Wait>(
     rt: &R,
     manager: &Manager<M, T>,
-    desk: &Desk<M, T>,
-    parts: &[Part],
+    shared: &SharedState<M, T>,
+    parts: &[ClientScript],
     place: usize,
     client: &mut Client<M>,
 ) {
     if let Some(part) = parts.get(place) {
-        played(rt, manager, desk, client, part);
+        played(rt, manager, shared, client, part);
     }
 }
 
@@ -26,15 +26,15 @@ fn played_at<M: ManagerId, T: Target, R: Wait>(
 pub(crate) fn play_at_once<M: ManagerId + Send + Sync, T: Target, R: Threads + Wait + Sync>(
     rt: &R,
     manager: &Manager<M, T>,
-    desk: &Desk<M, T>,
-    parts: &[Part],
+    shared: &SharedState<M, T>,
+    parts: &[ClientScript],
     publisher: &mut Publisher<M>,
     clients: &mut [Client<M>],
 ) {
     at_work(
         rt,
         publisher,
-        &|place, client| played_at(rt, manager, desk, parts, place, client),
+        &|place, client| played_at(rt, manager, shared, parts, place, client),
         clients,
     );
 }

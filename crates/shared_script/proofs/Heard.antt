@@ -3,12 +3,8 @@ use Rattle.std.proofs.Common.{◌≡◌, List, sym, subst}
 use Rattle.std.specs.Prelude.{Option, Some, None, Result, Ok, Err, IfOk, MatchResult}
 use mathlib.Core.List.{IsPrefix}
 use Rattle.comm_core.specs.declared.entry.Entry.{Entry}
-use Rattle.comm_versions.proofs.Fronts.{prefix_self, prefix_trans}
-use Rattle.shared_script.specs.Heard.{HasHeard, IsLater}
-
-later_self : (last : Option (List Entry)) → IsLater last last
-later_self None = tt
-later_self (Some last) = prefix_self last
+use Rattle.comm_versions.proofs.Fronts.{prefix_trans}
+use Rattle.shared_script.specs.Heard.{HasHeard, IsLater, later_self}
 
 later_front : (last : Option (List Entry)) (seen front : List Entry) → HasHeard last seen → IsPrefix seen front → IsLater last (Some front)
 later_front None seen front h p = tt

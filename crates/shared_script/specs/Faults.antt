@@ -7,8 +7,8 @@ use Rattle.comm_script.specs.declared.fault.RunFault.TheVariants as run
 use Rattle.comm_versions.specs.declared.reads.ReadFault.{ReadFault}
 use Rattle.comm_versions.specs.declared.reads.ReadFault.TheVariants as read
 use Rattle.shared_script.specs.Words.{unavailable_line}
-use Rattle.shared_script.specs.declared.words.Full.{Full}
-use Rattle.shared_script.specs.declared.words.Full.TheVariants as full
+use Rattle.shared_script.specs.declared.wording.Full.{Full}
+use Rattle.shared_script.specs.declared.wording.Full.TheVariants as full
 
 -- what has no room for the change; none for want of memory
 abbrev pub full_of : {S : Type 0} → Unavailable S → Option Full

@@ -1,5 +1,6 @@
 -- That the client of a line has heard of the last change.
-use Rattle.std.specs.Prelude.{List, Option, Some, None}
+use Rattle.std.specs.Prelude.{List, [], Option, Some, None}
+use Rattle.std.proofs.Common.{append-nil}
 use mathlib.Core.List.{IsPrefix}
 use Rattle.comm_core.specs.declared.entry.Entry.{Entry}
 
@@ -13,3 +14,8 @@ abbrev pub IsLater : (old new : Option (List Entry)) → Type 0
 IsLater None new = Unit {0}
 IsLater (Some old) None = ⊥
 IsLater (Some old) (Some new) = IsPrefix old new
+
+-- no front is before itself
+pub later_self : (last : Option (List Entry)) → IsLater last last
+later_self None = tt
+later_self (Some last) = ([], append-nil last)

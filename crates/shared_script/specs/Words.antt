@@ -4,8 +4,8 @@ use Rattle.comm_messages.specs.declared.outgoing.Parent.TheVariants as parent
 use Rattle.comm_core.specs.declared.entry.Entry.{Entry}
 use Rattle.comm_core.specs.declared.entry.Entry.TheVariants.{Change, End}
 use Rattle.comm_script.specs.Words.{numbered, reply_line, out_lines}
-use Rattle.shared_script.specs.declared.words.Full.{Full}
-use Rattle.shared_script.specs.declared.words.Full.TheVariants as full
+use Rattle.shared_script.specs.declared.wording.Full.{Full}
+use Rattle.shared_script.specs.declared.wording.Full.TheVariants as full
 
 abbrev pub full_words : Full → List ℕ
 full_words full.History = codes "history_full"

@@ -35,26 +35,26 @@ with_stock r left before now stock is h = subst (λ (s : List Registered). OnOk 
 pub returns-in-OneThread-clause-one_thread : goal.returns-in-OneThread-clause-one_thread
 returns-in-OneThread-clause-one_thread g c =
     λ one. with_stock c.run_with.result (g.R.Read.remaining c.args.reader.now) (g.W.Write.contents c.args.writer.now) _ _
-    (one_more _ _ _ _ _ WidgetEcho c.in_ok-add-8.ensures.added
+    (one_more _ _ _ _ _ WidgetEcho c.in_ok-push_target-8.ensures.added
     (read_made own.own-1 _ own.at-1-3 refl Registered (λ j v. registered_of (j.1.means v)) c.into_dyn_box-in_ok-new-8.result.vtable c.into_dyn_box-in_ok-new-8.result.value _ c.into_dyn_box-in_ok-new-8.ensures.1
     ∙ rw c.in_ok-new-8.ensures.ok (ap registered_of c.with_echo-2.ensures))
-    (one_more _ _ _ _ _ WidgetEcho c.in_ok-add-7.ensures.added
+    (one_more _ _ _ _ _ WidgetEcho c.in_ok-push_target-7.ensures.added
     (read_made own.own-1 _ own.at-1-3 refl Registered (λ j v. registered_of (j.1.means v)) c.into_dyn_box-in_ok-new-7.result.vtable c.into_dyn_box-in_ok-new-7.result.value _ c.into_dyn_box-in_ok-new-7.ensures.1
     ∙ rw c.in_ok-new-7.ensures.ok (ap registered_of c.with_echo.ensures))
-    (one_more _ _ _ _ _ Widget c.in_ok-add-6.ensures.added
+    (one_more _ _ _ _ _ Widget c.in_ok-push_target-6.ensures.added
     (read_made own.own-1 _ own.at-1-3 refl Registered (λ j v. registered_of (j.1.means v)) c.into_dyn_box-in_ok-new-6.result.vtable c.into_dyn_box-in_ok-new-6.result.value _ c.into_dyn_box-in_ok-new-6.ensures.1
     ∙ rw c.in_ok-new-6.ensures.ok (ap registered_of c.new-11.ensures))
-    (one_more _ _ _ _ _ Widget c.in_ok-add-5.ensures.added
+    (one_more _ _ _ _ _ Widget c.in_ok-push_target-5.ensures.added
     (read_made own.own-1 _ own.at-1-3 refl Registered (λ j v. registered_of (j.1.means v)) c.into_dyn_box-in_ok-new-5.result.vtable c.into_dyn_box-in_ok-new-5.result.value _ c.into_dyn_box-in_ok-new-5.ensures.1
     ∙ rw c.in_ok-new-5.ensures.ok (ap registered_of c.new-9.ensures))
-    (one_more _ _ _ _ _ Counter c.in_ok-add-4.ensures.added
+    (one_more _ _ _ _ _ Counter c.in_ok-push_target-4.ensures.added
     (read_made own.own-1 _ own.at-1-2 refl Registered (λ j v. registered_of (j.1.means v)) c.into_dyn_box-in_ok-new-4.result.vtable c.into_dyn_box-in_ok-new-4.result.value _ c.into_dyn_box-in_ok-new-4.ensures.1
     ∙ rw c.in_ok-new-4.ensures.ok (ap registered_of c.new-7.ensures))
-    (one_more _ _ _ _ _ Counter c.in_ok-add-3.ensures.added
+    (one_more _ _ _ _ _ Counter c.in_ok-push_target-3.ensures.added
     (read_made own.own-1 _ own.at-1-2 refl Registered (λ j v. registered_of (j.1.means v)) c.into_dyn_box-in_ok-new-3.result.vtable c.into_dyn_box-in_ok-new-3.result.value _ c.into_dyn_box-in_ok-new-3.ensures.1
     ∙ rw c.in_ok-new-3.ensures.ok (ap registered_of c.new-5.ensures))
-    (one_more _ _ _ _ _ Echo c.in_ok-add-2.ensures.added
+    (one_more _ _ _ _ _ Echo c.in_ok-push_target-2.ensures.added
     (read_made own.own-1 _ own.at-1-1 refl Registered (λ j v. registered_of (j.1.means v)) c.into_dyn_box-in_ok-new-2.result.vtable c.into_dyn_box-in_ok-new-2.result.value _ c.into_dyn_box-in_ok-new-2.ensures.1)
-    (one_more _ _ _ _ _ Echo c.in_ok-add.ensures.added
+    (one_more _ _ _ _ _ Echo c.in_ok-push_target.ensures.added
     (read_made own.own-1 _ own.at-1-1 refl Registered (λ j v. registered_of (j.1.means v)) c.into_dyn_box.result.vtable c.into_dyn_box.result.value _ c.into_dyn_box.ensures.1)
     (none_yet _ _ c.new-stock.ensures.items))))))))) c.run_with.ensures.played

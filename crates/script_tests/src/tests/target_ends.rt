@@ -4,7 +4,7 @@ ghost use Rattle.comm_script.specs.Stock.{AreIdle};
 
 use super::harness::{ScriptRun, expect_answers, expect_result, run_script};
 use super::injected_faults::{FaultPlan, InjectedFault, each_fault, plan_of};
-use comm_script::{RunFault, add};
+use comm_script::{RunFault, push_target};
 use comm_targets::{Answer, Echo, Event, Kind, Target, TargetFault};
 use comm_value::Dict;
 use std::alloc::Global;
@@ -76,7 +76,7 @@ pub fn counted_stock(alloc: Global, ends: &Arc<AtomicU64>) -> Result<Vec<Box<dyn
 {
     let mut stock = Vec::new(alloc);
     let target: Box<dyn Target> = Box::new(alloc, EndCounter::new(alloc, Arc::try_clone(ends)?))?;
-    add(&mut stock, target)?;
+    push_target(&mut stock, target)?;
     Ok(stock)
 }
 

@@ -3,7 +3,7 @@ use denote.Param.Send.{sendable}
 use Rattle.comm_script.proofs.stock.Stock.TheSendSync as Stock
 use Rattle.comm_versions.proofs.stamp.Stamp.TheSendSync as Stamp
 use Rattle.comm_manager.proofs.Crossing.{manager_sync, client_send}
-use Rattle.concurrent_script.proofs.Crossing.{part_sync}
+use Rattle.concurrent_script.proofs.Crossing.{client_script_sync}
 use Rattle.concurrent_script.proofs.threads.play_at_once.Goals as goal
 
 pub at_work-requires-send-C : goal.at_work-requires-send-C
@@ -18,4 +18,4 @@ at_work-requires-sync-W g c κs within =
     let k = c.type_bounds.sync-M in
     let t = c.type_bounds.send-T in
     let m = manager_sync _ g.M.ManagerId g.M.History j k _ g.T.Target t in
-    search (sendable, crosses, part_sync, Stamp.the_send, Stock.the_send) depth 60
+    search (sendable, crosses, client_script_sync, Stamp.the_send, Stock.the_send) depth 60

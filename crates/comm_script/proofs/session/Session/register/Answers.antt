@@ -16,7 +16,7 @@ use Rattle.comm_script.proofs.session.Session.register.Goals as goal
 pub returns-in_ok-append_bad-in-None-clause-stands : goal.returns-in_ok-append_bad-in-None-clause-stands
 returns-in_ok-append_bad-in-None-clause-stands g c = λ limits now stands.
     let none : first_of c.args.kind now.stock ≡ None = ap (first_of c.args.kind) (sym stands.stock) ∙ sym c.in-None.ensures.taken in
-    let kept : Session g.row.T.Denot = record { limits = c.args.self.now.limits; core = c.args.self.now.core; stock = c.take.new.self; changes = c.args.self.now.changes; made = c.args.self.now.made; room = c.args.self.now.room } in
+    let kept : Session g.row.T.Denot = record { limits = c.args.self.now.limits; core = c.args.self.now.core; stock = c.take.new.self; changes = c.args.self.now.changes; made = c.args.self.now.made } in
     subst (λ (t : Turn). Stands limits t.after kept)
     (sym (ap (registered limits now c.args.number c.args.client c.args.kind c.args.name) none))
     (record {

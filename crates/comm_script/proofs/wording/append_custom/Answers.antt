@@ -1,0 +1,16 @@
+use Rattle.std.proofs.Common.{[], ◌∷◌, true, false}
+use Rattle.std.specs.Prelude.{codes}
+use Rattle.json.specs.Print.{quoted}
+use Rattle.serde_json.specs.Data.{member, no_members}
+use Rattle.serde_json.specs.Written.{items_text, members_text}
+use Rattle.comm_value.specs.ToJson.{json_of}
+use Rattle.comm_value.specs.View.{tree}
+use Rattle.comm_messages.specs.Text.{buffer_texts}
+use Rattle.comm_script.proofs.Joining.{signed_list}
+use Rattle.comm_script.proofs.wording.append_custom.Goals as goal
+
+pub returns : goal.returns
+returns c =
+    signed_list (123 ∷ []) (quoted (codes "buffers")) (items_text false (buffer_texts c.args.custom.now.buffers)) (members_text true (member (codes "content") (json_of (tree c.args.custom.now.content)) no_members))
+    c.args.out.now.items c.append.new.out.items c.append_key.new.out.items c.append-2.new.out.items c.append_buffers.new.out.items c.append_last.new.out.items c.in_ok-append.ensures c.in_ok-append_key.ensures
+    c.in_ok-append-2.ensures c.in_ok-append_buffers.ensures.is c.in_ok-append_last.ensures

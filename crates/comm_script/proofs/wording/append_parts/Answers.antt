@@ -1,0 +1,17 @@
+use Rattle.std.proofs.Common.{true}
+use Rattle.std.specs.Prelude.{codes}
+use Rattle.json.specs.Print.{quoted}
+use Rattle.serde_json.specs.Data.{array, member, no_members}
+use Rattle.serde_json.specs.Written.{compact_text, members_text}
+use Rattle.comm_value.specs.ToJson.{json_of}
+use Rattle.comm_value.specs.View.{tree}
+use Rattle.comm_value.specs.Paths.{paths_tree}
+use Rattle.comm_messages.specs.Text.{buffer_texts}
+use Rattle.comm_script.proofs.Joining.{first_keyed}
+use Rattle.comm_script.proofs.wording.append_parts.Goals as goal
+
+pub returns : goal.returns
+returns c =
+    first_keyed (quoted (codes "buffer_paths")) (compact_text (json_of (paths_tree c.args.paths.now)))
+    (members_text true (member (codes "buffers") (array (buffer_texts c.args.buffers.now)) (member (codes "state") (json_of (tree c.args.plain.now)) no_members))) c.args.out.now.items
+    c.append_paths.new.out.items c.append_state_rest.new.out.items c.in_ok-append_paths.ensures c.in_ok-append_state_rest.ensures

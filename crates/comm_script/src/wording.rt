@@ -1,0 +1,416 @@
+//! The lines that are written (`docs/FORMATS.md`).
+ghost use Rattle.std.specs.Prelude.{◌≡◌, ◌++◌, ◌∷◌, [], true, OnOk, codes, decimal};
+ghost use Rattle.json.specs.Print.{quoted};
+ghost use Rattle.serde_json.specs.Data.{array, object, member, no_members};
+ghost use Rattle.serde_json.specs.Written.{compact_text, members_text};
+ghost use Rattle.comm_value.specs.ToJson.{json_of};
+ghost use Rattle.comm_value.specs.View.{tree};
+ghost use Rattle.comm_value.specs.Paths.{paths_tree};
+ghost use Rattle.comm_messages.specs.Text.{texts, buffer_texts};
+ghost use Rattle.comm_messages.specs.declared.outgoing.Outgoing.TheVariants as outgoing;
+ghost use Rattle.comm_messages.specs.declared.outgoing.Parent.TheVariants as parent;
+ghost use Rattle.comm_script.specs.Words.{target_words, field_words, message_words, value_words, key_words};
+ghost use Rattle.comm_script.specs.Words.{fault_words, custom_json, refusal_words, delivered_words, reply_words};
+ghost use Rattle.comm_script.specs.Words.{state_json, state_words, reply_line, bad_line, state_line, out_line};
+ghost use Rattle.comm_script.specs.Words.{out_lines};
+
+use crate::asked::{Key, LineFault};
+use comm_core::{Ids, Refusal, Reply, StateAnswer};
+use comm_messages::{Field, Infos, MessageFault, Outgoing, Parent, append_buffers, append_message};
+use comm_targets::{Custom, TargetFault};
+use comm_value::{
+    Buffers, Dict, Path, Separated, Text, Val, ValueFault, paths_val, separate, write_text,
+};
+use std::alloc::{AllocError, Global};
+
+/// Appends these bytes. Err: memory; this is true of each function here, and a part may have been appended then.
+pub fn append(words: &[u8], out: &mut Vec<u8>) -> Result<(), AllocError>
+    ensures { OnOk result (out.new.items ≡ out.old.items ++ words.now) }
+{
+    out.extend_from_slice(words)
+}
+
+/// Appends a number in decimal.
+pub fn append_number(number: u64, out: &mut Vec<u8>) -> Result<(), AllocError>
+    ensures { OnOk result (out.new.items ≡ out.old.items ++ decimal number) }
+{
+    let mut digits = itoa::Buffer::new();
+    out.extend_from_slice(digits.format(number).as_bytes())
+}
+
+/// Appends these bytes and a number in decimal.
+pub fn append_counted(words: &[u8], number: u64, out: &mut Vec<u8>) -> Result<(), AllocError>
+    ensures { OnOk result (out.new.items ≡ out.old.items ++ (words.now ++ decimal number)) }
+{
+    append(words, out)?;
+    append_number(number, out)?;
+    Ok(())
+}
+
+// ---- faults
+
+fn append_target_words(fault: TargetFault, out: &mut Vec<u8>) -> Result<(), AllocError>
+    ensures { OnOk result (out.new.items ≡ out.old.items ++ target_words fault) }
+{
+    match fault {
+        TargetFault::WrongVersion => append(b"wrong_version", out),
+        TargetFault::NoState => append(b"no_state", out),
+        TargetFault::BadState => append(b"bad_state", out),
+        TargetFault::BadPath(n) => append_counted(b"bad_path ", n as u64, out),
+        TargetFault::BufferMissing(n) => append_counted(b"buffer_missing ", n as u64, out),
+        TargetFault::NoMethod => append(b"no_method", out),
+        TargetFault::UnknownMethod => append(b"unknown_method", out),
+        TargetFault::Other(code) => append_counted(b"other ", code as u64, out),
+        TargetFault::Memory => Ok(()),
+    }
+}
+
+fn field_words(field: Field) -> &'static str
+    ensures { result.now ≡ field_words field }
+{
+    match field {
+        Field::Content => "content",
+        Field::CommId => "comm_id",
+        Field::TargetName => "target_name",
+        Field::Body => "data",
+        Field::Metadata => "metadata",
+        Field::Buffers => "buffers",
+    }
+}
+
+fn append_message_words(fault: MessageFault, out: &mut Vec<u8>) -> Result<(), AllocError>
+    ensures { OnOk result (out.new.items ≡ out.old.items ++ message_words fault) }
+{
+    match fault {
+        MessageFault::NotJson => append(b"not_json", out),
+        MessageFault::NoType => append(b"no_type", out),
+        MessageFault::UnknownType => append(b"unknown_type", out),
+        MessageFault::BadContent(field) => append_named(b"bad_content ", field_words(field), out),
+        MessageFault::NotWhole => append(b"not_whole", out),
+        MessageFault::BadBuffer(n) => append_counted(b"bad_buffer ", n as u64, out),
+        MessageFault::BadClient => append(b"bad_client", out),
+        MessageFault::Memory => Ok(()),
+    }
+}
+
+fn append_named(words: &[u8], name: &str, out: &mut Vec<u8>) -> Result<(), AllocError>
+    ensures { OnOk result (out.new.items ≡ out.old.items ++ (words.now ++ name.now)) }
+{
+    append(words, out)?;
+    append(name.as_bytes(), out)?;
+    Ok(())
+}
+
+fn append_value_words(fault: ValueFault, out: &mut Vec<u8>) -> Result<(), AllocError>
+    ensures { OnOk result (out.new.items ≡ out.old.items ++ value_words fault) }
+{
+    match fault {
+        ValueFault::NotWhole => append(b"not_whole", out),
+        ValueFault::BadPath(n) => append_counted(b"bad_path ", n as u64, out),
+        ValueFault::BufferMissing(n) => append_counted(b"buffer_missing ", n as u64, out),
+        ValueFault::Memory => Ok(()),
+    }
+}
+
+fn key_words(key: Key) -> &'static str
+    ensures { result.now ≡ key_words key }
+{
+    match key {
+        Key::Kind => "kind",
+        Key::Name => "name",
+        Key::Uuid => "uuid",
+        Key::State => "state",
+        Key::Id => "id",
+        Key::Data => "data",
+        Key::Buffers => "buffers",
+    }
+}
+
+fn append_fault_words(fault: LineFault, out: &mut Vec<u8>) -> Result<(), AllocError>
+    ensures { OnOk result (out.new.items ≡ out.old.items ++ fault_words fault) }
+{
+    match fault {
+        LineFault::Message(fault) => append_message_words(fault, out),
+        LineFault::UnknownCall => append(b"unknown_call", out),
+        LineFault::BadField(key) => append_named(b"bad_field ", key_words(key), out),
+        LineFault::Value(fault) => append_value_words(fault, out),
+        LineFault::BadUuid => append(b"bad_uuid", out),
+        LineFault::NoStock => append(b"no_stock", out),
+    }
+}
+
+// ---- replies
+
+fn append_refusal_words(why: &Refusal, out: &mut Vec<u8>) -> Result<(), AllocError>
+    ensures { OnOk result (out.new.items ≡ out.old.items ++ refusal_words why.now) }
+{
+    match why {
+        Refusal::NoTarget => append(b"no_target", out),
+        Refusal::TooManyComms => append(b"too_many_comms", out),
+        Refusal::Fault(fault) => append_target_words(*fault, out),
+    }
+}
+
+// The key of a member, with its colon.
+fn append_key(key: &str, out: &mut Vec<u8>) -> Result<(), AllocError>
+    ensures { OnOk result (out.new.items ≡ out.old.items ++ (quoted key.now ++ 58 ∷ [])) }
+{
+    write_text(key, out)?;
+    append(b":", out)?;
+    Ok(())
+}
+
+// An object's opening bracket, and its first member.
+fn append_first(key: &str, value: &Val, out: &mut Vec<u8>) -> Result<(), AllocError>
+    ensures { OnOk result (out.new.items ≡ out.old.items
+        ++ (123 ∷ ((quoted key.now ++ 58 ∷ []) ++ compact_text (json_of (tree value.now))))) }
+{
+    append(b"{", out)?;
+    append_key(key, out)?;
+    value.write_json(out)?;
+    Ok(())
+}
+
+// The last member of an object, its text handed in, and the closing bracket.
+fn append_last(key: &str, value: &Val, out: &mut Vec<u8>) -> Result<(), AllocError>
+    ensures { OnOk result (out.new.items ≡ out.old.items
+        ++ members_text true (member key.now (json_of (tree value.now)) no_members)) }
+{
+    append(b",", out)?;
+    append_key(key, out)?;
+    value.write_json(out)?;
+    append(b"}", out)?;
+    Ok(())
+}
+
+fn append_custom(alloc: Global, custom: &Custom, out: &mut Vec<u8>) -> Result<(), AllocError>
+    ensures { OnOk result (out.new.items ≡ out.old.items ++ compact_text (custom_json custom.now)) }
+{
+    append(b"{", out)?;
+    append_key("buffers", out)?;
+    append(b"[", out)?;
+    append_buffers(alloc, &custom.buffers, out)?;
+    append_last("content", &custom.content, out)?;
+    Ok(())
+}
+
+fn append_ids(ids: &[Text], out: &mut Vec<u8>) -> Result<(), AllocError>
+    ensures { OnOk result (out.new.items ≡ out.old.items ++ compact_text (array (texts ids.now))) }
+{
+    append(b"[", out)?;
+    let mut later = false;
+    for id in ids {
+        if later {
+            out.push(b',')?;
+        }
+        write_text(id.as_str(), out)?;
+        later = true;
+    }
+    append(b"]", out)?;
+    Ok(())
+}
+
+fn append_reply_words(alloc: Global, reply: &Reply, out: &mut Vec<u8>) -> Result<(), AllocError>
+    ensures { OnOk result (out.new.items ≡ out.old.items ++ reply_words reply.now) }
+{
+    match reply {
+        Reply::Registered => append(b"registered", out),
+        Reply::Replaced(ids) => {
+            append(b"replaced ", out)?;
+            append_ids(ids.as_slice(), out)?;
+            Ok(())
+        }
+        Reply::Opened => append(b"opened", out),
+        Reply::IdInUse => append(b"id_in_use", out),
+        Reply::OpenRefused(why) => {
+            append(b"refused ", out)?;
+            append_refusal_words(why, out)?;
+            Ok(())
+        }
+        Reply::Delivered(None) => append(b"delivered", out),
+        Reply::Delivered(Some(custom)) => {
+            append(b"custom ", out)?;
+            append_custom(alloc, custom, out)?;
+            Ok(())
+        }
+        Reply::Fault(fault) => {
+            append(b"fault ", out)?;
+            append_target_words(*fault, out)?;
+            Ok(())
+        }
+        Reply::NoComm => append(b"no_comm", out),
+        Reply::Closed => append(b"closed", out),
+        Reply::Unregistered(ids) => {
+            append(b"unregistered ", out)?;
+            append_ids(ids.as_slice(), out)?;
+            Ok(())
+        }
+        Reply::NoTarget => append(b"no_target", out),
+        Reply::Launched => append(b"launched", out),
+        Reply::NotWidget => append(b"not_widget", out),
+    }
+}
+
+fn append_state(alloc: Global, state: &Dict, out: &mut Vec<u8>) -> Result<(), AllocError>
+    ensures { OnOk result (out.new.items ≡ out.old.items ++ compact_text (state_json state.now)) }
+{
+    let Separated {
+        plain,
+        paths,
+        buffers,
+    } = separate(alloc, state)?;
+    let plain = Val::Dict(plain);
+    let written = append_parts(alloc, &plain, &paths, &buffers, out);
+    drop(plain);
+    written
+}
+
+fn append_parts(
+    alloc: Global,
+    plain: &Val,
+    paths: &[Path],
+    buffers: &Buffers,
+    out: &mut Vec<u8>,
+) -> Result<(), AllocError>
+    ensures { OnOk result (out.new.items ≡ out.old.items
+        ++ compact_text (object (member (codes "buffer_paths") (json_of (paths_tree paths.now))
+        (member (codes "buffers") (array (buffer_texts buffers.now))
+        (member (codes "state") (json_of (tree plain.now)) no_members))))) }
+{
+    append_paths(alloc, paths, out)?;
+    append_state_rest(alloc, plain, buffers, out)?;
+    Ok(())
+}
+
+fn append_paths(alloc: Global, paths: &[Path], out: &mut Vec<u8>) -> Result<(), AllocError>
+    ensures { OnOk result (out.new.items ≡ out.old.items
+        ++ (123 ∷ ((quoted (codes "buffer_paths") ++ 58 ∷ []) ++ compact_text (json_of (paths_tree paths.now))))) }
+{
+    let paths = paths_val(alloc, paths)?;
+    let written = append_first("buffer_paths", &paths, out);
+    drop(paths);
+    written
+}
+
+fn append_state_rest(
+    alloc: Global,
+    plain: &Val,
+    buffers: &Buffers,
+    out: &mut Vec<u8>,
+) -> Result<(), AllocError>
+    ensures { OnOk result (out.new.items ≡ out.old.items
+        ++ members_text true (member (codes "buffers") (array (buffer_texts buffers.now))
+        (member (codes "state") (json_of (tree plain.now)) no_members))) }
+{
+    append(b",", out)?;
+    append_key("buffers", out)?;
+    append(b"[", out)?;
+    append_buffers(alloc, buffers, out)?;
+    append_last("state", plain, out)?;
+    Ok(())
+}
+
+fn append_state_words(
+    alloc: Global,
+    answer: &StateAnswer,
+    out: &mut Vec<u8>,
+) -> Result<(), AllocError>
+    ensures { OnOk result (out.new.items ≡ out.old.items ++ state_words answer.now) }
+{
+    match answer {
+        StateAnswer::NoComm => append(b"no_comm", out),
+        StateAnswer::NoState => append(b"no_state", out),
+        StateAnswer::State(state) => append_state(alloc, state, out),
+    }
+}
+
+// ---- lines
+
+/// Appends the line of a change's reply, by its number among all changes, from 1.
+pub fn append_reply(
+    alloc: Global,
+    number: u64,
+    reply: &Reply,
+    out: &mut Vec<u8>,
+) -> Result<(), AllocError>
+    ensures { OnOk result (out.new.items ≡ out.old.items ++ reply_line number reply.now) }
+{
+    append_counted(b"reply ", number, out)?;
+    append(b" ", out)?;
+    append_reply_words(alloc, reply, out)?;
+    append(b"\n", out)?;
+    Ok(())
+}
+
+/// Appends the line that says why a line of the script can't be read, by its number, from 1.
+pub fn append_bad(number: u64, fault: LineFault, out: &mut Vec<u8>) -> Result<(), AllocError>
+    ensures { OnOk result (out.new.items ≡ out.old.items ++ bad_line number fault) }
+{
+    append_counted(b"bad ", number, out)?;
+    append(b" ", out)?;
+    append_fault_words(fault, out)?;
+    append(b"\n", out)?;
+    Ok(())
+}
+
+/// Appends the line of a comm's state, by the number of changes that it was read after.
+pub fn append_state_line(
+    alloc: Global,
+    front: u64,
+    answer: &StateAnswer,
+    out: &mut Vec<u8>,
+) -> Result<(), AllocError>
+    ensures { OnOk result (out.new.items ≡ out.old.items ++ state_line front answer.now) }
+{
+    append_counted(b"state ", front, out)?;
+    append(b" ", out)?;
+    append_state_words(alloc, answer, out)?;
+    append(b"\n", out)?;
+    Ok(())
+}
+
+/// Appends the line of a message that goes out.
+pub fn append_out(
+    alloc: Global,
+    message: &Outgoing,
+    parent: &Parent,
+    out: &mut Vec<u8>,
+) -> Result<(), AllocError>
+    ensures { OnOk result (out.new.items ≡ out.old.items ++ out_line message.now parent.now) }
+{
+    append(b"out ", out)?;
+    append_message(alloc, message, parent, out)?;
+    append(b"\n", out)?;
+    Ok(())
+}
+
+/// Appends the line of the open comms that a client reads after so many changes.
+pub fn append_infos(
+    alloc: Global,
+    client: u8,
+    front: u64,
+    comms: Infos,
+    out: &mut Vec<u8>,
+) -> Result<(), AllocError>
+    ensures { OnOk result (out.new.items ≡ out.old.items ++ out_line (outgoing.InfoReply comms) (parent.Read client front)) }
+{
+    let message = Outgoing::InfoReply { comms };
+    let written = append_out(alloc, &message, &Parent::Read { client, front }, out);
+    drop(message);
+    written
+}
+
+/// Appends the lines of messages that go out, in their order.
+pub fn append_outs(
+    alloc: Global,
+    messages: &[Outgoing],
+    parent: &Parent,
+    out: &mut Vec<u8>,
+) -> Result<(), AllocError>
+    ensures { OnOk result (out.new.items ≡ out.old.items ++ out_lines messages.now parent.now) }
+{
+    for message in messages {
+        append_out(alloc, message, parent, out)?;
+    }
+    Ok(())
+}
