@@ -1,4 +1,3 @@
-pub mod Contents
 pub mod Counting
 pub mod Crossing
 pub mod EnoughTargets

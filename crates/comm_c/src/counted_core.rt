@@ -16,7 +16,7 @@ ghost use Rattle.comm_c.specs.declared.call_result.CallResult.TheVariants as cal
 
 use crate::builtin_target::{BuiltinKind, BuiltinTarget};
 use crate::call_result::{CallResult, ChangeMade};
-use comm_core::{Call, Core, Entry, Finished, Outgoings, Ready};
+use comm_core::{Call, Core, Finished, Outgoings, PreparedChange};
 use comm_messages::Parent;
 use comm_script::{append_outs, append_reply};
 use comm_value::Text;
@@ -31,36 +31,26 @@ pub struct CountedCore {
 
 // Appends the text of a prepared change: `change` is its number among all changes, `number` among its
 // client's. Err: memory.
-fn append_ready(
+fn append_prepared(
     alloc: Global,
-    ready: &Ready<BuiltinTarget>,
+    prepared: &PreparedChange<BuiltinTarget>,
     change: u64,
     client: u8,
     number: u64,
     text: &mut Vec<u8>,
 ) -> Result<(), AllocError>
     ensures { OnOk result (text.new.items ≡ text.old.items
-        ++ (reply_line change ready.now.reply
-        ++ out_lines ready.now.outgoing (parent.Call client number))) }
+        ++ (reply_line change prepared.now.reply
+        ++ out_lines prepared.now.outgoing (parent.Call client number))) }
 {
-    let entry = ready.entry(alloc, client, number)?;
-    match &*entry {
-        Entry::Change {
-            reply,
-            outgoing,
-            ..
-        } => {
-            append_reply(alloc, change, reply, text)?;
-            append_outs(
-                alloc,
-                outgoing.as_slice(),
-                &Parent::Call { client, number },
-                text,
-            )?;
-            Ok(())
-        }
-        Entry::End => unreachable!(),
-    }
+    append_reply(alloc, change, prepared.reply(), text)?;
+    append_outs(
+        alloc,
+        prepared.outgoing(),
+        &Parent::Call { client, number },
+        text,
+    )?;
+    Ok(())
 }
 
 impl CountedCore {
@@ -69,21 +59,21 @@ impl CountedCore {
         &mut self,
         alloc: Global,
         client: u8,
-        ready: Ready<BuiltinTarget>,
+        prepared: PreparedChange<BuiltinTarget>,
         text: &mut Vec<u8>,
     ) -> Result<ChangeMade, AllocError>
         requires client { client < 4 }
-        requires ready { IsReady self.old.core ready }
+        requires ready { IsReady self.old.core prepared }
         requires room { HasMadeAtMost (2 ^ 63) self.old }
         requires empty { text.old.items ≡ [] }
         ensures step { OnOk result
-            (step self.old.core.limit (machine self.old.core) ready.call ready.outcome
+            (step self.old.core.limit (machine self.old.core) prepared.call prepared.outcome
             ≡ Some (record {
-              reply = ready.reply;
-              outgoing = ready.outgoing;
+              reply = prepared.reply;
+              outgoing = prepared.outgoing;
               next = machine self.new.core;
             })) }
-        ensures reply { IfOk result (λ m. m.reply ≡ ready.reply) }
+        ensures reply { IfOk result (λ m. m.reply ≡ prepared.reply) }
         ensures shows { IfOk result (λ m. text.new.items ≡ result_text (call_result.Change m)) }
         ensures limit { self.new.core.limit ≡ self.old.core.limit }
         ensures settled { self.new.core.settled ≡ true }
@@ -91,14 +81,14 @@ impl CountedCore {
         ensures made { OnOk result (self.new.made
             ≡ slice_set self.old.made client (slice_index self.old.made client + 1)) }
         ensures text { OnOk result
-            (text.new.items ≡ change_text self.old client ready.reply ready.outgoing) }
+            (text.new.items ≡ change_text self.old client prepared.reply prepared.outgoing) }
         ensures undone { OnErr result (self.new ≡ record self.old { core = undone self.old.core }) }
     {
         let i = client as usize;
         let change = self.changes + 1;
         let number = self.made[i] + 1;
-        if append_ready(alloc, &ready, change, client, number, text).is_err() {
-            let back = self.core.withdraw(ready);
+        if append_prepared(alloc, &prepared, change, client, number, text).is_err() {
+            let back = self.core.abort(prepared);
             drop(back);
             return Err(AllocError);
         }
@@ -106,7 +96,7 @@ impl CountedCore {
             reply,
             outgoing,
             ended,
-        } = self.core.finish(ready);
+        } = self.core.commit(prepared);
         if let Some(held) = ended {
             held.end();
         }
@@ -139,8 +129,8 @@ impl CountedCore {
         ensures settled { self.new.core.settled ≡ true }
         ensures same { OnErr result (self.new ≡ self.old) }
     {
-        let ready = self.core.begin(call)?;
-        let made = self.conclude(alloc, client, ready, text)?;
+        let prepared = self.core.prepare(call)?;
+        let made = self.conclude(alloc, client, prepared, text)?;
         Ok(CallResult::Change(made))
     }
 
@@ -167,7 +157,9 @@ impl CountedCore {
         let target = BuiltinTarget::new(alloc, kind);
         match self.core.begin_register(name, target) {
             Ok(ready) => {
-                let made = self.conclude(alloc, client, ready, text)?;
+                let (call, prepared) = ready.into_parts();
+                drop(call);
+                let made = self.conclude(alloc, client, prepared, text)?;
                 Ok(CallResult::Change(made))
             }
             Err((_, target)) => {

@@ -8,7 +8,6 @@ ghost use Rattle.serde_json.specs.Written.{comma_if};
 ghost use Rattle.comm_messages.specs.Parts.{GrowsBy};
 ghost use Rattle.comm_c.specs.IncomingParts.{AddUp, AreJson, IsJson, split_buffers, buffer_list_text, line_of_parts};
 
-use crate::content::append;
 use base64::engine::general_purpose::STANDARD;
 use comm_json::{JsonFault, ParseArena, read_line};
 use comm_value::write_text;
@@ -24,6 +23,13 @@ pub struct IncomingParts<'a> {
     pub content: &'a [u8],
     pub buffers: &'a [u8],
     pub sizes: &'a [usize],
+}
+
+// Appends the bytes. Err: memory.
+fn append(bytes: &[u8], out: &mut Vec<u8>) -> Result<(), AllocError>
+    ensures { OnOk result (GrowsBy out.old.items bytes.now out.new.items) }
+{
+    out.extend_from_slice(bytes)
 }
 
 // Whether the bytes are one JSON text. Err: memory.

@@ -9,7 +9,6 @@
 mod builtin_target;
 mod call_result;
 mod codes;
-mod content;
 mod counted_core;
 mod handle;
 mod held_manager;

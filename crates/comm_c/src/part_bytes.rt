@@ -6,9 +6,8 @@ ghost use Rattle.comm_c.specs.CallResult.{id_in, message_part, part_sent, custom
 ghost use Rattle.comm_c.specs.CallResult.{ids_part, reply_part, part_replied};
 
 use crate::call_result::CallResult;
-use crate::content::{append_content, append_ids, append_metadata};
 use comm_core::{Ids, Reply};
-use comm_messages::Outgoing;
+use comm_messages::{Outgoing, append_content, append_ids, append_metadata};
 use comm_targets::Custom;
 use comm_value::Buffers;
 use std::alloc::{AllocError, Global};

@@ -1,8 +1,0 @@
-use Rattle.std.proofs.Common.{◌≡◌, ◌++◌, false}
-use Rattle.serde_json.specs.Written.{members_text}
-use Rattle.comm_messages.specs.Text.{comm_members}
-use Rattle.comm_messages.proofs.WriteLemmas.{comms_rest}
-use Rattle.comm_c.proofs.content.append_comms.Given as goal
-
-abbrev pub invariant-loop-number : goal.invariant-loop-number
-invariant-loop-number l = l.out.items ++ comms_rest l.info-items l.number ≡ l.initial.out.items ++ members_text false (comm_members l.info-items)
