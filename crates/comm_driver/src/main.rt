@@ -8,7 +8,7 @@ ghost use Rattle.comm_script.specs.Played.{played};
 ghost use Rattle.comm_driver.specs.Program.{over_of, program_limits, program_stock};
 
 use comm_core::Limits;
-use comm_script::{RunFault, boxed_stock, exit_status, run_with};
+use comm_script::{RunFault, exit_status, push_target, run_with};
 use comm_targets::{Counter, Echo, Target};
 use shared_script::run_shared_with;
 use std::alloc::Global;
@@ -48,7 +48,23 @@ fn play<R: Read, W: Write, H: Wait>(
         Appends (W.contents writer.old) (W.contents writer.new) (played program_limits program_stock input))) }
     ensures limits { IfErr result (λ e. e ≢ RunFault.BadLimits) }
 {
-    let stock = boxed_stock!(alloc);
+    let mut stock = Vec::new(alloc);
+    let echo: Box<dyn Target> = Box::new(alloc, Echo::new(alloc))?;
+    push_target(&mut stock, echo)?;
+    let other_echo: Box<dyn Target> = Box::new(alloc, Echo::new(alloc))?;
+    push_target(&mut stock, other_echo)?;
+    let counter: Box<dyn Target> = Box::new(alloc, Counter::new(alloc))?;
+    push_target(&mut stock, counter)?;
+    let other_counter: Box<dyn Target> = Box::new(alloc, Counter::new(alloc))?;
+    push_target(&mut stock, other_counter)?;
+    let widget: Box<dyn Target> = Box::new(alloc, WidgetTarget::new(alloc))?;
+    push_target(&mut stock, widget)?;
+    let other_widget: Box<dyn Target> = Box::new(alloc, WidgetTarget::new(alloc))?;
+    push_target(&mut stock, other_widget)?;
+    let echoing: Box<dyn Target> = Box::new(alloc, WidgetTarget::with_echo(alloc))?;
+    push_target(&mut stock, echoing)?;
+    let other_echoing: Box<dyn Target> = Box::new(alloc, WidgetTarget::with_echo(alloc))?;
+    push_target(&mut stock, other_echoing)?;
     match over {
         Over::OneThread => run_with(alloc, reader, writer, LIMITS, stock),
         Over::Shared => run_shared_with(rt, alloc, reader, writer, LIMITS, stock),

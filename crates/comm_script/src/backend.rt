@@ -3,11 +3,11 @@ ghost use Rattle.std.specs.Prelude.{◌≡◌, ℕ};
 ghost use Rattle.comm_core.specs.declared.limits.Limits.{Limits};
 ghost use Rattle.comm_script.specs.Played.{Standing};
 
-/// A manager with its stock of targets, as contracts of the player see it. What it does for a request of a line is a function
-/// that the player is handed beside it (`Executes` of `specs/Player.antt`).
+/// A manager with its stock of targets, as contracts of the player see it. What it does for a request of a line is a
+/// function that the player is handed beside it (`Executes` of `specs/Player.antt`).
 ///
-/// What is promised depends on what is known of the backend: where `stands` says how it stands, a line comes to what the
-/// definition of scripts says (`specs/Played.antt`).
+/// What is promised depends on what is known of the backend: where `stands` says how it stands, a line comes to what
+/// the definition of scripts says (`specs/Played.antt`).
 pub trait Backend {
     // It has so many clients, and can play lines. This is kept, whatever comes.
     ghost is_sound: { ℕ → Self → Type 0 };

@@ -51,8 +51,8 @@ fn asked_in(alloc: Global, line: Fields<'_, '_>, clients: u8) -> Result<(u8, Req
     }
 }
 
-/// The client of a line, and what the line asks for. The room serves the reading, and can be kept from line to line, so that few lines
-/// take memory for it.
+/// The client of a line, and what the line asks for. The room serves the reading, and can be kept from line to line,
+/// so that few lines take memory for it.
 pub fn parse_line(
     alloc: Global,
     line: &[u8],

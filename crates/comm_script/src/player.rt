@@ -13,7 +13,8 @@ use crate::wording::append_bad;
 use comm_json::ParseArena;
 use std::alloc::Global;
 
-/// Appends, by its number in the script, why a line can't be read. Err is Memory: where memory ran out nothing is said of the line.
+/// Appends, by its number in the script, why a line can't be read. Err is Memory: where memory ran out nothing is
+/// said of the line.
 pub fn append_fault(number: u64, fault: LineFault, text: &mut Vec<u8>) -> Result<(), RunFault>
     ensures known { OnOk result (is_memory fault ≡ false) }
     ensures text { OnOk result (text.new.items ≡ text.old.items ++ bad_line number fault) }
@@ -26,8 +27,8 @@ pub fn append_fault(number: u64, fault: LineFault, text: &mut Vec<u8>) -> Result
     Ok(())
 }
 
-/// Plays the line of this number: `execute` does what it asks for, for one of so many clients. A blank line asks for nothing,
-/// and a line that can't be read is answered with why. Err: what `execute` gives, or Memory.
+/// Plays the line of this number: `execute` does what it asks for, for one of so many clients. A blank line asks for
+/// nothing, and a line that can't be read is answered with why. Err: what `execute` gives, or Memory.
 #[tactic(auto, unfolding(crate::specs::Played::turn))]
 pub fn play_line<B: Backend, F: Fn(&mut B, u64, u8, Request, &mut Vec<u8>) -> Result<(), RunFault>>(
     backend: &mut B,

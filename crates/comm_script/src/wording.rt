@@ -392,7 +392,8 @@ pub fn append_infos(
     comms: Infos,
     out: &mut Vec<u8>,
 ) -> Result<(), AllocError>
-    ensures { OnOk result (out.new.items ≡ out.old.items ++ out_line (outgoing.InfoReply comms) (parent.Read client front)) }
+    ensures { OnOk result (out.new.items ≡ out.old.items
+        ++ out_line (outgoing.InfoReply comms) (parent.Read client front)) }
 {
     let message = Outgoing::InfoReply { comms };
     let written = append_out(alloc, &message, &Parent::Read { client, front }, out);

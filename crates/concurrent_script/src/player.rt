@@ -132,8 +132,8 @@ fn retry<M: ManagerId, T: Target, R: Wait>(
     unreachable!()
 }
 
-// Answers a line, and tells how many entries the client had seen when it asked, what it heard for this line counted; and
-// whether a change was answered.
+// Answers a line, and tells how many entries the client had seen when it asked, what it heard for this line counted;
+// and whether a change was answered.
 fn answer<M: ManagerId, T: Target, R: Wait>(
     rt: &R,
     manager: &Manager<M, T>,
@@ -201,8 +201,8 @@ fn play_all<M: ManagerId, T: Target, R: Wait>(
     Ok(())
 }
 
-/// What a client's thread does: it plays its lines as soon as all threads have come, and notes in its transcript what came of
-/// them.
+/// What a client's thread does: it plays its lines as soon as all threads have come, and notes in its transcript what
+/// came of them.
 pub(crate) fn played<M: ManagerId, T: Target, R: Wait>(
     rt: &R,
     manager: &Manager<M, T>,

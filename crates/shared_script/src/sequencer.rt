@@ -47,7 +47,8 @@ pub fn register_from_stock<M: ManagerId, T: Target, R: Wait>(
     }
 }
 
-/// Appends the line of the open comms, those of one target where a name is given, as the client sees them. Err: Memory or NoReader.
+/// Appends the line of the open comms, those of one target where a name is given, as the client sees them. Err:
+/// Memory or NoReader.
 pub fn append_infos_seen<M: ManagerId>(
     alloc: Global,
     client: &mut Client<M>,
@@ -133,8 +134,8 @@ impl<M: ManagerId, T: Target> Sequencer<M, T> {
         }
     }
 
-    // Makes the change that a call asks for. What it is answered is in the history; here only that is said, by the line's
-    // number, what has no room for a change that isn't made.
+    // Makes the change that a call asks for. What it is answered is in the history; here only that is said, by the
+    // line's number, what has no room for a change that isn't made.
     fn change<R: Wait>(
         &mut self,
         rt: &R,
@@ -153,7 +154,8 @@ impl<M: ManagerId, T: Target> Sequencer<M, T> {
         self.note(number, made, text)
     }
 
-    // Registers the first target of the kind that the stock has, and says where there is none, or no room for the change.
+    // Registers the first target of the kind that the stock has, and says where there is none, or no room for the
+    // change.
     fn register<R: Wait>(
         &mut self,
         rt: &R,
@@ -177,8 +179,8 @@ impl<M: ManagerId, T: Target> Sequencer<M, T> {
         }
     }
 
-    /// Does what a line asks for, by its client, that hears of the last change first. Of a change only that is said why it isn't
-    /// made; what it is answered is in the history. Err: Memory or NoReader.
+    /// Does what a line asks for, by its client, that hears of the last change first. Of a change only that is said
+    /// why it isn't made; what it is answered is in the history. Err: Memory or NoReader.
     pub fn execute<R: Wait>(
         &mut self,
         rt: &R,

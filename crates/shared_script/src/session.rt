@@ -45,8 +45,8 @@ impl<M: ManagerId, T: Target> SharedSession<M, T> {
         Ok(())
     }
 
-    /// Does what a line of this client asks for, and appends what it is answered and what goes out. Each change comes after the
-    /// last one, since its client has heard of that. Err: Memory or NoReader.
+    /// Does what a line of this client asks for, and appends what it is answered and what goes out. Each change comes
+    /// after the last one, since its client has heard of that. Err: Memory or NoReader.
     pub fn execute<R: Wait>(
         &mut self,
         rt: &R,

@@ -5,7 +5,7 @@ ghost use Rattle.comm_script.specs.Stock.{AreIdle};
 use super::MAX_COMMS;
 use super::target_ends::counted_stock;
 use comm_core::Limits;
-use comm_script::{RunFault, boxed_stock, run};
+use comm_script::{RunFault, push_target, run};
 use comm_targets::{Counter, Echo, Target};
 use shared_script::run_shared;
 use std::alloc::{AllocError, Global};
@@ -92,7 +92,24 @@ pub struct ScriptResult {
 fn stock(alloc: Global) -> Result<Vec<Box<dyn Target>>, RunFault>
     ensures { IfOk result (λ v. AreIdle (map (λ b. means b) v.items)) }
 {
-    Ok(boxed_stock!(alloc))
+    let mut stock = Vec::new(alloc);
+    let echo: Box<dyn Target> = Box::new(alloc, Echo::new(alloc))?;
+    push_target(&mut stock, echo)?;
+    let echo: Box<dyn Target> = Box::new(alloc, Echo::new(alloc))?;
+    push_target(&mut stock, echo)?;
+    let counter: Box<dyn Target> = Box::new(alloc, Counter::new(alloc))?;
+    push_target(&mut stock, counter)?;
+    let counter: Box<dyn Target> = Box::new(alloc, Counter::new(alloc))?;
+    push_target(&mut stock, counter)?;
+    let widget: Box<dyn Target> = Box::new(alloc, WidgetTarget::new(alloc))?;
+    push_target(&mut stock, widget)?;
+    let widget: Box<dyn Target> = Box::new(alloc, WidgetTarget::new(alloc))?;
+    push_target(&mut stock, widget)?;
+    let echoing: Box<dyn Target> = Box::new(alloc, WidgetTarget::with_echo(alloc))?;
+    push_target(&mut stock, echoing)?;
+    let echoing: Box<dyn Target> = Box::new(alloc, WidgetTarget::with_echo(alloc))?;
+    push_target(&mut stock, echoing)?;
+    Ok(stock)
 }
 
 fn play(
