@@ -112,6 +112,20 @@ fn stock(alloc: Global) -> Result<Vec<Box<dyn Target>>, RunFault>
     Ok(stock)
 }
 
+// A call of its own, since each of the two players has 84 KiB on the stack.
+#[inline(never)]
+fn play_over_core(
+    alloc: Global,
+    reader: &mut FailingReader<'_>,
+    writer: &mut FailingWriter,
+    limits: Limits,
+    stock: Vec<Box<dyn Target>>,
+) -> Result<(), RunFault>
+    requires { AreIdle (map (λ b. means b) stock.items) }
+{
+    run(alloc, reader, writer, limits, stock)
+}
+
 fn play(
     rt: &impl Wait,
     alloc: Global,
@@ -126,7 +140,7 @@ fn play(
         stock(alloc)?
     };
     match script.over {
-        ManagerKind::OneThread => run(alloc, reader, writer, script.limits, stock),
+        ManagerKind::OneThread => play_over_core(alloc, reader, writer, script.limits, stock),
         ManagerKind::Shared => run_shared(rt, alloc, reader, writer, script.limits, stock),
     }
 }
