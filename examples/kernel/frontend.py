@@ -56,7 +56,8 @@ class Frontend:
 
     def run(self, code):
         """Runs a cell. Gives what it prints, with the error that it ends in, and the comms' messages."""
-        came = self.send("execute_request", {"code": code, "silent": False})
+        # ipykernel aborts what comes within a tenth of a second after a cell that failed and asked to stop on errors
+        came = self.send("execute_request", {"code": code, "silent": False, "stop_on_error": False})
         printed = "".join(got.content["text"] for got in came if got.kind == "stream")
         printed += "".join(f"{got.content['ename']}: {got.content['evalue']}" for got in came if got.kind == "error")
         return printed, [got for got in came if got.kind.startswith("comm_")]
