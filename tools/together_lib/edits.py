@@ -53,6 +53,7 @@ def unmake(run, entry, kind, words):
             it.number -= it.number > number
         elif it.kind in ("state", "info") and it.number >= number:
             read_at(run, it, it.number - 1)
+    run.untaken = min(run.untaken, len(run.entries) + 1)
     run.taken = len(run.entries) + 1 - run.untaken
 
 
