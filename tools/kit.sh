@@ -1,5 +1,5 @@
-# Sourced by ./play, ./check and tools: asks for the Rattle kit that the proofs were made with, and whether what was built
-# is of the sources as they are.
+# Sourced by ./play, ./check and tools: asks for the Rattle kit that the proofs were made with, and whether what was
+# built is of the sources as they are.
 WANTED_KIT="rattle-kit-13f"
 TOP=$(cd "$(dirname "${BASH_SOURCE[0]}")/.." && pwd)
 
@@ -34,7 +34,8 @@ print("\n".join(str(it) for it in parts if it.is_dir()))
 END
 }
 
-is_current() { # is_current FILE: whether a crate's file in out/ was built of the sources as they are: none of them is newer
+# is_current FILE: whether a crate's file in out/ was built of the sources as they are: none of them is newer
+is_current() {
   local crate=${1##*crates/} folders
   [ -e "$1" ] || return 1
   mapfile -t folders < <(sources_of "${crate%%/*}")

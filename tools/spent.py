@@ -1,5 +1,5 @@
-"""Processor time of the compiler's processes below this one, by crate: they are looked at while they run, so the last second or two of each
-isn't counted."""
+"""Processor time of the compiler's processes below this one, by crate: they are looked at while they run, so the last
+second or two of each isn't counted."""
 import os
 from collections import defaultdict
 from pathlib import Path

@@ -164,6 +164,7 @@ def workloads(buffers):
 def same(one, other):
     """Whether two managers said the same: the JSON of what went out, its bytes, and what the kernel heard."""
     (sent, heard), (other_sent, other_heard) = one, other
+
     def parts(out):
         return [(json.loads(content), [bytes(buffer) for buffer in buffers]) for content, buffers in list(out)]
 

@@ -120,6 +120,7 @@ class ProvedComms(CommManager):
 
     def unregister_target(self, target_name, f):
         """Closes the target's comms, which ipykernel leaves open."""
+
         def unregister(manager):
             answer = command(manager, {"call": "unregister", "name": target_name})
             if answer.reply == Reply.UNREGISTERED:

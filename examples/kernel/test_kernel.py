@@ -33,9 +33,15 @@ def a_slider(front):
     slider = printed.strip()
     check("layout, style and slider open", kinds(came), ["comm_open"] * 3)
     opened = came[-1]
-    check("the last is the slider", (opened.content["comm_id"], opened.content["target_name"]), (slider, "jupyter.widget"))
-    check("its state and version", (opened.content["data"]["state"]["value"], opened.metadata), (3, {"version": "2.1.0"}))
-    check("its layout is the first", opened.content["data"]["state"]["layout"], "IPY_MODEL_" + came[0].content["comm_id"])
+    check(
+        "the last is the slider", (opened.content["comm_id"], opened.content["target_name"]), (slider, "jupyter.widget")
+    )
+    check(
+        "its state and version", (opened.content["data"]["state"]["value"], opened.metadata), (3, {"version": "2.1.0"})
+    )
+    check(
+        "its layout is the first", opened.content["data"]["state"]["layout"], "IPY_MODEL_" + came[0].content["comm_id"]
+    )
     check("comm_info has all three", front.info(), {got.content["comm_id"]: "jupyter.widget" for got in came})
     front.run("seen = []; s.observe(lambda change: seen.append(change['new']), 'value')")
 
@@ -45,18 +51,34 @@ def a_slider(front):
     for value in (4, 5, 7):
         check(f"a move to {value} has no answer", move(value), [])
     check("the moves reach Python", front.run("print(s.value, seen)")[0], "7 [4, 5, 7]\n")
-    check("a change in Python goes out", [got.content["data"] for got in front.run("s.value = 9")[1]], [update({"value": 9})])
+    check(
+        "a change in Python goes out",
+        [got.content["data"] for got in front.run("s.value = 9")[1]],
+        [update({"value": 9})],
+    )
     check("Python's validation comes back", [got.content["data"] for got in move(50)], [update({"value": 10})])
     came = front.send("comm_msg", {"comm_id": slider, "data": {"method": "request_state"}})
     state = {**opened.content["data"]["state"], "value": 10}
     check("the manager has the state", [got.content["data"] for got in came], [update(state)])
-    check("a slider with a fraction is refused", front.run("ipywidgets.FloatSlider()")[0], "CommRefused: comm_open: not_whole")
-    check("a close in Python", [(got.kind, got.content["comm_id"]) for got in front.run("s.close()")[1]], [("comm_close", slider)])
+    check(
+        "a slider with a fraction is refused",
+        front.run("ipywidgets.FloatSlider()")[0],
+        "CommRefused: comm_open: not_whole",
+    )
+    check(
+        "a close in Python",
+        [(got.kind, got.content["comm_id"]) for got in front.run("s.close()")[1]],
+        [("comm_close", slider)],
+    )
 
 
 def a_button(front):
-    printed, _ = front.run("b = ipywidgets.Button(description='x'); b.on_click(lambda _: print('clicked')); print(b.comm.comm_id)")
-    came = front.send("comm_msg", {"comm_id": printed.strip(), "data": {"method": "custom", "content": {"event": "click"}}})
+    printed, _ = front.run(
+        "b = ipywidgets.Button(description='x'); b.on_click(lambda _: print('clicked')); print(b.comm.comm_id)"
+    )
+    came = front.send(
+        "comm_msg", {"comm_id": printed.strip(), "data": {"method": "custom", "content": {"event": "click"}}}
+    )
     check("a click", [(got.kind, got.content.get("text")) for got in came], [("stream", "clicked\n")])
 
 
@@ -74,7 +96,11 @@ def a_widget_with_bytes(front):
     came = front.send("comm_msg", {"comm_id": blob, "data": update({}, [["value"]])}, buffers=[b"\x00\xff"])
     check("bytes come in", (came, front.run("print(bytes(v.value))")[0]), ([], "b'\\x00\\xff'\n"))
     came = front.send("comm_msg", {"comm_id": blob, "data": {"method": "request_state"}})
-    check("bytes come back", [(got.content["data"]["buffer_paths"], got.buffers) for got in came], [([["value"]], [b"\x00\xff"])])
+    check(
+        "bytes come back",
+        [(got.content["data"]["buffer_paths"], got.buffers) for got in came],
+        [([["value"]], [b"\x00\xff"])],
+    )
 
 
 OWN_WIDGET = """
@@ -84,7 +110,11 @@ class Gauge:
     def __init__(self, level, picture):
         data = {"state": {"level": level, "picture": {}}, "buffer_paths": [["picture", "png"]]}
         self.comm = Comm(target_name="jupyter.widget", data=data, metadata={"version": "2.1.0"}, buffers=[picture])
-        self.comm.on_msg(lambda message: heard.append((message["content"]["data"]["method"], [bytes(b) for b in message["buffers"]])))
+        self.comm.on_msg(
+            lambda message: heard.append(
+                (message["content"]["data"]["method"], [bytes(b) for b in message["buffers"]])
+            )
+        )
         self.comm.on_close(lambda message: heard.append("closed"))
 
     def set(self, **state):
@@ -99,7 +129,11 @@ def a_widget_of_ones_own(front):
     printed, came = front.run(OWN_WIDGET + f"g = Gauge(1, {PNG!r}); print(g.comm.comm_id)")
     gauge = printed.strip()
     opened = {"buffer_paths": [["picture", "png"]], "state": {"level": 1, "picture": {}}}
-    check("it opens with its bytes", [(got.content["data"], got.metadata, got.buffers) for got in came], [(opened, {"version": "2.1.0"}, [PNG])])
+    check(
+        "it opens with its bytes",
+        [(got.content["data"], got.metadata, got.buffers) for got in came],
+        [(opened, {"version": "2.1.0"}, [PNG])],
+    )
     check("it changes", [got.content["data"] for got in front.run("g.set(level=2)")[1]], [update({"level": 2})])
     front.send("comm_msg", {"comm_id": gauge, "data": update({"picture": {}}, [["picture", "png"]])}, buffers=[b"new"])
     came = front.send("comm_msg", {"comm_id": gauge, "data": {"method": "request_state"}})
@@ -113,14 +147,20 @@ def a_widget_of_ones_own(front):
     check("a fraction is refused, and nothing goes out", printed, "CommRefused: comm_msg: not_whole")
     front.send("comm_close", {"comm_id": gauge, "data": {}})
     check("it heard the close", front.run("print(heard[2:])")[0], "['closed']\n")
-    check("it is gone", (gauge in front.info(), front.run("g.set(level=3)")[0]), (False, "CommRefused: comm_msg: no_comm"))
+    check(
+        "it is gone", (gauge in front.info(), front.run("g.set(level=3)")[0]), (False, "CommRefused: comm_msg: no_comm")
+    )
 
 
 OWN_COMMS = """
 def opened(comm, message):
     if message["content"]["data"].get("fails"):
         raise ValueError("as the test wants it")
-    comm.on_msg(lambda message: comm.send({"twice": 2 * message["content"]["data"]["n"]}, {"m": 1}, buffers=list(reversed(message["buffers"]))))
+    comm.on_msg(
+        lambda message: comm.send(
+            {"twice": 2 * message["content"]["data"]["n"]}, {"m": 1}, buffers=list(reversed(message["buffers"]))
+        )
+    )
     comm.on_close(lambda message: ended.append(message["content"]["data"]))
     comm.send({"hello": message["content"]["data"]})
 
@@ -144,7 +184,11 @@ def comms_of_ones_own(front):
     came = front.send("comm_msg", {"comm_id": "mine", "data": {"n": 21}}, buffers=[b"\x00" * 70000, b"", b"\xff"])
     wanted = [("comm_msg", {"comm_id": "mine", "data": {"twice": 42}}, {"m": 1}, [b"\xff", b"", b"\x00" * 70000])]
     check("buffers there and back", [tuple(got) for got in came], wanted)
-    check("an id in use is refused, and the comm stays", (open_comm("mine", x=2), front.info("my.target")), ([], {"mine": "my.target"}))
+    check(
+        "an id in use is refused, and the comm stays",
+        (open_comm("mine", x=2), front.info("my.target")),
+        ([], {"mine": "my.target"}),
+    )
     check("a target that fails", said(open_comm("other", fails=True)), [("comm_close", "other", {})])
     check("no such target", said(open_comm("other", "nobody")), [("comm_close", "other", {})])
     check("no such comm", front.send("comm_msg", {"comm_id": "other", "data": {"n": 1}}), [])
@@ -153,13 +197,22 @@ def comms_of_ones_own(front):
     check("the close is heard", (front.run("print(ended)")[0], front.info("my.target")), ("[{'bye': 1}]\n", {}))
     for comm_id in ("b", "a"):
         open_comm(comm_id)
-    printed, came = front.run("comms.unregister_target('my.target', opened); print([c for c in comms.comms if c in 'ab'])")
-    check("to unregister closes the comms, in their order", (said(came), printed), ([("comm_close", "b", {}), ("comm_close", "a", {})], "[]\n"))
+    printed, came = front.run(
+        "comms.unregister_target('my.target', opened); print([c for c in comms.comms if c in 'ab'])"
+    )
+    check(
+        "to unregister closes the comms, in their order",
+        (said(came), printed),
+        ([("comm_close", "b", {}), ("comm_close", "a", {})], "[]\n"),
+    )
 
 
 def a_comm_of_the_kernels(front):
     """A comm that the kernel's code opens towards a target of the frontend's."""
-    code = "k = Comm(target_name='front.target', data={'x': 0}, metadata={'m': 2}, buffers=[b'b']); k.on_msg(lambda m: print(m['content']['data']))"
+    code = (
+        "k = Comm(target_name='front.target', data={'x': 0}, metadata={'m': 2}, buffers=[b'b']); "
+        "k.on_msg(lambda m: print(m['content']['data']))"
+    )
     printed, came = front.run(code + "; print(k.comm_id)")
     comm_id = printed.strip()
     content = {"comm_id": comm_id, "data": {"x": 0}, "target_name": "front.target", "target_module": None}
@@ -169,7 +222,10 @@ def a_comm_of_the_kernels(front):
     check("it hears", [got.content.get("text") for got in came], ["{'y': [1]}\n"])
     # As where the garbage collector ends something amid a call, whose end closes a comm.
     line = f"{{'call': 'send', 'id': '{comm_id}', 'data': {{}}}}"
-    amid = f"comms.play(lambda manager: command(manager, {line}), comms.parent_message(), lambda sent, parent: k.close({{'bye': 1}}))"
+    amid = (
+        f"comms.play(lambda manager: command(manager, {line}), comms.parent_message(), "
+        "lambda sent, parent: k.close({'bye': 1}))"
+    )
     printed, came = front.run(f"from wire import command; print({amid}.reply.name)")
     closed = ("comm_close", {"comm_id": comm_id, "data": {"bye": 1}}, {}, [])
     check("a close amid a call comes after it", (printed, [tuple(got) for got in came]), ("DELIVERED\n", [closed]))
@@ -192,7 +248,15 @@ def two_tabs_and_a_kill(front):
     check("and moves", front.run("print(s.value)")[0], "8\n")
 
 
-PARTS = (a_slider, a_button, a_widget_with_bytes, a_widget_of_ones_own, comms_of_ones_own, a_comm_of_the_kernels, two_tabs_and_a_kill)
+PARTS = (
+    a_slider,
+    a_button,
+    a_widget_with_bytes,
+    a_widget_of_ones_own,
+    comms_of_ones_own,
+    a_comm_of_the_kernels,
+    two_tabs_and_a_kill,
+)
 
 
 def main():

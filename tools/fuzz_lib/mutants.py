@@ -5,17 +5,24 @@ from .scripts import Scripts
 
 # What is put in the place of something else, or beside it.
 PIECES = [
-    b"{", b"}", b"[", b"]", b",", b":", b'"', b"\\", b" ", b"\t", b"\r", b"\n", b"\x00", b"\x1f", b"\x7f", b"\x80", b"\xc3", b"\xc0\x80", b"\xed\xa0\x80", b"\xff", b"\xf4\x90\x80\x80",
-    b"null", b"true", b"false", b"{}", b"[]", b'""', b"[[]]", b'{"":0}', b"nul", b"0", b"-0", b"00", b"-1", b"1.0", b"1e2", b"1e400", b"1e-400", b"-", b".", b"e",
-    b"18446744073709551615", b"18446744073709551616", b"9223372036854775808", b"-9223372036854775808", b"-9223372036854775809",
-    b"\\u0000", b"\\u0061", b"\\ud800", b"\\udc00", b"\\ud83d\\ude00", b"\\n", b"\\/", b"\\x", b"\\u12", "é".encode(), "😀".encode(), b"\xef\xbb\xbf",
-    b'"AQI="', b'"AQ"', b'["x"]', b'["x",0]', b'[["x"]]', b'"buffers":["AQI="]', b'"buffer_paths":[["x"]]', b'"state":{"x":1}', b'"client":3', b'"call":"state"', b'"metadata":{"version":"2"}',
-    b'"data":', b'"content":', b'"header":', b'"comm_id":"a"', b'"method":"update"', b'"method":"request_state"', b"[" * 60, b"]" * 60, b'{"k":' * 60, b"}" * 60, b"9" * 40, b"a" * 300,
+    b"{", b"}", b"[", b"]", b",", b":", b'"', b"\\", b" ", b"\t", b"\r", b"\n", b"\x00", b"\x1f", b"\x7f", b"\x80",
+    b"\xc3", b"\xc0\x80", b"\xed\xa0\x80", b"\xff", b"\xf4\x90\x80\x80",
+    b"null", b"true", b"false", b"{}", b"[]", b'""', b"[[]]", b'{"":0}', b"nul", b"0", b"-0", b"00", b"-1", b"1.0",
+    b"1e2", b"1e400", b"1e-400", b"-", b".", b"e",
+    b"18446744073709551615", b"18446744073709551616", b"9223372036854775808", b"-9223372036854775808",
+    b"-9223372036854775809",
+    b"\\u0000", b"\\u0061", b"\\ud800", b"\\udc00", b"\\ud83d\\ude00", b"\\n", b"\\/", b"\\x", b"\\u12",
+    "é".encode(), "😀".encode(), b"\xef\xbb\xbf",
+    b'"AQI="', b'"AQ"', b'["x"]', b'["x",0]', b'[["x"]]', b'"buffers":["AQI="]', b'"buffer_paths":[["x"]]',
+    b'"state":{"x":1}', b'"client":3', b'"call":"state"', b'"metadata":{"version":"2"}',
+    b'"data":', b'"content":', b'"header":', b'"comm_id":"a"', b'"method":"update"', b'"method":"request_state"',
+    b"[" * 60, b"]" * 60, b'{"k":' * 60, b"}" * 60, b"9" * 40, b"a" * 300,
 ]  # fmt: skip
 
 
 class Mutants:
-    """The script of each number, by one seed: random ones of so many lines at most, and examples; or random ones alone, as they were made."""
+    """The script of each number, by one seed: random ones of so many lines at most, and examples; or random ones alone,
+    as they were made."""
 
     def __init__(self, root, seed, lines, are_unchanged):
         self.seed, self.lines, self.are_unchanged = seed, lines, are_unchanged
@@ -93,4 +100,18 @@ def cut(chance, script):
     return script[: place(chance, script)]
 
 
-CHANGES = [byte_changed, bit_changed, piece_put_in, piece_put_in, piece_taken_out, part_doubled, part_moved, value_changed, value_changed, value_changed, lines_changed, lines_changed, cut]
+CHANGES = [
+    byte_changed,
+    bit_changed,
+    piece_put_in,
+    piece_put_in,
+    piece_taken_out,
+    part_doubled,
+    part_moved,
+    value_changed,
+    value_changed,
+    value_changed,
+    lines_changed,
+    lines_changed,
+    cut,
+]

@@ -17,7 +17,11 @@ def words_of(out):
     seen = set()
     for line in out.split(b"\n"):
         if line.startswith((b"reply ", b"bad ")):
-            seen.add(b" ".join(it for it in line.split(b" ")[2:4] if it.isascii() and it.replace(b"_", b"").isalpha()).decode())
+            seen.add(
+                b" ".join(
+                    it for it in line.split(b" ")[2:4] if it.isascii() and it.replace(b"_", b"").isalpha()
+                ).decode()
+            )
         elif line.startswith(b"state "):
             seen.add("state")
     return seen
@@ -35,7 +39,8 @@ class Players:
         return [(name, play(words, script)) for name, words in self.ways.items()]
 
     def compared(self, script):
-        """Whether they differ, or end otherwise than by status 0 with nothing on standard error; and the words that were seen."""
+        """Whether they differ, or end otherwise than by status 0 with nothing on standard error; and the words that
+        were seen."""
         given = [it for _, it in self.played(script)]
         one = given[0]
         return one[0] != 0 or bool(one[2]) or any(it != one for it in given), words_of(one[1])

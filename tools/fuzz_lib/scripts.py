@@ -51,7 +51,9 @@ class Scripts:
     def buffers(self, count):
         if self.rarely():
             return self.odd()
-        given = [base64.b64encode(self.random.randbytes(self.random.choice([0, 1, 2, 3, 50]))).decode() for _ in range(count)]
+        given = [
+            base64.b64encode(self.random.randbytes(self.random.choice([0, 1, 2, 3, 50]))).decode() for _ in range(count)
+        ]
         if given and self.rarely():
             given[0] = self.random.choice(["AQ", "A===", "*", 3])
         return given
@@ -64,7 +66,9 @@ class Scripts:
 
     def data(self):
         state, paths, buffers = self.whole()
-        method = self.random.choice(["update", "update", "update", "request_state", "custom", "echo_update", "other", 3])
+        method = self.random.choice(
+            ["update", "update", "update", "request_state", "custom", "echo_update", "other", 3]
+        )
         data = {"method": method, "state": state}
         if paths or self.random.random() < 0.3:
             data["buffer_paths"] = paths
@@ -79,7 +83,9 @@ class Scripts:
         content = {"comm_id": self.random.choice(IDS)}
         line = {"header": {"msg_type": kind}, "content": content}
         if kind in ("comm_open", "comm_info_request"):
-            content["target_name"] = self.random.choice(NAMES) if kind == "comm_open" or self.random.random() < 0.5 else None
+            content["target_name"] = (
+                self.random.choice(NAMES) if kind == "comm_open" or self.random.random() < 0.5 else None
+            )
         if kind in ("comm_open", "comm_msg"):
             content["data"], line["buffers"] = self.data()
         if kind == "comm_open":
@@ -89,12 +95,18 @@ class Scripts:
         return line
 
     def command(self):
-        call = self.random.choice(["register"] * 3 + ["unregister", "launch", "push", "push", "send", "hang_up", "state", "state"] + ["other"] * self.rarely())
+        call = self.random.choice(
+            ["register"] * 3
+            + ["unregister", "launch", "push", "push", "send", "hang_up", "state", "state"]
+            + ["other"] * self.rarely()
+        )
         line = {"call": call}
         if call in ("register", "unregister", "launch"):
             line["name"] = self.random.choice(NAMES)
         if call == "register":
-            line["kind"] = self.random.choice(["echo", "counter", "widget", "widget", "widget_echo"] + ["other"] * self.rarely())
+            line["kind"] = self.random.choice(
+                ["echo", "counter", "widget", "widget", "widget_echo"] + ["other"] * self.rarely()
+            )
         if call == "launch":
             line["uuid"] = str(uuid.UUID(int=self.random.choice([1, 2, 3, self.random.getrandbits(128)])))
         if call in ("launch", "push"):
@@ -108,7 +120,9 @@ class Scripts:
     def line(self):
         line = self.message() if self.random.random() < 0.7 else self.command()
         if self.random.random() < 0.4:
-            line["client"] = self.random.choice([0, 1, 2, 3, 3, 4, None, "1"]) if self.rarely() else self.random.randrange(4)
+            line["client"] = (
+                self.random.choice([0, 1, 2, 3, 3, 4, None, "1"]) if self.rarely() else self.random.randrange(4)
+            )
         if self.rarely():
             line[self.random.choice(list(line))] = self.odd()
         text = json.dumps(line, ensure_ascii=self.random.random() < 0.5)

@@ -18,7 +18,8 @@ def without(parts, keeps):
 
 
 def smallest(script, differ, most=4000):
-    """Of scripts that still differ, one from which nothing can be taken; each try is a play, and there are so many at most."""
+    """Of scripts that still differ, one from which nothing can be taken; each try is a play, and there are so many at
+    most."""
     left = [most]
 
     def keeps(candidate):

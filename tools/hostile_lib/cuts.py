@@ -7,7 +7,8 @@ BLANKS = b" \t\r"
 
 
 def groups(answers):
-    """The answers, line by line of the script: a reply has what goes out behind it, and the answer to an info request stands alone."""
+    """The answers, line by line of the script: a reply has what goes out behind it, and the answer to an info request
+    stands alone."""
     made = []
     for line in answers.splitlines(keepends=True):
         if line.startswith(b"out ") and b'"msg_type":"comm_info_reply"' not in line:

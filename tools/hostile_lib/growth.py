@@ -65,7 +65,8 @@ def peak_of(process):
 
 
 def measured(words, start, line):
-    """The CPU seconds that the line takes, and the peak memory: read once the whole line was answered, before the input ends."""
+    """The CPU seconds that the line takes, and the peak memory: read once the whole line was answered, before the input
+    ends."""
     with tempfile.TemporaryFile() as taken:
         process = subprocess.Popen(words, stdin=subprocess.PIPE, stdout=taken)
         process.stdin.write(b"\n".join(start.given) + b"\n" + line + b'\n{"call":"state","id":"zz"}\n')
@@ -95,10 +96,11 @@ def row(name, cells, form):
 
 
 def told(program):
-    """A table for each manager, in the form of docs/PERFORMANCE.md."""
+    """A table for each manager: a row for each shape, and in each cell the values of all sizes."""
     for way in WAYS:
         words, who = [program, *way], "over the shared manager" if way else "over that of one thread"
-        print(f"\nLines of {', '.join(map(str, SIZES))} MB, {who}:\n\n| Line | CPU ms a MB | peak memory, MB a MB |\n|---|---|---|")
+        print(f"\nLines of {', '.join(map(str, SIZES))} MB, {who}:\n")
+        print("| Line | CPU ms a MB | peak memory, MB a MB |\n|---|---|---|")
         lines = {}
         for size in SIZES:
             for name, start, line in scripts(size << 20):

@@ -1,12 +1,25 @@
 """Keys that stand twice at every level, of which the last counts; very long ones, and very many."""
 import random
 
-from .script import WIDGETS, Script, close, message, msg, of_state, of_update, widget_open, with_echo, with_widget, written
+from .script import (
+    WIDGETS,
+    Script,
+    close,
+    message,
+    msg,
+    of_state,
+    of_update,
+    widget_open,
+    with_echo,
+    with_widget,
+    written,
+)
 
 MANY = 100_000
 LONG = 1_000_000
 
-# A key of a message that stands twice: the good line's text, and what it becomes with a bad value before or behind the good one.
+# A key of a message that stands twice: the good line's text, and what it becomes with a bad value before or behind the
+# good one.
 HEADER, CONTENT = '"header":{"msg_type":"comm_msg"}', '"content":{"comm_id":"q","data":{}}'
 TWICE = [
     # the good member, a bad one of the same key, what the bad one alone would be told
@@ -99,7 +112,9 @@ def many(widgets):
     script.change(widget_open(f'{{"state":{doubled}}}', comm="w"), "opened")
     script.state(of_state(wanted), comm="w")
     half = [it for it in order if place[it] % 2]
-    script.updates(members(reversed(half), lambda _: '"new"'), comm="w", told=(members(half, lambda _: '"new"'), "[]", "[]"))
+    script.updates(
+        members(reversed(half), lambda _: '"new"'), comm="w", told=(members(half, lambda _: '"new"'), "[]", "[]")
+    )
     script.change(msg('{"method":"request_state"}', comm="w"), "delivered")
     script.sends("comm_msg", "w", of_update(members(order, lambda it: '"new"' if place[it] % 2 else place[it])))
     return script.case("many keys, each twice")

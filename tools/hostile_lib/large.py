@@ -74,7 +74,9 @@ def list_of_values(widgets):
     script.change(msg('{"method":"request_state"}', comm="w"), "delivered")
     script.sends("comm_msg", "w", of_update(f'{{"k":1,"l":[{items}]}}', '[["b"]]'), '["AQI="]')
     last, placed = f'["l",{VALUES - 1}]', f'"l":[{items.rpartition(",")[0]},null]'
-    script.updates(f'{{"l":[{items}]}}', f"[{last}]", '["AQI="]', comm="w", told=(f"{{{placed}}}", f"[{last}]", '["AQI="]'))
+    script.updates(
+        f'{{"l":[{items}]}}', f"[{last}]", '["AQI="]', comm="w", told=(f"{{{placed}}}", f"[{last}]", '["AQI="]')
+    )
     script.state(of_state(f'{{"k":1,{placed}}}', f'[["b"],{last}]', '["AQI=","AQI="]'), comm="w")
     script.change(close("w"), "closed")
     return script.case("a state of a million values in a list")

@@ -12,7 +12,8 @@ def opening(comm, target, rest=""):
 
 
 def comms():
-    """The stock's targets, one open more than the limit, a listing, and an open once there is room: a script longer than a megabyte."""
+    """The stock's targets, one open more than the limit, a listing, and an open once there is room: a script longer
+    than a megabyte."""
     script = Script()
     for kind in KINDS:
         for place in ("one", "two"):
@@ -43,8 +44,9 @@ def filled():
 
 
 def changes():
-    """Two changes more than the history holds. They tell from outside over which manager a script is played: that of one thread, which is played over
-    without an argument, keeps no history and makes them; the one that threads share does not, and its reads go on."""
+    """Two changes more than the history holds. They tell from outside over which manager a script is played: that of
+    one thread, which is played over without an argument, keeps no history and makes them; the one that threads share
+    does not, and its reads go on."""
     one, shared = filled(), filled()
     for _ in range(2):
         one.change(close("q"), "no_comm")
@@ -53,7 +55,10 @@ def changes():
         script.state("no_comm", comm="q")
         script.lists([], "")
     assert one.given == shared.given
-    return one.case("more changes than the history holds, which the manager of one thread makes and the shared one doesn't", shared=shared)
+    return one.case(
+        "more changes than the history holds, which the manager of one thread makes and the shared one doesn't",
+        shared=shared,
+    )
 
 
 def cases():

@@ -1,4 +1,5 @@
-"""Objects and lists inside one another: 126, 127 and 128 deep of each kind and at each place, deeper, and not closed."""
+"""Objects and lists inside one another: 126, 127 and 128 deep of each kind and at each place, deeper, and not
+closed."""
 from .script import WIDGETS, close, message, msg, of_state, of_update, update, widget_open, with_echo, with_widget
 
 DEEPEST = 127
@@ -55,7 +56,13 @@ def in_messages(kind):
         value = f'{{"x":{nested(kind, depth - 3)}}}'
         read(kind, depth, msg(value), lambda it, v=value: script.echoes(v, v), refused)
         wrong = "bad_buffer 0" if kind != "dicts" and kind != "lists in dicts" else "bad_content buffers"
-        read(kind, depth, msg("{}", f',"buffers":{nested(kind, depth - 1)}'), lambda it, w=wrong: script.bad(it, w), refused)
+        read(
+            kind,
+            depth,
+            msg("{}", f',"buffers":{nested(kind, depth - 1)}'),
+            lambda it, w=wrong: script.bad(it, w),
+            refused,
+        )
     return script.case(f"{kind} in messages", is_deep=True)
 
 
@@ -81,7 +88,10 @@ def in_widgets(kind, widgets):
         script.updates(state, path, '["AQI="]', told=(f'{{"s":{bare}}}', path, '["AQI="]'))
         script.updates(state)
         script.requested(f'{{"k":1,"s":{nested(kind, inside, "null")}}}')
-        script.change(msg(f'{{"method":"custom","content":{nested(kind, depth - 3)}}}'), f'custom {{"buffers":[],"content":{nested(kind, depth - 3)}}}')
+        script.change(
+            msg(f'{{"method":"custom","content":{nested(kind, depth - 3)}}}'),
+            f'custom {{"buffers":[],"content":{nested(kind, depth - 3)}}}',
+        )
         script.updates('{"s":[]}', comm="d")
         script.state(of_state('{"s":[],"t":1}'), comm="d")
         script.change(close("d"), "closed")
@@ -89,14 +99,16 @@ def in_widgets(kind, widgets):
 
 
 def without(kind, levels):
-    """The value whose innermost place has a buffer, as it is written: a list's place is null, and a dict's key is absent."""
+    """The value whose innermost place has a buffer, as it is written: a list's place is null, and a dict's key is
+    absent."""
     if steps(kind, levels)[-1] == 0:
         return nested(kind, levels, "null")
     return opening(kind, levels)[: -len('"k":')] + closing(kind, levels)
 
 
 def in_commands(kind, widgets):
-    """A command's state stands higher in its line than a message's, so what goes out nests deeper than what any line has."""
+    """A command's state stands higher in its line than a message's, so what goes out nests deeper than what any line
+    has."""
     script = with_widget(kind=widgets)
     script.change('{"call":"register","kind":"echo","name":"t"}', "registered")
     script.change(message("comm_open", '"comm_id":"e","target_name":"t"'), "opened")
@@ -105,15 +117,23 @@ def in_commands(kind, widgets):
         inside = depth - 2
         state, bare = f'{{"s":{nested(kind, inside, "null")}}}', f'{{"s":{without(kind, inside)}}}'
         path = f"[{path_text(['s', *steps(kind, inside)])}]"
-        launch = f'{{"call":"launch","name":"jupyter.widget","uuid":"{uuid}","state":{state},"buffer_paths":{path},"buffers":["AQI="]}}'
-        push = f'{{"call":"push","id":"a","state":{state},"buffer_paths":{path},"buffers":["AQI="]}}'
+        placed = f'"state":{state},"buffer_paths":{path},"buffers":["AQI="]'
+        launch = f'{{"call":"launch","name":"jupyter.widget","uuid":"{uuid}",{placed}}}'
+        push = f'{{"call":"push","id":"a",{placed}}}'
         send = f'{{"call":"send","id":"e","data":{state}}}'
         if depth > DEEPEST:
             for line in (launch, push, send):
                 script.bad(line, "not_json")
             continue
         script.change(launch, "launched")
-        script.sends("comm_open", uuid, f'{{"buffer_paths":{path},"state":{bare}}}', '["AQI="]', more=',"target_name":"jupyter.widget"', metadata='{"version":"2.1.0"}')
+        script.sends(
+            "comm_open",
+            uuid,
+            f'{{"buffer_paths":{path},"state":{bare}}}',
+            '["AQI="]',
+            more=',"target_name":"jupyter.widget"',
+            metadata='{"version":"2.1.0"}',
+        )
         script.change(push, "delivered")
         script.sends("comm_msg", "a", of_update(bare, path), '["AQI="]')
         script.change(send, "delivered")

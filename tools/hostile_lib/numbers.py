@@ -1,5 +1,6 @@
-"""Numbers at every bound: whole ones, others that a float can hold, and what is no number or none that a float can hold. A number that lies
-nearer to the greatest float than to what would come next is held by it: 1.7976931348623158e308, and not 1.7976931348623159e308."""
+"""Numbers at every bound: whole ones, others that a float can hold, and what is no number or none that a float can
+hold. A number that lies nearer to the greatest float than to what would come next is held by it:
+1.7976931348623158e308, and not 1.7976931348623159e308."""
 from .script import WIDGETS, Script, close, message, msg, of_state, update, with_echo, with_widget
 
 MOST = 2**64 - 1
@@ -14,17 +15,39 @@ def whole():
 
 
 FLOATS = """
-18446744073709551616 -9223372036854775809 36893488147419103232 99999999999999999999 123456789012345678901234567890 -0 -0.0 0.0 1.0 -1.0 1.5
-0.1 10.0 1e0 1E0 1e2 1E2 1e+2 1e-2 1E+02 0e0 0e1 0E-1 0e99999999999 -0e0 -0e400 1e15 1e19 1e20 1e308 -1e308 1.7e308 1.7976931348623157e308 1.7976931348623158e308
-5e-324 2.2250738585072014e-308 1e-400 -1e-400 1e-99999999999 0.00000000000000000001 9007199254740993.0 18446744073709551615.0
+18446744073709551616 -9223372036854775809 36893488147419103232 99999999999999999999 123456789012345678901234567890 -0
+-0.0 0.0 1.0 -1.0 1.5
+0.1 10.0 1e0 1E0 1e2 1E2 1e+2 1e-2 1E+02 0e0 0e1 0E-1 0e99999999999 -0e0 -0e400 1e15 1e19 1e20 1e308 -1e308 1.7e308
+1.7976931348623157e308 1.7976931348623158e308
+5e-324 2.2250738585072014e-308 1e-400 -1e-400 1e-99999999999 0.00000000000000000001 9007199254740993.0
+18446744073709551615.0
 -9223372036854775808.0 18446744073709551615e0 0.9999999999999999999999999999999999999999
 """.split()
-FLOATS += ["1" + "0" * 308, "0." + "0" * 400 + "1", "1" + "0" * 400 + "e-400", "0." + "0" * 400 + "1e400", "1." + "5" * 1000]
+FLOATS += [
+    "1" + "0" * 308,
+    "0." + "0" * 400 + "1",
+    "1" + "0" * 400 + "e-400",
+    "0." + "0" * 400 + "1e400",
+    "1." + "5" * 1000,
+]
 
 NEITHER = """
-1e400 -1e400 1e309 2e308 -2e308 1.7976931348623159e308 1e99999999999 1e999999999999999999999999 01 -01 00 -00 000 01.5 1. -1. .5 -.5 - -- +1 +0 -+1 --1 1.e2 1e 1E 1e+ 1e-
-1e+-2 1e.5 1.5.5 1..5 1e5e5 1e5.5 0x10 0b1 0o7 1_000 1,000.0 1f 1u 1n 1l 0x 1a Infinity -Infinity NaN nan inf -inf - 1- 1+ 1/2 ٣ ½ ∞ −1
-""".split() + ["1 2", "1 000", "- 1", "1 .5", "1. 5", "1 e5", "1e 5", "1" + "0" * 400, "9" * 400 + ".5", "1" * 400 + "e10"]
+1e400 -1e400 1e309 2e308 -2e308 1.7976931348623159e308 1e99999999999 1e999999999999999999999999 01 -01 00 -00 000 01.5
+1. -1. .5 -.5 - -- +1 +0 -+1 --1 1.e2 1e 1E 1e+ 1e-
+1e+-2 1e.5 1.5.5 1..5 1e5e5 1e5.5 0x10 0b1 0o7 1_000 1,000.0 1f 1u 1n 1l 0x 1a Infinity -Infinity NaN nan inf -inf -
+1- 1+ 1/2 ٣ ½ ∞ −1
+""".split() + [
+    "1 2",
+    "1 000",
+    "- 1",
+    "1 .5",
+    "1. 5",
+    "1 e5",
+    "1e 5",
+    "1" + "0" * 400,
+    "9" * 400 + ".5",
+    "1" * 400 + "e10",
+]
 
 
 def in_data():
@@ -61,7 +84,9 @@ def elsewhere():
     script = with_echo()
     for it in whole() + FLOATS:
         script.change(message("comm_close", f'"comm_id":"q","data":{{"n":{it}}}'), "no_comm")
-        script.change(message("comm_close", f'"comm_id":"q","x":{it}', f',"x":[{it}],"metadata":{{"version":{it}}}'), "no_comm")
+        script.change(
+            message("comm_close", f'"comm_id":"q","x":{it}', f',"x":[{it}],"metadata":{{"version":{it}}}'), "no_comm"
+        )
         script.add(f'{{"call":"state","id":"q","data":{it},"name":{it}}}', f"state {script.changes} no_comm")
         script.bad(message("comm_close", f'"comm_id":{it}'), "bad_content comm_id")
         script.bad(f'{{"call":{it}}}', "unknown_call")
@@ -102,4 +127,6 @@ def of_steps(widgets):
 
 
 def cases():
-    return [in_data(), elsewhere(), of_clients()] + [make(widgets) for make in (in_states, of_steps) for widgets in WIDGETS]
+    return [in_data(), elsewhere(), of_clients()] + [
+        make(widgets) for make in (in_states, of_steps) for widgets in WIDGETS
+    ]

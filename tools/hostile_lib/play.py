@@ -16,17 +16,21 @@ def difference(given, wanted):
     """Where the bytes first differ, in words."""
     at = next((it for it, pair in enumerate(zip(given, wanted)) if pair[0] != pair[1]), min(len(given), len(wanted)))
     line = given.count(b"\n", 0, at) + 1
-    return f"answer {line}, byte {at}: {given[max(0, at - 60) : at + 60]!r} in the place of {wanted[max(0, at - 60) : at + 60]!r}"
+    here = slice(max(0, at - 60), at + 60)
+    return f"answer {line}, byte {at}: {given[here]!r} in the place of {wanted[here]!r}"
 
 
 def fault_of(program, way, case, stack, seconds=600):
-    """What is wrong with how the program plays the case, or nothing. What nests deep has a stack of so many KiB; 0: as it comes."""
+    """What is wrong with how the program plays the case, or nothing. What nests deep has a stack of so many KiB; 0: as
+    it comes."""
     with tempfile.TemporaryFile() as script:
         script.write(case.script)
         script.seek(0)
         limit = limited(stack) if case.is_deep and stack else None
         try:
-            ran = subprocess.run([program, *way], stdin=script, capture_output=True, timeout=seconds, preexec_fn=limit, env={})
+            ran = subprocess.run(
+                [program, *way], stdin=script, capture_output=True, timeout=seconds, preexec_fn=limit, env={}
+            )
         except subprocess.TimeoutExpired:
             return f"no end after {seconds} seconds"
     if ran.returncode != 0:

@@ -11,8 +11,8 @@ WIDGETS = ("widget", "widget_echo")
 
 @dataclass(frozen=True)
 class Case:
-    """A script, and what must be written for it, over the shared manager too where that isn't said by itself. What nests deep is played with a
-    small stack."""
+    """A script, and what must be written for it, over the shared manager too where that isn't said by itself. What
+    nests deep is played with a small stack."""
 
     name: str
     script: bytes
@@ -96,7 +96,9 @@ class Script:
         """The last change sends this message."""
         content = f'{{"comm_id":{written(comm)},"data":{data}{more}}}'
         head = f'"call":{self.calls[client]},"client":{client},"content":{content}'
-        self.wanted.append(f'out {{"buffers":{buffers},{head},"header":{{"msg_type":"{kind}"}},"metadata":{metadata}}}'.encode())
+        self.wanted.append(
+            f'out {{"buffers":{buffers},{head},"header":{{"msg_type":"{kind}"}},"metadata":{metadata}}}'.encode()
+        )
 
     def state(self, words, comm="a"):
         self.add(f'{{"call":"state","id":"{comm}"}}', f"state {self.changes} {words}")
@@ -105,13 +107,17 @@ class Script:
         """The comms of one target, in the order of their ids' bytes."""
         listed = ",".join(f'{written(it)}:{{"target_name":{written(target)}}}' for it in comms)
         head = f'"buffers":[],"client":{client},"content":{{"comms":{{{listed}}},"status":"ok"}},"front":{self.changes}'
-        self.add(f'{{"client":{client},"header":{{"msg_type":"comm_info_request"}}}}', f'out {{{head},"header":{{"msg_type":"comm_info_reply"}},"metadata":{{}}}}')
+        self.add(
+            f'{{"client":{client},"header":{{"msg_type":"comm_info_request"}}}}',
+            f'out {{{head},"header":{{"msg_type":"comm_info_reply"}},"metadata":{{}}}}',
+        )
 
     def registers_widgets(self):
         self.change(f'{{"call":"register","kind":"{self.kind}","name":"jupyter.widget"}}', "registered")
 
     def updates(self, state, paths="[]", buffers="[]", comm="a", told=None):
-        """A widget takes an update. `told` is the state that it brings, its paths and buffers as the answers have them, where they aren't as given."""
+        """A widget takes an update. `told` is the state that it brings, its paths and buffers as the answers have them,
+        where they aren't as given."""
         self.change(update(state, paths, buffers, comm), "delivered")
         plain, places, placed = told or (state, paths, buffers)
         if self.kind == "widget_echo" and (plain, places) != ("{}", "[]"):
@@ -131,7 +137,8 @@ class Script:
         return b"".join(it + b"\n" for it in self.wanted)
 
     def case(self, name, is_deep=False, end=b"\n", shared=None):
-        """A case of this script; `shared` has the same lines, and what is answered to them over the shared manager, where that differs."""
+        """A case of this script; `shared` has the same lines, and what is answered to them over the shared manager,
+        where that differs."""
         name += ", where widgets echo" if self.kind == "widget_echo" else ""
         return Case(name, b"\n".join(self.given) + end, self.answers(), is_deep, shared and shared.answers())
 

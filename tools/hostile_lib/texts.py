@@ -1,14 +1,38 @@
-"""Texts: every escape, surrogates alone and in pairs, bytes that no text may have, and UTF-8 that isn't any, at each place of a line."""
+"""Texts: every escape, surrogates alone and in pairs, bytes that no text may have, and UTF-8 that isn't any, at each
+place of a line."""
 from .script import Script, close, message, msg, with_echo, written
 
 LETTERS = {'"': '"', "\\": "\\", "/": "/", "b": "\b", "f": "\f", "n": "\n", "r": "\r", "t": "\t"}
 
 # The first and the last of each length, and what stands beside the surrogates.
-EDGES = [0x20, 0x7E, 0x7F, 0x80, 0x9F, 0xA0, 0x7FF, 0x800, 0x2028, 0x2029, 0xD7FF, 0xE000, 0xFDD0, 0xFEFF, 0xFFFD, 0xFFFE, 0xFFFF, 0x10000, 0x1F600, 0x10FFFF]
+EDGES = [
+    0x20,
+    0x7E,
+    0x7F,
+    0x80,
+    0x9F,
+    0xA0,
+    0x7FF,
+    0x800,
+    0x2028,
+    0x2029,
+    0xD7FF,
+    0xE000,
+    0xFDD0,
+    0xFEFF,
+    0xFFFD,
+    0xFFFE,
+    0xFFFF,
+    0x10000,
+    0x1F600,
+    0x10FFFF,
+]
 
 NO_UTF8 = """
-80 bf c0 c080 c1 c1bf c2 c3 df e0 e080 e08080 e09fbf e1 e180 eda080 edadbf edb080 edbfbf eda0bdedb880 ef ef80 efbf f0 f080 f08080 f0808080
-f08fbfbf f09f f09f98 f48fbf f4908080 f4bfbfbf f5 f5808080 f7bfbfbf f8 f888808080 fbbfbfbfbf fc fc8480808080 fdbfbfbfbfbf fe ff fffe feff c2c2 c220 e28220
+80 bf c0 c080 c1 c1bf c2 c3 df e0 e080 e08080 e09fbf e1 e180 eda080 edadbf edb080 edbfbf eda0bdedb880 ef ef80 efbf f0
+f080 f08080 f0808080
+f08fbfbf f09f f09f98 f48fbf f4908080 f4bfbfbf f5 f5808080 f7bfbfbf f8 f888808080 fbbfbfbfbf fc fc8480808080
+fdbfbfbfbfbf fe ff fffe feff c2c2 c220 e28220
 """.split()
 
 
@@ -57,7 +81,25 @@ def no_escapes():
             refused_text(script, f"\\{chr(byte)}")
         if byte < 0x20 and byte != 0x0A:
             refused_text(script, f"a{chr(byte)}b")
-    for it in ("\\u", "\\u1", "\\u12", "\\u123", "\\u123g", "\\u 123", "\\u+123", "\\u-123", "\\u12 3", "\\u0x41", "\\u{41}", "\\U0041", "\\x41", "\\'", "\\u١٢٣٤", "\\é", "\\"):
+    for it in (
+        "\\u",
+        "\\u1",
+        "\\u12",
+        "\\u123",
+        "\\u123g",
+        "\\u 123",
+        "\\u+123",
+        "\\u-123",
+        "\\u12 3",
+        "\\u0x41",
+        "\\u{41}",
+        "\\U0041",
+        "\\x41",
+        "\\'",
+        "\\u١٢٣٤",
+        "\\é",
+        "\\",
+    ):
         refused_text(script, it)
         refused_text(script, f"{it} \\n")
     for it in ('"', '"x', '"x\\', '"x\\"', "'x'", "x", "“x”"):
@@ -71,8 +113,27 @@ def surrogates():
         script.bad(msg(f'{{"x":"\\u{unit:04x}"}}'), "not_json")
         script.bad(msg(f'{{"\\u{unit:04X}":1}}'), "not_json")
     high, low = "\\ud83d", "\\ude00"
-    for it in (high + "x", high + "\\n", high + "\\\\", high + "\\u0041", high + high, high + high + low, low + high, low + low, high + "\\u", high + "\\", high + "\\ude0 ", high + "😀",
-               high + " " + low, high + "\\uE000", high + "\\uD7FF", "\\uDBFF\\uDBFF", "\\uDC00\\uDC00", high + low + low, high + low + high):
+    for it in (
+        high + "x",
+        high + "\\n",
+        high + "\\\\",
+        high + "\\u0041",
+        high + high,
+        high + high + low,
+        low + high,
+        low + low,
+        high + "\\u",
+        high + "\\",
+        high + "\\ude0 ",
+        high + "😀",
+        high + " " + low,
+        high + "\\uE000",
+        high + "\\uD7FF",
+        "\\uDBFF\\uDBFF",
+        "\\uDC00\\uDC00",
+        high + low + low,
+        high + low + high,
+    ):
         refused_text(script, it)
         refused_text(script, f"a{it}b")
     return script.case("surrogates")
@@ -96,7 +157,8 @@ def no_utf8():
 
 
 def broken_bytes():
-    """Each byte of a line in turn taken away, or put in the place of each other one, where that leaves no JSON object for sure."""
+    """Each byte of a line in turn taken away, or put in the place of each other one, where that leaves no JSON object
+    for sure."""
     script = Script()
     line = close("q").encode()
     for at, byte in enumerate(line):
@@ -106,7 +168,20 @@ def broken_bytes():
             if other not in (0x09, 0x0A, 0x0D):
                 script.bad(line[:at] + bytes([other]) + line[at:], "not_json")
         script.bad(line[:at] + b"\x00" + line[at + 1 :], "not_json")
-    for it in (b"x", b"{}", b",", b"]", b"}", b"\x00", b"\x0b", b"\x0c", b"\xa0", "\u00a0".encode(), "\u2028".encode(), "\ufeff".encode()):
+    for it in (
+        b"x",
+        b"{}",
+        b",",
+        b"]",
+        b"}",
+        b"\x00",
+        b"\x0b",
+        b"\x0c",
+        b"\xa0",
+        "\u00a0".encode(),
+        "\u2028".encode(),
+        "\ufeff".encode(),
+    ):
         script.bad(line + it, "not_json")
         script.bad(it + line, "not_json")
         script.bad(line + b" " + it, "not_json")
@@ -120,11 +195,16 @@ def names():
     """Any text is an id or a name, and they are listed in the order of their bytes."""
     script = Script()
     script.change('{"call":"register","kind":"echo","name":"\\u0000"}', "registered")
-    texts = sorted({chr(it) for it in [*range(0x20), *EDGES]} | {"", '"', "\\", "a" * 10_000, "😀" * 1000, "\uffff\U00010000"}, key=lambda it: it.encode())
+    texts = sorted(
+        {chr(it) for it in [*range(0x20), *EDGES]} | {"", '"', "\\", "a" * 10_000, "😀" * 1000, "\uffff\U00010000"},
+        key=lambda it: it.encode(),
+    )
     for it in reversed(texts):
         script.change(message("comm_open", f'"comm_id":{written(it)},"target_name":"\\u0000"'), "opened")
     script.lists(texts, "\0")
-    script.change('{"call":"unregister","name":"\\u0000"}', f"unregistered [{','.join(written(it) for it in reversed(texts))}]")
+    script.change(
+        '{"call":"unregister","name":"\\u0000"}', f"unregistered [{','.join(written(it) for it in reversed(texts))}]"
+    )
     for it in reversed(texts):
         script.sends("comm_close", it)
     return script.case("texts as names")

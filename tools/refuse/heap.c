@@ -2,22 +2,25 @@
 
    A request of one of five sizes, which no heap can grant, is a word of the test (crates/test_support/src/heap.rt):
      MARK         from here on blocks are counted; granted
-     REFUSE + n   from here on requests are counted, and the one of number n (malloc, calloc or realloc) is refused, once; granted
+     REFUSE + n   from here on requests are counted, and the one of number n (malloc, calloc or realloc) is refused,
+                  once; granted
      ABOVE + n    from here on each request of more than n bytes is refused; granted
      REFUSED      from here on no request is refused; granted if one was refused since REFUSE or ABOVE
      LEAKED       granted if more blocks are held than at MARK
-   A program says no word: with REFUSE_AT=n in the environment the request of number n of the whole process is refused, once.
-   At the end of the process one line goes to the descriptor REFUSE_TO: 'asked=A refused=R', A being the words REFUSE + n and ABOVE + n, and
-   R the refusals. It needs no header, so that the kit's clang alone compiles it. */
+   A program says no word: with REFUSE_AT=n in the environment the request of number n of the whole process is refused,
+   once. At the end of the process one line goes to the descriptor REFUSE_TO: 'asked=A refused=R', A being the words
+   REFUSE + n and ABOVE + n, and R the refusals. It needs no header, so that the kit's clang alone compiles it. */
 typedef unsigned long size;
-extern void *__libc_malloc(size), *__libc_calloc(size, size), *__libc_realloc(void *, size), *__libc_memalign(size, size);
+extern void *__libc_malloc(size), *__libc_calloc(size, size), *__libc_realloc(void *, size);
+extern void *__libc_memalign(size, size);
 extern void __libc_free(void *);
 extern char *getenv(const char *);
 extern long write(int, const void *, size);
 extern int *__errno_location(void);
 extern void _Exit(int) __attribute__((noreturn));
 
-static const size REFUSE = 0x5EED000100000000, REFUSED = 0x5EED000200000000, LEAKED = 0x5EED000300000000, MARK = 0x5EED000400000000;
+static const size REFUSE = 0x5EED000100000000, REFUSED = 0x5EED000200000000, LEAKED = 0x5EED000300000000;
+static const size MARK = 0x5EED000400000000;
 static const size ABOVE = 0x5EED000500000000, ANY = 0xFFFFFFFFFFFFFFFF;
 static const int NO_MEMORY = 12, BAD_ALIGNMENT = 22;
 

@@ -13,8 +13,8 @@ NUMBERED = re.compile(rb"(reply|state|bad|unavailable) %b .*" % NUMBER, re.DOTAL
 
 @dataclass
 class Answer:
-    """Of a line: what its client had seen before and after it, and what was written for it. `kind` is reply, state, info, bad or unavailable; `number`
-    the reply's, the front, or the line's."""
+    """Of a line: what its client had seen before and after it, and what was written for it. `kind` is reply, state,
+    info, bad or unavailable; `number` the reply's, the front, or the line's."""
 
     line: int
     client: int
@@ -32,7 +32,8 @@ class Answer:
 
 @dataclass
 class Entry:
-    """Of the history: its number, whose it is, the number of the call among its client's, its line, the reply, and what it sends."""
+    """Of the history: its number, whose it is, the number of the call among its client's, its line, the reply, and what
+    it sends."""
 
     number: int
     client: int
@@ -103,7 +104,9 @@ def read_run(text):
 
 def written(run):
     """The text of a run."""
-    lines = [b"line %d client %d seen %d %d %b" % (it.line, it.client, it.before, it.after, it.text()) for it in run.answers]
+    lines = [
+        b"line %d client %d seen %d %d %b" % (it.line, it.client, it.before, it.after, it.text()) for it in run.answers
+    ]
     for it in run.entries:
         lines.append(b"entry %d client %d call %d line %d %b" % (it.number, it.client, it.call, it.line, it.words))
         lines += [b"out " + out for out in it.outs]

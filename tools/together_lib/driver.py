@@ -8,7 +8,8 @@ INFO_END = b',"header":{"msg_type":"comm_info_reply"},"metadata":{}}'
 
 @dataclass
 class Told:
-    """What is written for a line: `kind` is reply, state, info or bad; `number` the reply's, the front, or the line's."""
+    """What is written for a line: `kind` is reply, state, info or bad; `number` the reply's, the front, or the
+    line's."""
 
     kind: str
     number: int
@@ -64,7 +65,9 @@ class Driver:
 
     def told(self, texts):
         try:
-            ran = subprocess.run([self.program], input=b"".join(it + b"\n" for it in texts), capture_output=True, timeout=self.seconds)
+            ran = subprocess.run(
+                [self.program], input=b"".join(it + b"\n" for it in texts), capture_output=True, timeout=self.seconds
+            )
         except subprocess.TimeoutExpired:
             raise DriverFault(f"the driver has no end after {self.seconds} seconds") from None
         if ran.returncode != 0 or ran.stderr:

@@ -60,4 +60,10 @@ def unmake(run, entry, kind, words):
 def comm_of(line):
     """The id of the comm that a line is about, or None."""
     content = line.fields.get("content")
-    return line.fields.get("id") if "call" in line.fields else content.get("comm_id") if isinstance(content, dict) else None
+    return (
+        line.fields.get("id")
+        if "call" in line.fields
+        else content.get("comm_id")
+        if isinstance(content, dict)
+        else None
+    )

@@ -1,4 +1,5 @@
-"""Runs falsified on purpose: each function changes a true run, and says whether there was a place for it. Beside each stands the rule that must find it."""
+"""Runs falsified on purpose: each function changes a true run, and says whether there was a place for it. Beside each
+stands the rule that must find it."""
 from copy import deepcopy
 
 from together_lib.answers import written
@@ -24,16 +25,29 @@ def entries_swapped(run, asked, chance):
 
 
 def are_exchangeable(run, asked, first, second):
-    """Whether two neighbours may change places for all that anybody saw, and would be answered otherwise then: the first opens or closes a comm, and the
-    second is about it."""
-    if first.client == second.client or first.words not in (b"opened", b"closed") or comm_of(asked[first.line].line) is None:
+    """Whether two neighbours may change places for all that anybody saw, and would be answered otherwise then: the
+    first opens or closes a comm, and the second is about it."""
+    if (
+        first.client == second.client
+        or first.words not in (b"opened", b"closed")
+        or comm_of(asked[first.line].line) is None
+    ):
         return False
-    if comm_of(asked[first.line].line) != comm_of(asked[second.line].line) or answer_of(run, second).before >= first.number:
+    if (
+        comm_of(asked[first.line].line) != comm_of(asked[second.line].line)
+        or answer_of(run, second).before >= first.number
+    ):
         return False
     others = [it for it in run.answers if it.kind in READS or it.before != it.after]
     at_first = [it for it in run.answers if it.kind in READS and it.number == first.number]
-    strangers = [it for it in others for entry in (first, second) if it.client != entry.client and it.before == entry.number]
-    return not at_first and not strangers and not any(it.before == first.number and it.client != first.client for it in run.answers)
+    strangers = [
+        it for it in others for entry in (first, second) if it.client != entry.client and it.before == entry.number
+    ]
+    return (
+        not at_first
+        and not strangers
+        and not any(it.before == first.number and it.client != first.client for it in run.answers)
+    )
 
 
 def entries_swapped_throughout(run, asked, chance):
@@ -106,7 +120,8 @@ def read_back_behind_seen(run, asked, chance):
 
 
 def shows(it, entry, asked):
-    """Whether what a read gives at the front that the entry ends is another than before it, by what the entry says of itself."""
+    """Whether what a read gives at the front that the entry ends is another than before it, by what the entry says of
+    itself."""
     if it.kind == "info":
         is_of_all = (asked[it.line].line.fields.get("content") or {}).get("target_name") is None
         return is_of_all and entry.words in (b"opened", b"launched", b"closed")
@@ -114,7 +129,9 @@ def shows(it, entry, asked):
 
 
 def read_back_by_one_front(run, asked, chance):
-    it = one(chance, (it for it in reads(run) if it.before < it.number and shows(it, run.entries[it.number - 1], asked)))
+    it = one(
+        chance, (it for it in reads(run) if it.before < it.number and shows(it, run.entries[it.number - 1], asked))
+    )
     if it is None:
         return False
     read_at(run, it, it.number - 1)
@@ -214,7 +231,11 @@ def seen_shorter(run, asked, chance):
 
 def change_before_what_was_seen(run, asked, chance):
     """A read gives the front of the change that its client makes next."""
-    pairs = [it for it in zip(run.answers, run.answers[1:]) if it[0].client == it[1].client and it[0].kind in READS and it[1].kind == "reply"]
+    pairs = [
+        it
+        for it in zip(run.answers, run.answers[1:])
+        if it[0].client == it[1].client and it[0].kind in READS and it[1].kind == "reply"
+    ]
     pair = one(chance, (it for it in pairs if it[1].before == it[0].after))
     if pair is None:
         return False
@@ -233,8 +254,22 @@ def seen_of_nobody(run, asked, chance):
 
 def heard_of_a_third(run, asked, chance):
     """What a client heard isn't the heard one's."""
-    it = one(chance, (it for it in run.answers if asked[it.line].heard is not None and it.before < it.after - 1 and it.kind in ("reply", *READS)))
-    number = it and one(chance, (entry.number for entry in run.entries if it.before < entry.number < it.after and entry.client != asked[it.line].heard))
+    it = one(
+        chance,
+        (
+            it
+            for it in run.answers
+            if asked[it.line].heard is not None and it.before < it.after - 1 and it.kind in ("reply", *READS)
+        ),
+    )
+    number = it and one(
+        chance,
+        (
+            entry.number
+            for entry in run.entries
+            if it.before < entry.number < it.after and entry.client != asked[it.line].heard
+        ),
+    )
     if number is None:
         return False
     it.before = number
@@ -307,7 +342,8 @@ WAYS = {
 
 
 def texts(run, asked, chance):
-    """Of each way that has a place in this run: its name, the rule that must find it, and what such a run would have written."""
+    """Of each way that has a place in this run: its name, the rule that must find it, and what such a run would have
+    written."""
     for way, rule in WAYS.items():
         changed = deepcopy(run)
         if way(changed, asked, chance):

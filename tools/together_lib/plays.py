@@ -31,18 +31,24 @@ class Tally:
         self.changes += len(run.entries)
         self.reads += sum(it.kind in READS for it in run.answers)
         self.newer += sum(it.kind in READS and it.after > it.before for it in run.answers)
-        self.heard += sum(one.client == other.client and other.before > one.after for one, other in zip(run.answers, run.answers[1:]))
+        self.heard += sum(
+            one.client == other.client and other.before > one.after for one, other in zip(run.answers, run.answers[1:])
+        )
         self.turns += sum(one.client != other.client for one, other in zip(run.entries, run.entries[1:]))
 
     def told(self, again):
-        """In words. How often a change stands behind one of another client says how much the threads were in each other's way."""
+        """In words. How often a change stands behind one of another client says how much the threads were in each
+        other's way."""
         most = max(self.changes, 1)
-        yield f"{self.runs} runs, {self.answers} lines: {self.changes} changes, {100 * self.turns / most:.0f} % of them next to one of another client;"
+        turns = f"{100 * self.turns / most:.0f} % of them next to one of another client;"
+        yield f"{self.runs} runs, {self.answers} lines: {self.changes} changes, {turns}"
         newer = f"{100 * self.newer / max(self.reads, 1):.0f} %"
-        yield f"{self.reads} reads, {newer} of them newer than all that their client had seen; at {self.heard} lines something new was heard"
+        heard = f"at {self.heard} lines something new was heard"
+        yield f"{self.reads} reads, {newer} of them newer than all that their client had seen; {heard}"
         if again > 1 and self.histories:
             mean = sum(self.histories) / len(self.histories)
-            yield f"one script gave {mean:.1f} histories in {again} runs ({min(self.histories)} to {max(self.histories)}, of {len(self.histories)} scripts)"
+            spread = f"{min(self.histories)} to {max(self.histories)}, of {len(self.histories)} scripts"
+            yield f"one script gave {mean:.1f} histories in {again} runs ({spread})"
 
 
 class Plays:

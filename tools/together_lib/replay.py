@@ -10,7 +10,8 @@ def difference(given, wanted):
 
 
 def in_order(asked, run):
-    """The lines of the history, and each read after as many changes as its front has: what was written, and the line."""
+    """The lines of the history, and each read after as many changes as its front has: what was written, and the
+    line."""
     reads = {}
     for it in run.answers:
         if it.kind in READS:
@@ -24,12 +25,22 @@ def in_order(asked, run):
 
 def entry_faults(entry, told):
     if (told.kind, told.number) != ("reply", entry.number):
-        yield Fault("replay", f"entry {entry.number} of line {entry.line}: the one-thread manager tells {told.kind} {told.number} {told.words[:100]!r}")
+        yield Fault(
+            "replay",
+            f"entry {entry.number} of line {entry.line}: the one-thread manager tells "
+            f"{told.kind} {told.number} {told.words[:100]!r}",
+        )
         return
     if told.words != entry.words:
-        yield Fault("replay", f"the reply of entry {entry.number}, line {entry.line}: {difference(entry.words, told.words)}")
+        yield Fault(
+            "replay", f"the reply of entry {entry.number}, line {entry.line}: {difference(entry.words, told.words)}"
+        )
     if told.outs != entry.outs:
-        yield Fault("replay", f"what entry {entry.number}, line {entry.line}, sends: {difference(b' '.join(entry.outs), b' '.join(told.outs))}")
+        yield Fault(
+            "replay",
+            f"what entry {entry.number}, line {entry.line}, sends: "
+            f"{difference(b' '.join(entry.outs), b' '.join(told.outs))}",
+        )
 
 
 def replayed(asked, run, driver):

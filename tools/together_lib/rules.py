@@ -19,8 +19,9 @@ class Fault:
 
 @dataclass(frozen=True)
 class Asked:
-    """What is known of a line before the run: the line, and what the one-thread manager told of it where it played the script as it stands. Its state
-    doesn't matter then, but for `no_stock`: whether the line can be read, and whether it is a read or a change."""
+    """What is known of a line before the run: the line, and what the one-thread manager told of it where it played the
+    script as it stands. Its state doesn't matter then, but for `no_stock`: whether the line can be read, and whether it
+    is a read or a change."""
 
     line: object
     told: object
@@ -65,7 +66,8 @@ def lines_answered(asked, run):
 
 
 def kinds_fit(asked, run):
-    """A line that can't be read is told bad, by the same words; a read is answered by a read, and a change by a reply, if there is room and stock."""
+    """A line that can't be read is told bad, by the same words; a read is answered by a read, and a change by a reply,
+    if there is room and stock."""
     for it in run.answers:
         told = asked[it.line].told
         if it.kind in ("bad", "unavailable") and it.number != it.line:
@@ -84,7 +86,8 @@ def kinds_fit(asked, run):
 
 
 def room_is_out(asked, run):
-    """A change that isn't made finds the history full. Where too many entries wait to be taken it is tried again, and not told."""
+    """A change that isn't made finds the history full. Where too many entries wait to be taken it is tried again, and
+    not told."""
     for it in run.answers:
         if it.kind == "unavailable" and (it.words != b"history_full" or len(run.entries) < HISTORY):
             yield Fault("unavailable", f"line {it.line} isn't made for {it.words!r}, with {len(run.entries)} entries")
@@ -105,16 +108,21 @@ def stock_is_out(asked, run):
 
 
 def entries_belong(asked, run):
-    """Entries are numbered from 1; each belongs to one change that was answered, by its number, client, line and reply; and each such change has one."""
+    """Entries are numbered from 1; each belongs to one change that was answered, by its number, client, line and reply;
+    and each such change has one."""
     for place, it in enumerate(run.entries, 1):
         if it.number != place:
             yield Fault("entries", f"entry {it.number} stands at place {place}")
     answered = [(it.number, it.client, it.line, it.words) for it in run.answers if it.kind == "reply"]
     listed = [(it.number, it.client, it.line, it.words) for it in run.entries]
     for number, client, line, words in sorted(set(answered) - set(listed)):
-        yield Fault("entries", f"the history hasn't the change {number} of client {client}, line {line}, {words[:60]!r}")
+        yield Fault(
+            "entries", f"the history hasn't the change {number} of client {client}, line {line}, {words[:60]!r}"
+        )
     for number, client, line, words in sorted(set(listed) - set(answered)):
-        yield Fault("entries", f"nothing was answered as entry {number} of client {client}, line {line}, {words[:60]!r}, is")
+        yield Fault(
+            "entries", f"nothing was answered as entry {number} of client {client}, line {line}, {words[:60]!r}, is"
+        )
     if len(listed) != len(set(listed)) or len(answered) != len(listed):
         yield Fault("entries", f"{len(answered)} changes were answered, and {len(listed)} are in the history")
 
@@ -125,43 +133,71 @@ def calls_count(asked, run):
     for it in run.entries:
         calls[it.client] = calls.get(it.client, 0) + 1
         if it.call != calls[it.client]:
-            yield Fault("calls", f"entry {it.number} is call {it.call} of client {it.client}, and its call {calls[it.client]} by the history")
+            yield Fault(
+                "calls",
+                f"entry {it.number} is call {it.call} of client {it.client}, "
+                f"and its call {calls[it.client]} by the history",
+            )
         if it.line <= lines.get(it.client, 0):
-            yield Fault("calls", f"entry {it.number} of line {it.line} comes after line {lines[it.client]} of client {it.client}")
+            yield Fault(
+                "calls",
+                f"entry {it.number} of line {it.line} comes after line {lines[it.client]} of client {it.client}",
+            )
         lines[it.client] = it.line
 
 
 def heard_at(asked, run, it, seen):
-    """Whether a client that had seen so much can have seen what it had before this line: the same, or more by a stamp of the client that it heard."""
+    """Whether a client that had seen so much can have seen what it had before this line: the same, or more by a stamp
+    of the client that it heard."""
     heard = asked[it.line].heard
     if it.before == seen:
         return True
-    return it.before > seen and heard not in (None, it.client) and any(it.before == entry.number for entry in run.entries if entry.client == heard)
+    return (
+        it.before > seen
+        and heard not in (None, it.client)
+        and any(it.before == entry.number for entry in run.entries if entry.client == heard)
+    )
 
 
 def seen_grows(asked, run):
-    """Nobody's seen becomes shorter; it grows by what is heard before a line, by a read to its front, and by a change to its place, which is after all
-    that its client had seen."""
+    """Nobody's seen becomes shorter; it grows by what is heard before a line, by a read to its front, and by a change
+    to its place, which is after all that its client had seen."""
     for client in {it.client for it in run.answers}:
         seen = 0
         for it in run.of_client(client):
             if it.before < seen or it.after < it.before:
-                yield Fault("seen", f"client {client} had seen {seen}, at line {it.line} {it.before}, and then {it.after}")
+                yield Fault(
+                    "seen", f"client {client} had seen {seen}, at line {it.line} {it.before}, and then {it.after}"
+                )
             elif not heard_at(asked, run, it, seen):
-                yield Fault("heard", f"client {client} had seen {seen}, and {it.before} at line {it.line}, which is nothing that it heard")
+                yield Fault(
+                    "heard",
+                    f"client {client} had seen {seen}, and {it.before} at line {it.line}, "
+                    "which is nothing that it heard",
+                )
             if it.kind == "reply" and it.number <= it.before:
-                yield Fault("order", f"line {it.line} makes the change {it.number}, and its client had seen {it.before}")
+                yield Fault(
+                    "order", f"line {it.line} makes the change {it.number}, and its client had seen {it.before}"
+                )
             if it.after != (it.before if it.kind in ("bad", "unavailable") else it.number):
-                yield Fault("seen", f"client {client} has seen {it.after} after line {it.line}, which was answered {it.text()[:100]!r}")
+                yield Fault(
+                    "seen",
+                    f"client {client} has seen {it.after} after line {it.line}, which was answered {it.text()[:100]!r}",
+                )
             if it.after > len(run.entries):
-                yield Fault("seen", f"client {client} has seen {it.after} after line {it.line}, of {len(run.entries)} entries")
+                yield Fault(
+                    "seen", f"client {client} has seen {it.after} after line {it.line}, of {len(run.entries)} entries"
+                )
             seen = it.after
 
 
 def all_is_taken_once(asked, run):
-    """What was taken and what wasn't is the history with its end, which is put in last, when nothing is taken any more."""
+    """What was taken and what wasn't is the history with its end, which is put in last, when nothing is taken any
+    more."""
     if run.taken + run.untaken != len(run.entries) + 1 or run.untaken < 1:
-        yield Fault("end", f"{run.taken} were taken and {run.untaken} weren't, of {len(run.entries)} entries and the end")
+        yield Fault(
+            "end", f"{run.taken} were taken and {run.untaken} weren't, of {len(run.entries)} entries and the end"
+        )
 
 
 # Those that rest on the two about answers; a replay rests on the entries' too.

@@ -1,4 +1,5 @@
-"""Random scripts of several clients who have ids and names in common, so that what comes of a line depends on the others."""
+"""Random scripts of several clients who have ids and names in common, so that what comes of a line depends on the
+others."""
 import json
 
 from fuzz_lib.scripts import Scripts
@@ -6,7 +7,8 @@ from together_lib.lines import CLIENTS
 
 FIRST = ((("widget", "widget_echo"), "jupyter.widget"), (("echo",), "t"), (("counter",), "u"))
 FEW_IDS = ["a", "b", "é"]
-# How many of these lines stay, of those that tools/fuzz makes. A target that was unregistered or replaced doesn't come back.
+# How many of these lines stay, of those that tools/fuzz makes. A target that was unregistered or replaced doesn't come
+# back.
 KEPT = {"register": 0.3, "unregister": 0.12, "comm_close": 0.5, "hang_up": 0.5}
 
 
@@ -43,7 +45,9 @@ class Shared(Scripts):
         if client or self.random.random() < 0.5:
             line["client"] = client
         if self.random.random() < 0.15:
-            line["hear"] = self.random.choice([it for it in range(clients) if it != client] + [client, CLIENTS, None] * self.rarely())
+            line["hear"] = self.random.choice(
+                [it for it in range(clients) if it != client] + [client, CLIENTS, None] * self.rarely()
+            )
         if self.rarely(40):
             line[self.random.choice(list(line))] = self.odd()
         text = json.dumps(line, ensure_ascii=self.random.random() < 0.5)
@@ -55,6 +59,10 @@ class Shared(Scripts):
         """So many lines of each client, in an order of chance. The first ones register targets, whoever comes first."""
         whose = [client for client in range(clients) for _ in range(lines)]
         self.random.shuffle(whose)
-        first = [{"call": "register", "kind": self.random.choice(kinds), "name": name} for kinds, name in FIRST if self.random.random() < 0.9]
+        first = [
+            {"call": "register", "kind": self.random.choice(kinds), "name": name}
+            for kinds, name in FIRST
+            if self.random.random() < 0.9
+        ]
         texts = [self.of_client(first.pop(0) if first else self.asked(), client, clients) for client in whose]
         return ("\n".join(texts) + self.random.choice(["", "\n"])).encode("utf-8", "surrogatepass")

@@ -1,4 +1,5 @@
-"""Whether the checker passes true runs and finds what is falsified in them: runs that are made here, by a scheduler of chance."""
+"""Whether the checker passes true runs and finds what is falsified in them: runs that are made here, by a scheduler of
+chance."""
 import random
 
 from together_lib import falsified
@@ -6,7 +7,22 @@ from together_lib.answers import written
 from together_lib.checking import Checker
 from together_lib.simulated import simulated
 
-RULES = {"form", "lines", "kind", "bad", "unavailable", "stock", "entries", "calls", "seen", "heard", "order", "replay", "read", "end"}
+RULES = {
+    "form",
+    "lines",
+    "kind",
+    "bad",
+    "unavailable",
+    "stock",
+    "entries",
+    "calls",
+    "seen",
+    "heard",
+    "order",
+    "replay",
+    "read",
+    "end",
+}
 MOST = 40  # runs, until each way had a place
 
 
@@ -36,7 +52,11 @@ class SelfTest:
         self.count(f"the true run {number}", not faults, "; ".join(map(str, faults[:3])))
         for name, rule, text in falsified.texts(run, checker.asked, chance):
             found = {it.rule for it in checker.checked(text)[1]}
-            self.count(f"{name} in run {number}", rule in found, f"found by {', '.join(sorted(found)) or 'nothing'}, and not by {rule}")
+            self.count(
+                f"{name} in run {number}",
+                rule in found,
+                f"found by {', '.join(sorted(found)) or 'nothing'}, and not by {rule}",
+            )
             self.ways.add(name)
 
     def test(self, runs):
@@ -49,4 +69,8 @@ class SelfTest:
             self.count(f"{name} had a place in {number} runs", False)
         rules = {*falsified.WAYS.values(), "form"}
         self.count("each rule finds something", rules == RULES, ", ".join(sorted(rules ^ RULES)))
-        print(f"together: self-test: {number} true runs, and {len(self.ways)} ways to falsify one, {self.passed + self.failed} cases in all", flush=True)
+        print(
+            f"together: self-test: {number} true runs, and {len(self.ways)} ways to falsify one, "
+            f"{self.passed + self.failed} cases in all",
+            flush=True,
+        )

@@ -1,4 +1,5 @@
-"""A run that threads might have made, made here: a scheduler of chance takes the clients' lines in turn, and the one-thread manager answers them."""
+"""A run that threads might have made, made here: a scheduler of chance takes the clients' lines in turn, and the
+one-thread manager answers them."""
 from together_lib.answers import Answer, Entry, Run
 
 

@@ -1,4 +1,5 @@
-"""Several wrong bodies in one copy of a crate: one check names each function that is refused, and what the crate stands on is read once."""
+"""Several wrong bodies in one copy of a crate: one check names each function that is refused, and what the crate stands
+on is read once."""
 import re
 from dataclasses import dataclass
 from pathlib import Path
@@ -38,7 +39,9 @@ def functions_in(file, text):
 def changed(before, after):
     """The numbers of the lines that differ, or none where not line stands for line."""
     old, new = before.split("\n"), after.split("\n")
-    return [number for number, (one, other) in enumerate(zip(old, new), 1) if one != other] if len(old) == len(new) else []
+    return (
+        [number for number, (one, other) in enumerate(zip(old, new), 1) if one != other] if len(old) == len(new) else []
+    )
 
 
 def function_of(before, after):
@@ -54,11 +57,16 @@ def function_of(before, after):
 
 
 def grouped(edits, functions):
-    """The edits in groups of a few, no two of a group in one function; one that lies in no function is a group of its own."""
+    """The edits in groups of a few, no two of a group in one function; one that lies in no function is a group of its
+    own."""
     groups = []
     for edit in edits:
         function = functions.get(edit)
-        fitting = (it for it in groups if len(it) < SIZE and function and all(functions.get(other) not in (None, function) for other in it))
+        fitting = (
+            it
+            for it in groups
+            if len(it) < SIZE and function and all(functions.get(other) not in (None, function) for other in it)
+        )
         group = next(fitting, None)
         if group is None:
             groups.append([edit])
@@ -80,7 +88,8 @@ def merged(before, afters):
 
 
 def is_refused(function, told):
-    """Whether these lines of the prover say that the function isn't proved: at a line of it, or at a proof of it whose goal is another now."""
+    """Whether these lines of the prover say that the function isn't proved: at a line of it, or at a proof of it whose
+    goal is another now."""
     for line in told:
         at = TOLD.match(line)
         if not at:

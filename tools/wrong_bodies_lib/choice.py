@@ -12,18 +12,21 @@ class Mode(Enum):
 
 
 def shares(edits, most):
-    """The wrong bodies in shares of so many at most, each of one crate, since the check of a crate as it stands is the dear part of a try."""
+    """The wrong bodies in shares of so many at most, each of one crate, since the check of a crate as it stands is the
+    dear part of a try."""
     made = []
     for crate in sorted({it.crate for it in edits}):
-        own = sorted((it for it in edits if it.crate == crate), key=lambda it: hashlib.sha256(str(it).encode()).hexdigest())
+        own = sorted(
+            (it for it in edits if it.crate == crate), key=lambda it: hashlib.sha256(str(it).encode()).hexdigest()
+        )
         count = -(-len(own) // most)
         made += [own[number::count] for number in range(count)]
     return made
 
 
 def chosen(edits, sums, rows, mode, commits, most=SHARE):
-    """Two lists: what must be tried, and what is tried again as far as time allows; the others stand by the record. Each share has its turn once in
-    as many commits in a row as there are shares."""
+    """Two lists: what must be tried, and what is tried again as far as time allows; the others stand by the record.
+    Each share has its turn once in as many commits in a row as there are shares."""
     is_recorded = {it: rows.get(str(it), ("", ""))[0] == sums[it] for it in edits}
     must = [it for it in edits if mode is Mode.ALL or not is_recorded[it]]
     made = shares(edits, most) if mode is Mode.PART else []
@@ -32,7 +35,8 @@ def chosen(edits, sums, rows, mode, commits, most=SHARE):
 
 
 def crates_in_turn(names, commits):
-    """The crates in an order that begins elsewhere at each commit, so that a run which ends early doesn't always leave out the same."""
+    """The crates in an order that begins elsewhere at each commit, so that a run which ends early doesn't always leave
+    out the same."""
     names = sorted(names)
     at = commits % len(names) if names else 0
     return names[at:] + names[:at]

@@ -32,7 +32,8 @@ def edits_below(root, folders, names=()):
 
 
 def body_fault(text):
-    """Why the text of an edit is no wrong body, or None: an edit of a definition or a proof shows nothing of a contract."""
+    """Why the text of an edit is no wrong body, or None: an edit of a definition or a proof shows nothing of a
+    contract."""
     files = [line.removeprefix("file:").strip() for line in text.splitlines() if line.startswith("file:")]
     if not files:
         return "it names no file"

@@ -1,5 +1,6 @@
-"""The kit's own judge. `rt must-fail` says what came of its edits only when all are through, and begins each crate from nothing; so its
-functions are called here one by one. The kit is held to one version (tools/kit.sh), so they are the ones this was written for."""
+"""The kit's own judge. `rt must-fail` says what came of its edits only when all are through, and begins each crate from
+nothing; so its functions are called here one by one. The kit is held to one version (tools/kit.sh), so they are the
+ones this was written for."""
 import contextlib
 import functools
 import importlib.machinery
@@ -10,7 +11,21 @@ import subprocess
 import sys
 from pathlib import Path
 
-NEEDED = ("must_fail", "read_edit", "unread", "checked", "need", "free", "processors", "share_work", "REFUSED", "AT_LIMIT", "BAD", "UNSURE", "MISSED")
+NEEDED = (
+    "must_fail",
+    "read_edit",
+    "unread",
+    "checked",
+    "need",
+    "free",
+    "processors",
+    "share_work",
+    "REFUSED",
+    "AT_LIMIT",
+    "BAD",
+    "UNSURE",
+    "MISSED",
+)
 BY_NAME = "only because a proof file names what the edit took away"
 ONE_JOB = ["--jobs", "1"]
 
@@ -78,8 +93,8 @@ class Kit:
         return ran.returncode == 0
 
     def tried(self, edit, path, kept):
-        """How the prover refuses the edit (None: it doesn't), and what the kit says of it. What isn't refused over the kept work is tried
-        once more from nothing."""
+        """How the prover refuses the edit (None: it doesn't), and what the kit says of it. What isn't refused over the
+        kept work is tried once more from nothing."""
         crate = self.crates[edit.crate]
         outcome, text = self.rt.must_fail(crate, str(path), ONE_JOB, str(kept))
         if outcome in (self.rt.MISSED, self.rt.UNSURE):
@@ -87,13 +102,15 @@ class Kit:
         return how_refused(outcome, text), text.partition(".edit: ")[2] or text
 
     def texts_of(self, edit, path):
-        """The texts that the edit changes, by their file, and the same as they are; nothing where it can't be applied."""
+        """The texts that the edit changes, by their file, and the same as they are; nothing where it can't be
+        applied."""
         crate = self.crates[edit.crate]
         after, _why = self.rt.read_edit(str(path), crate.folder)
         return after or {}, {file: Path(crate.folder, file).read_text() for file in after or {}}
 
     def refusal(self, name, texts, kept):
-        """The lines in which the prover refuses the crate with these texts; none where it proves it, or can't read them."""
+        """The lines in which the prover refuses the crate with these texts; none where it proves it, or can't read
+        them."""
         ran = self.rt.checked(self.crates[name], texts, ONE_JOB, str(kept))
         lines = ran.stdout.rstrip("\n").split("\n")
         is_read = not any(self.rt.unread(it, texts) for it in lines) and not self.rt.rtlib.STALE.search(ran.stdout)
@@ -107,8 +124,8 @@ def are_of_the_gate(root, names):
 
 
 def build_archive(crate):
-    """Proves a static library over the libraries below it as they stand, and builds its archive, as `rt lib` does over those with a stamp. Returns the
-    status."""
+    """Proves a static library over the libraries below it as they stand, and builds its archive, as `rt lib` does over
+    those with a stamp. Returns the status."""
     rt = loaded()
     rt.rtlib.guarded()
     rt.share_work(True)

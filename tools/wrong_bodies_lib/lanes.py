@@ -24,8 +24,8 @@ def fits(job, running, total, free):
 
 
 def in_lanes(jobs, count, free, deadline=None, last=None):
-    """Runs the jobs in order, each as soon as it fits. Of those that may wait, none starts after the deadline, and none at all after the last
-    moment; returns what was left."""
+    """Runs the jobs in order, each as soon as it fits. Of those that may wait, none starts after the deadline, and none
+    at all after the last moment; returns what was left."""
     left, running, total = list(jobs), {}, free()
     late = []
     with ThreadPoolExecutor(count) as pool:

@@ -1,9 +1,13 @@
-"""What was seen refused: tools/refused.txt, one line for each wrong body: the sum of all that it depends on, its name, and how."""
+"""What was seen refused: tools/refused.txt, one line for each wrong body: the sum of all that it depends on, its name,
+and how."""
 import fcntl
 import os
 from pathlib import Path
 
-HEAD = "# The wrong bodies that the prover was seen to refuse; tools/wrong_bodies writes this. A line: sum, wrong body, how (tools/README.md).\n"
+HEAD = (
+    "# The wrong bodies that the prover was seen to refuse; tools/wrong_bodies writes this. "
+    "A line: sum, wrong body, how (tools/README.md).\n"
+)
 
 
 def read(text):

@@ -1,4 +1,5 @@
-"""The copy that a run works in, so that the repository may change meanwhile, and nothing of a wrong body stays in it."""
+"""The copy that a run works in, so that the repository may change meanwhile, and nothing of a wrong body stays in
+it."""
 import shutil
 import subprocess
 from pathlib import Path
@@ -12,8 +13,8 @@ def copied(source, target):
 
 
 def linked(source, target):
-    """A folder with the same files, as hard links where the file system can: what the prover makes it puts in a new file's place, and
-    never into one that is there, so neither folder sees what becomes of the other."""
+    """A folder with the same files, as hard links where the file system can: what the prover makes it puts in a new
+    file's place, and never into one that is there, so neither folder sees what becomes of the other."""
     target.parent.mkdir(parents=True, exist_ok=True)
     if subprocess.run(["cp", "-al", str(source), str(target)], stderr=subprocess.DEVNULL).returncode:
         shutil.rmtree(target, ignore_errors=True)

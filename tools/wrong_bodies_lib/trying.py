@@ -15,7 +15,8 @@ from .record import Record
 from .room import Room
 from .sums import Sums, below
 
-# What a check over kept work takes of one from nothing: 1.7 GB were seen at comm_value, where 5 are reckoned from nothing.
+# What a check over kept work takes of one from nothing: 1.7 GB were seen at comm_value, where 5 are reckoned from
+# nothing.
 OVER_KEPT = 0.45
 
 
@@ -44,10 +45,14 @@ class Told:
     not_reached: list = field(default_factory=list)
 
     def lines(self):
-        by_name, by_limit = ([str(it) for it, how in sorted(self.refused.items()) if how == wanted] for wanted in ("by-name", "limit"))
+        by_name, by_limit = (
+            [str(it) for it, how in sorted(self.refused.items()) if how == wanted] for wanted in ("by-name", "limit")
+        )
         yield from (f"wrong_bodies: {it}: {why}" for it, why in sorted(self.failed.items(), key=str))
         yield from (f"wrong_bodies: {it}: refused only because a proof file names what it took away" for it in by_name)
-        yield from (f"wrong_bodies: {it}: refused only by a limit of the prover, which gave no verdict" for it in by_limit)
+        yield from (
+            f"wrong_bodies: {it}: refused only by a limit of the prover, which gave no verdict" for it in by_limit
+        )
         yield f"wrong_bodies: {len(self.refused) + len(self.failed)} tried, {self.stand} stand by the record"
         skipped = ""
         if self.not_reached:
@@ -58,7 +63,12 @@ class Told:
 
 
 def commits_of(root):
-    ran = subprocess.run(["git", "-C", str(root), "rev-list", "--count", "HEAD"], stdout=subprocess.PIPE, stderr=subprocess.DEVNULL, text=True)
+    ran = subprocess.run(
+        ["git", "-C", str(root), "rev-list", "--count", "HEAD"],
+        stdout=subprocess.PIPE,
+        stderr=subprocess.DEVNULL,
+        text=True,
+    )
     return int(ran.stdout) if ran.returncode == 0 and ran.stdout.strip().isdigit() else 0
 
 
@@ -101,7 +111,10 @@ class Run:
         self.forget_lost()
         must, again = self.plan()
         self.must, self.count = set(must), len(must) + len(again)
-        self.say(f"{len(must)} to be tried, {len(again)} tried again as far as time allows, {self.told.stand} stand by the record")
+        self.say(
+            f"{len(must)} to be tried, {len(again)} tried again as far as time allows, "
+            f"{self.told.stand} stand by the record"
+        )
         if self.count:
             by_crate = {}
             for edit in must + again:
@@ -154,7 +167,9 @@ class Run:
 
         def run():
             self.room.kept(name).mkdir(parents=True, exist_ok=True)
-            self.say(f"{name}: checked as it stands{'' if is_warm else ', from nothing'}, for {len(edits)} wrong bodies")
+            self.say(
+                f"{name}: checked as it stands{'' if is_warm else ', from nothing'}, for {len(edits)} wrong bodies"
+            )
             log = self.room.log / f"{name}.check"
             if not self.kit.is_proved(name, jobs, self.room.kept(name), log):
                 with self.lock:
@@ -162,7 +177,9 @@ class Run:
                         self.told.failed[edit] = "not tried, since its crate isn't proved as it stands"
                         self.unreached.discard(edit)
                 return []
-            return self.trials(name, [it for it in edits if it in self.must]) + self.trials(name, [it for it in edits if it not in self.must])
+            return self.trials(name, [it for it in edits if it in self.must]) + self.trials(
+                name, [it for it in edits if it not in self.must]
+            )
 
         return Job(run, need, not any(it in self.must for it in edits))
 
@@ -179,7 +196,12 @@ class Run:
             if len(group) == 1:
                 made.append(self.job(group, lambda it=group[0]: self.trial(it)))
             else:
-                made.append(self.job(group, lambda its=group: self.trial_together(name, {it: (functions[it], *texts[it]) for it in its})))
+                made.append(
+                    self.job(
+                        group,
+                        lambda its=group: self.trial_together(name, {it: (functions[it], *texts[it]) for it in its}),
+                    )
+                )
         return made
 
     def trial_together(self, name, group):
