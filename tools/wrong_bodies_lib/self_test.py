@@ -1,5 +1,5 @@
-"""Looks whether tools/wrong_bodies finds out what it should: its parts that need no prover, and all of it on a copy of the cheapest crate with
-wrong bodies of its own."""
+"""Looks whether tools/wrong_bodies finds out what it should: its parts that need no prover, and all of it on a copy of
+the cheapest crate with wrong bodies of its own."""
 import shutil
 import sys
 import tempfile
@@ -17,10 +17,11 @@ CRATE = "test_support"
 PLACE = "file: src/writer.rt\nold:             calls: 0,\nnew: "
 BESIDE = "file: src/reader.rt\nold: self.calls.saturating_add(1)\nnew: "
 APART = "file: src/writer.rt\nold: let count = buf.len().min(self.step.max(1));\nnew: "
-# No commits are counted in the copy: of those that the record has as they are, the first share has 'harmless_but_recorded', and not 'stands'.
+# No commits are counted in the copy: of those that the record has as they are, the first share has
+# 'harmless_but_recorded', and not 'stands_by_the_record'.
 EDITS = {
     "refused": PLACE + "            calls: 1,\n",
-    "stands": PLACE + "            calls: 2,\n",
+    "stands_by_the_record": PLACE + "            calls: 2,\n",
     "recorded_wrongly": PLACE + "            calls: 3,\n",
     "harmless_but_recorded": PLACE + "            calls: 0 + 0,\n",
     "changes_nothing": PLACE + "            calls: 0 + 0,\n",
@@ -33,7 +34,7 @@ EDITS = {
 }
 WANTED = {
     "refused": "proof",
-    "stands": None,
+    "stands_by_the_record": None,
     "recorded_wrongly": "proof",
     "harmless_but_recorded": "NOT REFUSED",
     "changes_nothing": "NOT REFUSED",
@@ -88,7 +89,9 @@ class Sums(Room):
         self.assertTrue(self.changes("crates/low/src/lib.rt", "fn h() {}\n", "high"))
         self.assertTrue(self.changes("crates/low/proofs/Lemmas.antt", "lemma : g\n", "high"))
         self.assertTrue(self.changes("crates/low/proofs/f/Answers.antt", "answer = g\n", "low"))
-        self.assertTrue(self.changes("crates/low/wrong-bodies/one.edit", "file: src/lib.rt\nold: {}\nnew: {2}\n", "low"))
+        self.assertTrue(
+            self.changes("crates/low/wrong-bodies/one.edit", "file: src/lib.rt\nold: {}\nnew: {2}\n", "low")
+        )
         self.assertTrue(self.changes("crates/high/src/more.rt", "fn more() {}\n", "high"))
         self.assertTrue(self.changes("crates.txt", "low: json serde\nhigh: low\n", "high"))
         self.assertNotEqual(self.sum("low", "kit-1"), self.sum("low", "kit-2"))
@@ -102,7 +105,10 @@ class Sums(Room):
         self.assertFalse(self.changes("crates.txt", "high: low # above\nlow : json\n", "high"))
 
     def test_of_a_crate_below_bodies_leave_the_sum_and_contracts_change_it(self):
-        source = "pub fn f(\n    n: u8,\n) -> u8\n    ensures {{ {0} }}\n{{\n    {1}\n}}\n\npub const fn g() -> u8 {{\n    {2}\n}}\n"
+        source = (
+            "pub fn f(\n    n: u8,\n) -> u8\n    ensures {{ {0} }}\n{{\n    {1}\n}}\n\n"
+            "pub const fn g() -> u8 {{\n    {2}\n}}\n"
+        )
         self.write("crates/low/src/lib.rt", source.format("a", "b", "c"))
         self.assertFalse(self.changes("crates/low/src/lib.rt", source.format("a", "d", "c"), "high"))
         self.assertTrue(self.changes("crates/low/src/lib.rt", source.format("a", "e", "c"), "low"))
@@ -112,20 +118,42 @@ class Sums(Room):
     def test_what_a_source_states(self):
         for source, stated in (
             ("fn f() {\n    g();\n}\nstruct S {\n    a: u8,\n}", "fn f() {\n}\nstruct S {\n    a: u8,\n}"),
-            ("trait T {\n    fn f(&self) -> u8\n        ensures { a };\n    fn g();\n}", "trait T {\n    fn f(&self) -> u8\n        ensures { a };\n    fn g();\n}"),
-            ("    fn f()\n        ensures { λ n.\n            n }\n    {\n        loop {\n        }\n    }\n    b", "    fn f()\n        ensures { λ n.\n            n }\n    {\n    }\n    b"),
+            (
+                "trait T {\n    fn f(&self) -> u8\n        ensures { a };\n    fn g();\n}",
+                "trait T {\n    fn f(&self) -> u8\n        ensures { a };\n    fn g();\n}",
+            ),
+            (
+                "    fn f()\n        ensures { λ n.\n            n }\n    {\n        loop {\n        }\n    }\n    b",
+                "    fn f()\n        ensures { λ n.\n            n }\n    {\n    }\n    b",
+            ),
             ("fn f() {}\nfn g() {\n    h();", "fn f() {}\nfn g() {\n    h();"),
         ):
             self.assertEqual(sums.stated(source), stated)
 
     def test_a_comment_at_the_end_of_a_line_counts(self):
-        self.assertEqual(sums.said("a // b\n  // c\n\nd\n", ".rt"), "a // b\nd")
+        self.assertEqual(sums.said("a // b\n  // c\n\nd\n", ".rt"), "a // b\nd ")
+
+    def test_how_a_source_is_broken_into_lines_leaves_the_sum(self):
+        one = "pub fn f() -> u8\n    ensures { a × b }\n{\n    2\n}\n"
+        self.write("crates/low/src/lib.rt", one)
+        self.assertFalse(self.changes("crates/low/src/lib.rt", one.replace(" × b", "\n        × b"), "low"))
+        self.assertFalse(self.changes("crates/low/src/lib.rt", one, "high"))
+        self.changes("crates/low/src/lib.rt", "ghost use a.b.{c, d, e};\n" + one, "low")
+        parts = "ghost use a.b.{c};\nghost use a.b.{d};\nghost use a.b.{e};\n"
+        self.assertFalse(self.changes("crates/low/src/lib.rt", parts + one, "low"))
+        self.assertTrue(self.changes("crates/low/src/lib.rt", parts.replace("b.{d", "c.{d") + one, "low"))
+        self.changes("crates/low/src/lib.rt", one, "low")
+        self.assertTrue(self.changes("crates/low/src/lib.rt", one.replace(" × b", " × c"), "high"))
+        self.assertTrue(self.changes("crates/low/specs/Lib.antt", "f :\n  Bool\n", "low"))
 
 
 class Edits(Room):
     def test_which_there_are(self):
         self.write("crates/low/must-fail/two.edit", "file: src/lib.rt\n")
-        self.assertEqual([str(it) for it in edits.edits_below(self.root, ("wrong-bodies",))], ["high/wrong-bodies/one", "low/wrong-bodies/one"])
+        self.assertEqual(
+            [str(it) for it in edits.edits_below(self.root, ("wrong-bodies",))],
+            ["high/wrong-bodies/one", "low/wrong-bodies/one"],
+        )
         self.assertEqual([it.name for it in edits.edits_below(self.root, edits.FOLDERS, ("low",))], ["two", "one"])
 
     def test_only_bodies(self):
@@ -176,8 +204,10 @@ class Choice(unittest.TestCase):
         edits = self.edits + [edit(f"e{n}", "high") for n in range(choice.SHARE + 1)] + [edit("e", "top")]
         made = choice.shares(edits, choice.SHARE)
         self.assertEqual(sorted(it for share in made for it in share), sorted(edits))
-        self.assertEqual([(share[0].crate, len({it.crate for it in share}), len(share)) for share in made],
-                         [("high", 1, 13), ("high", 1, 12), ("low", 1, 20), ("low", 1, 20), ("top", 1, 1)])
+        self.assertEqual(
+            [(share[0].crate, len({it.crate for it in share}), len(share)) for share in made],
+            [("high", 1, 13), ("high", 1, 12), ("low", 1, 20), ("low", 1, 20), ("top", 1, 1)],
+        )
         self.assertEqual(choice.chosen([], {}, {}, choice.Mode.PART, 3), ([], []))
 
     def test_crates_begin_elsewhere(self):
@@ -187,7 +217,11 @@ class Choice(unittest.TestCase):
 
 class Batches(unittest.TestCase):
     FILE = "src/a/b.rt"
-    TEXT = "fn one() {\n    1\n}\n\nimpl A {\n    pub fn two(&self) -> u8\n        ensures { x }\n    {\n        2\n    }\n\n    pub(crate) fn one() {\n        3\n    }\n}\n"
+    TEXT = (
+        "fn one() {\n    1\n}\n\n"
+        "impl A {\n    pub fn two(&self) -> u8\n        ensures { x }\n    {\n        2\n    }\n\n"
+        "    pub(crate) fn one() {\n        3\n    }\n}\n"
+    )
 
     def function(self, old, new):
         return batches.function_of({self.FILE: self.TEXT}, {self.FILE: self.TEXT.replace(old, new)})
@@ -201,40 +235,68 @@ class Batches(unittest.TestCase):
         self.assertEqual(self.function("        3", "        4").first, 12)
         self.assertIsNone(self.function("impl A", "impl B"))
         self.assertIsNone(self.function("    1\n", ""))
-        self.assertIsNone(self.function("    1\n}\n\nimpl A {\n    pub fn two(&self)", "    2\n}\n\nimpl A {\n    pub fn two(&mut self)"))
+        self.assertIsNone(
+            self.function(
+                "    1\n}\n\nimpl A {\n    pub fn two(&self)", "    2\n}\n\nimpl A {\n    pub fn two(&mut self)"
+            )
+        )
         self.assertIsNone(batches.function_of({"src/a.rt": "x", "src/b.rt": "x"}, {"src/a.rt": "y", "src/b.rt": "y"}))
 
     def test_groups(self):
-        one, two, three = self.function("    1", "    4"), self.function("        2", "        4"), self.function("        3", "        4")
+        one, two, three = (
+            self.function("    1", "    4"),
+            self.function("        2", "        4"),
+            self.function("        3", "        4"),
+        )
         a, b, c, d, e = (edit(it) for it in "abcde")
-        self.assertEqual(batches.grouped([a, b, c, d, e], {a: one, b: one, c: None, d: two, e: three}), [[a, d, e], [b], [c]])
+        self.assertEqual(
+            batches.grouped([a, b, c, d, e], {a: one, b: one, c: None, d: two, e: three}), [[a, d, e], [b], [c]]
+        )
         many = [batches.Function(self.FILE, "f", number, number, True) for number in range(batches.SIZE + 1)]
         self.assertEqual([len(it) for it in batches.grouped(many, {it: it for it in many})], [batches.SIZE, 1])
 
     def test_one_text_of_several(self):
-        afters = [{self.FILE: self.TEXT.replace("    1\n", "    7\n")}, {self.FILE: self.TEXT.replace("        2", "        8")}]
+        afters = [
+            {self.FILE: self.TEXT.replace("    1\n", "    7\n")},
+            {self.FILE: self.TEXT.replace("        2", "        8")},
+        ]
         wanted = self.TEXT.replace("    1\n", "    7\n").replace("        2", "        8")
         self.assertEqual(batches.merged({self.FILE: self.TEXT}, afters), {self.FILE: wanted})
 
     def test_what_is_told_of_a_function(self):
         two, one = self.function("        2", "        4"), self.function("        3", "        4")
-        notes = "note: src/a/b.rt:{}:5: it is not proved that what the function ensures holds when it returns (`returns`)"
+        notes = (
+            "note: src/a/b.rt:{}:5: it is not proved that what the function ensures holds when it returns (`returns`)"
+        )
         self.assertTrue(batches.is_refused(two, ["logic=not-proved", notes.format(6)]))
         self.assertTrue(batches.is_refused(two, [notes.format(10)]))
         self.assertFalse(batches.is_refused(two, [notes.format(11), notes.format(5), "so far: " + notes.format(6)]))
-        self.assertFalse(batches.is_refused(two, [notes.format(6).replace("b.rt", "c.rt"), "note: src/a/b.rt:6:5: large solution"]))
+        self.assertFalse(
+            batches.is_refused(two, [notes.format(6).replace("b.rt", "c.rt"), "note: src/a/b.rt:6:5: large solution"])
+        )
         proof = "./proofs/a/b/{}/Answers.antt:9:5: error: `returns`: {}"
         self.assertTrue(batches.is_refused(two, [proof.format("A/two", "the two types differ")]))
-        self.assertFalse(batches.is_refused(two, [proof.format("A/one", "the two types differ"), proof.format("A/two", "it has no field `x`")]))
+        self.assertFalse(
+            batches.is_refused(
+                two, [proof.format("A/one", "the two types differ"), proof.format("A/two", "it has no field `x`")]
+            )
+        )
         self.assertFalse(batches.is_refused(one, [proof.format("A/one", "the two types differ")]))
 
 
 class Judging(unittest.TestCase):
     def test_how(self):
         rt = kit.loaded()
-        self.assertEqual(kit.how_refused(rt.REFUSED, "must-fail a/b.edit: refused, as it must be: src/a.rt:1:1"), "proof")
-        self.assertEqual(kit.how_refused(rt.REFUSED, f"must-fail a/b.edit: refused, as it must be ({kit.BY_NAME}, so ..)"), "by-name")
-        self.assertEqual(kit.how_refused(rt.AT_LIMIT, "must-fail a/b.edit: refused, as it must be (only by a limit of the prover)"), "limit")
+        self.assertEqual(
+            kit.how_refused(rt.REFUSED, "must-fail a/b.edit: refused, as it must be: src/a.rt:1:1"), "proof"
+        )
+        self.assertEqual(
+            kit.how_refused(rt.REFUSED, f"must-fail a/b.edit: refused, as it must be ({kit.BY_NAME}, so ..)"), "by-name"
+        )
+        self.assertEqual(
+            kit.how_refused(rt.AT_LIMIT, "must-fail a/b.edit: refused, as it must be (only by a limit of the prover)"),
+            "limit",
+        )
         for outcome in (rt.MISSED, rt.BAD, rt.UNSURE):
             self.assertIsNone(kit.how_refused(outcome, "must-fail a/b.edit: refused, as it must be"))
 
@@ -309,7 +371,7 @@ def run(root, at):
     plan = Run(Wish(small), at / "plan")
     plan.plan()
     record = Record(small / "tools/refused.txt")
-    record.put(edit_of("stands"), plan.sums[edit_of("stands")], "proof")
+    record.put(edit_of("stands_by_the_record"), plan.sums[edit_of("stands_by_the_record")], "proof")
     record.put(edit_of("harmless_but_recorded"), plan.sums[edit_of("harmless_but_recorded")], "proof")
     record.put(edit_of("recorded_wrongly"), "0" * 16, "proof")
     record.put(edit_of("changes_nothing"), "0" * 16, "proof")

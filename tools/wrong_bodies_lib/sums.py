@@ -1,21 +1,33 @@
-"""A sum of all that the outcome of a wrong body depends on: the edit, its crate, the statements of the crates below, and the kit.
+"""A sum of all that the outcome of a wrong body depends on: the edit, its crate, the statements of the crates below,
+and the kit.
 
-Of the crates below, the check reads what they state: items and contracts, definitions, and lemmas. Neither the bodies of their functions nor the
-answers that prove them: the gate builds each library as its statements alone. Lines that are blank or only a comment change nothing and are left
-out."""
+Of the crates below, the check reads what they state: items and contracts, definitions, and lemmas. Neither the bodies
+of their functions nor the answers that prove them: the gate builds each library as its statements alone. Lines that are
+blank or only a comment change nothing and are left out."""
 import hashlib
 import re
 from pathlib import Path
 
-FORM = "2"
+FORM = "3"
 COMMENTS = {".rt": "//", ".antt": "--"}
 ANSWERS = ("Answers.antt", "Invariants.antt", "Proof.antt")
 
 
+# Two imports of one module, one after the other.
+IMPORTS = re.compile(r"(?<=ghost use )([\w.]+)\.\{([^{}]*)\}; ghost use \1\.\{")
+
+
 def said(text, suffix):
-    """The text without the lines that are blank or only a comment."""
+    """The text without the lines that are blank or only a comment. The lines of a source are joined but where a comment
+    ends one, since how they are broken and indented says nothing; so are imports of one module."""
     mark = COMMENTS[suffix]
-    return "\n".join(line for line in text.splitlines() if line.strip() and not line.lstrip().startswith(mark))
+    lines = [line for line in text.splitlines() if line.strip() and not line.lstrip().startswith(mark)]
+    if suffix != ".rt":
+        return "\n".join(lines)
+    joined = "".join(line.strip() + ("\n" if mark in line else " ") for line in lines)
+    while (shorter := IMPORTS.sub(r"\1.{\2, ", joined)) != joined:
+        joined = shorter
+    return joined
 
 
 FUNCTION = re.compile(r"^( *)(?:pub(?:\([a-z]+\))? )?(?:unsafe |final )*fn ")
@@ -23,8 +35,8 @@ CLAUSE = re.compile(r"^ *(?:requires|ensures|decreases|where)\b")
 
 
 def stated(text):
-    """A source in rt fmt's layout without the bodies of its functions. Those of constant functions stay, and so does what isn't laid out as
-    expected."""
+    """A source in rt fmt's layout without the bodies of its functions. Those of constant functions stay, and so does
+    what isn't laid out as expected."""
     kept, lines, at = [], text.split("\n"), 0
     while at < len(lines):
         kept.append(lines[at])
@@ -43,7 +55,8 @@ def stated(text):
 
 
 def listed(text):
-    """crates.txt as a dict from each crate to its line's words after the name: what it uses, and what stands before the colon."""
+    """crates.txt as a dict from each crate to its line's words after the name: what it uses, and what stands before the
+    colon."""
     rows = {}
     for line in text.splitlines():
         words = line.partition("#")[0].replace(":", " : ").split()
@@ -89,6 +102,12 @@ class Sums:
 
     def of(self, edit):
         names = below(self.rows, edit.crate)
-        parts = [FORM, self.kit, edit.path(self.root).read_text(), self.of_texts(edit.crate, False), self.rows.get(edit.crate)]
+        parts = [
+            FORM,
+            self.kit,
+            edit.path(self.root).read_text(),
+            self.of_texts(edit.crate, False),
+            self.rows.get(edit.crate),
+        ]
         parts += [(name, self.rows[name], self.of_texts(name, True)) for name in names]
         return hashlib.sha256(repr(parts).encode()).hexdigest()[:16]
