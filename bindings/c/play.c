@@ -1,4 +1,5 @@
-/* Plays a script of JSON lines through the library, as the program does: play FILE writes what is said to it. */
+/* Plays a script of JSON lines through the library, as the program does: play FILE writes what is said to it, and
+ * play --decimals FILE does so with every JSON number as a value. */
 #include "rolgunai.h"
 
 #include <stdio.h>
@@ -51,13 +52,14 @@ static uint8_t *whole(const char *name, size_t *length) {
 }
 
 int main(int count, char **words) {
-  if (count != 2) return 3;
+  const int decimals = count == 3 && strcmp(words[1], "--decimals") == 0;
+  if (count != 2 + decimals) return 3;
   size_t length;
-  uint8_t *text = whole(words[1], &length);
+  uint8_t *text = whole(words[1 + decimals], &length);
   out = malloc(room);
   if (!text || !out) return 1;
   rolgunai_handle handle = {0};
-  if (rolgunai_new(&handle, 4096) != ROLGUNAI_OK) return 2;
+  if ((decimals ? rolgunai_new_with_decimals : rolgunai_new)(&handle, 4096) != ROLGUNAI_OK) return 2;
   int status = play(&handle, text, length);
   rolgunai_free(&handle);
   free(out);

@@ -30,7 +30,7 @@ typedef struct rolgunai_handle {
  * comment tells gives the status. */
 enum {
   ROLGUNAI_OK = 0,               /* done; `out` has the text or the part, and `*size` its length */
-  ROLGUNAI_CLOSED = 1,           /* the handle has no manager; tested first by each call but rolgunai_new */
+  ROLGUNAI_CLOSED = 1,           /* the handle has no manager; tested first by each call but rolgunai_new.. */
   ROLGUNAI_MEMORY = 2,           /* out of memory, and nothing has changed: the same call may be made again */
   ROLGUNAI_BAD_LIMIT = 3,        /* rolgunai_new: `comms` isn't from 1 to 4096 */
   ROLGUNAI_ALREADY_OPEN = 4,     /* rolgunai_new: the handle has a manager, which stays */
@@ -55,8 +55,14 @@ enum {
 };
 
 /* Makes a manager. At most `comms` comms, 1 to 4096, are open at a time; any number of targets may be registered.
- * Whether the handle has a manager is tested before the limit. */
+ * Numbers are whole, from -2^63 to 2^64 - 1: any other, as 1.5 or 1e3, makes a call bad (`not_whole`). Whether the
+ * handle has a manager is tested before the limit. */
 uint32_t rolgunai_new(rolgunai_handle *handle, size_t comms);
+
+/* Makes a manager as rolgunai_new does, but one that takes every JSON number as a value. A number that isn't whole is
+ * kept and sent as the text that came, byte for byte: `1.0`, `1.00` and `1e0` are three values. A number beyond a
+ * double's range is no JSON here (`not_json`). A client and the steps of a path are whole numbers still. */
+uint32_t rolgunai_new_with_decimals(rolgunai_handle *handle, size_t comms);
 
 /* Registers a new target of a kind under a name, which is UTF-8 and not ended by a zero, for the client 0. The text
  * is 'reply <number> registered', with a line feed. Where a target has the name, that target is replaced and its

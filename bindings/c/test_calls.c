@@ -89,6 +89,29 @@ static void many_targets(void) {
   check(rolgunai_free(&many) == ROLGUNAI_OK, "they end");
 }
 
+/* What a number that isn't whole comes to, in a widget's state. */
+static void decimals(void) {
+  static const char opening[] = "{\"header\":{\"msg_type\":\"comm_open\"},\"content\":{\"comm_id\":\"a\","
+                                "\"target_name\":\"w\",\"data\":{\"state\":{\"v\":-1.50E+2}}},"
+                                "\"metadata\":{\"version\":\"2.1.0\"}}";
+  static const struct {
+    uint32_t (*make)(rolgunai_handle *, size_t);
+    const char *opened, *state, *name;
+  } rows[] = {
+      {rolgunai_new, "bad 2 not_whole\n", "state 1 no_comm\n", "it is refused"},
+      {rolgunai_new_with_decimals, "reply 2 opened\n",
+       "state 2 {\"buffer_paths\":[],\"buffers\":[],\"state\":{\"v\":-1.50E+2}}\n", "its text stays as it came"},
+  };
+  for (size_t i = 0; i < sizeof rows / sizeof *rows; i++) {
+    check(rows[i].make(&handle, 1) == ROLGUNAI_OK && named(ROLGUNAI_WIDGET, "w") == ROLGUNAI_OK, rows[i].name);
+    check_line(opening, rows[i].opened);
+    check_line("{\"call\":\"state\",\"id\":\"a\"}", rows[i].state);
+    check(rows[i].make(&handle, 1) == ROLGUNAI_ALREADY_OPEN, "the handle has a manager");
+    check(rolgunai_free(&handle) == ROLGUNAI_OK, rows[i].name);
+    check(rows[i].make(&handle, 4097) == ROLGUNAI_BAD_LIMIT, "too many comms");
+  }
+}
+
 static void a_plain_comm(void) {
   check_line("{\"header\":{\"msg_type\":\"comm_open\"},\"content\":{\"comm_id\":\"a\",\"target_name\":\"mine\","
              "\"data\":{\"x\":1}}}",
@@ -127,6 +150,7 @@ static void *elsewhere(void *nothing) {
 
 int main(void) {
   closed_handles("before there is a manager");
+  decimals();
   making();
   registering();
   many_targets();

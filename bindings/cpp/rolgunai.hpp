@@ -172,12 +172,18 @@ inline std::vector<answer> answers(std::string_view text) {
   return found;
 }
 
+/// Which JSON numbers are values.
+enum class numbers { whole, any };
+
 /// A manager. It is freed where it goes out of scope; the calls of one that was moved from throw `closed`.
 class manager {
 public:
-  /// At most so many comms, 1 to 4096, are open at a time; any number of targets may be registered.
-  explicit manager(std::size_t comms = 4096) : handle_(new rolgunai_handle{}), out_(4096) {
-    checked(rolgunai_new(handle_.get(), comms));
+  /// At most so many comms, 1 to 4096, are open at a time; any number of targets may be registered. With decimals a
+  /// number that isn't whole is a value too, kept and sent as the text that came.
+  explicit manager(std::size_t comms = 4096, numbers taken = numbers::whole)
+      : handle_(new rolgunai_handle{}), out_(4096) {
+    checked(taken == numbers::any ? rolgunai_new_with_decimals(handle_.get(), comms)
+                                  : rolgunai_new(handle_.get(), comms));
   }
   manager(manager &&) noexcept = default;
   manager &operator=(manager &&) noexcept = default;

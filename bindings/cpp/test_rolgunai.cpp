@@ -95,6 +95,22 @@ static void many_targets() {
   check(registered == 300, "a hundred targets of each kind");
 }
 
+// What a number that isn't whole comes to, in a widget's state.
+static void decimals() {
+  const std::string_view open =
+      R"({"header":{"msg_type":"comm_open"},"content":{"comm_id":"a","target_name":"w",)"
+      R"("data":{"state":{"v":-1.50E+2}}},"metadata":{"version":"2.1.0"}})";
+  rolgunai::manager whole(1);
+  whole.register_target(rolgunai::kind::widget, "w");
+  check(whole.line(open) == "bad 2 not_whole\n", "it is refused");
+  rolgunai::manager any(1, rolgunai::numbers::any);
+  any.register_target(rolgunai::kind::widget, "w");
+  check(any.line(open) == "reply 2 opened\n", "it is taken where it's asked for");
+  check(any.line(R"({"call":"state","id":"a"})")
+            == "state 2 {\"buffer_paths\":[],\"buffers\":[],\"state\":{\"v\":-1.50E+2}}\n",
+        "its text stays as it came");
+}
+
 static void answers(rolgunai::manager &manager) {
   const std::vector<rolgunai::answer> found =
       rolgunai::answers(manager.line(R"({"call":"send","id":"a","data":{"y":"\n "}})"));
@@ -142,6 +158,7 @@ int main() {
   making();
   echoes();
   many_targets();
+  decimals();
   rolgunai::manager manager;
   registering(manager);
   buffers(manager);

@@ -126,6 +126,7 @@ def load(path: str | pathlib.Path | None = None) -> ctypes.CDLL:
     out, result = [text, length, size], [ctypes.POINTER(number), size]
     arguments = {
         "new": [handle, length],
+        "new_with_decimals": [handle, length],
         "register": [handle, number, text, length, *out],
         "handle_line": [handle, text, length, *out],
         "handle_message": [handle, number, *[text, length] * 4, ctypes.c_void_p, length, *result],
@@ -151,15 +152,16 @@ def _checked(status: int) -> None:
 
 class Manager:
     """A manager, of which at most `comms` comms (1 to 4096) are open at a time. Any number of targets may be
-    registered."""
+    registered. With `decimals` a number that isn't whole is a value too, kept and sent as the text that came."""
 
-    def __init__(self, *, comms: int = 4096, library: ctypes.CDLL | None = None) -> None:
+    def __init__(self, *, comms: int = 4096, decimals: bool = False, library: ctypes.CDLL | None = None) -> None:
         if comms < 0:
             raise ValueError("the limit of comms is below 0")
         self._handle, self._size, self._reply = _Handle(), ctypes.c_size_t(), ctypes.c_uint32()
         self._out = ctypes.create_string_buffer(4096)
         self._lib = library or load()
-        _checked(self._lib.rolgunai_new(self._handle, comms))
+        new = self._lib.rolgunai_new_with_decimals if decimals else self._lib.rolgunai_new
+        _checked(new(self._handle, comms))
 
     def register(self, kind: Kind, name: str) -> bytes:
         """Registers a new target under a name. Gives b'reply <number> registered', with a line feed; or, where a target

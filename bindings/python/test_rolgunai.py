@@ -45,6 +45,23 @@ def many_targets(library) -> None:
         check("an echo is for scripts", status_of(lambda: manager.register(0, "x")) == Status.BAD_KIND)
 
 
+def decimals(library) -> None:
+    """What a number that isn't whole comes to, in a widget's state."""
+    opening = (
+        b'{"header":{"msg_type":"comm_open"},"content":{"comm_id":"a","target_name":"w",'
+        b'"data":{"state":{"v":-1.50E+2}}},"metadata":{"version":"2.1.0"}}'
+    )
+    with Manager(library=library) as manager:
+        manager.register(Kind.WIDGET, "w")
+        check("it is refused", manager.line(opening) == b"bad 2 not_whole\n")
+    with Manager(library=library, decimals=True) as manager:
+        manager.register(Kind.WIDGET, "w")
+        check("it is taken where it's asked for", manager.line(opening) == b"reply 2 opened\n")
+        state = manager.line(b'{"call":"state","id":"a"}')
+        wanted = b'state 2 {"buffer_paths":[],"buffers":[],"state":{"v":-1.50E+2}}\n'
+        check("its text stays as it came", state == wanted)
+
+
 def plain(library) -> None:
     manager = Manager(library=library)
     check("registered", manager.register(Kind.PLAIN, "mine é") == b"reply 1 registered\n")
@@ -127,6 +144,7 @@ def main(path: str) -> int:
     library = load(path)
     making(library)
     many_targets(library)
+    decimals(library)
     plain(library)
     parts(library)
     echoes(library)

@@ -26,6 +26,7 @@ mod ffi {
 
     unsafe extern "C" {
         pub fn rolgunai_new(handle: *mut Handle, comms: usize) -> u32;
+        pub fn rolgunai_new_with_decimals(handle: *mut Handle, comms: usize) -> u32;
         pub fn rolgunai_register(
             handle: *mut Handle,
             kind: u32,
@@ -230,9 +231,20 @@ impl Manager {
     /// A manager, of which at most `comms` comms (1 to 4,096) are open at a time. Any number of targets may be
     /// registered.
     pub fn new(comms: usize) -> Result<Manager, Error> {
-        let mut handle = Box::new(ffi::Handle { manager: std::ptr::null_mut() });
         // SAFETY: the handle is zeroed, and only the library uses it from here on.
-        match unsafe { ffi::rolgunai_new(&mut *handle, comms) } {
+        Manager::made_by(|handle| unsafe { ffi::rolgunai_new(handle, comms) })
+    }
+
+    /// A manager as `new` makes it, but to which a number that isn't whole is a value too, kept and sent as the text
+    /// that came.
+    pub fn with_decimals(comms: usize) -> Result<Manager, Error> {
+        // SAFETY: as in `new`.
+        Manager::made_by(|handle| unsafe { ffi::rolgunai_new_with_decimals(handle, comms) })
+    }
+
+    fn made_by(make: impl FnOnce(&mut ffi::Handle) -> u32) -> Result<Manager, Error> {
+        let mut handle = Box::new(ffi::Handle { manager: std::ptr::null_mut() });
+        match make(&mut handle) {
             OK => Ok(Manager { handle, out: vec![0; 4096] }),
             status => Err(Error::numbered(status)),
         }

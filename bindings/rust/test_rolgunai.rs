@@ -50,6 +50,25 @@ fn many_targets(checks: &mut Checks) -> Result<(), Error> {
     Ok(())
 }
 
+// What a number that isn't whole comes to, in a widget's state.
+fn decimals(checks: &mut Checks) -> Result<(), Error> {
+    let open = concat!(
+        r#"{"header":{"msg_type":"comm_open"},"content":{"comm_id":"a","target_name":"w","#,
+        r#""data":{"state":{"v":-1.50E+2}}},"metadata":{"version":"2.1.0"}}"#,
+    )
+    .as_bytes();
+    let mut whole = Manager::new(1)?;
+    whole.register(Kind::Widget, "w")?;
+    checks.check("it is refused", whole.line(open)? == b"bad 2 not_whole\n");
+    let mut any = Manager::with_decimals(1)?;
+    any.register(Kind::Widget, "w")?;
+    checks.check("it is taken where it's asked for", any.line(open)? == b"reply 2 opened\n");
+    let state = any.line(br#"{"call":"state","id":"a"}"#)?;
+    let wanted = b"state 2 {\"buffer_paths\":[],\"buffers\":[],\"state\":{\"v\":-1.50E+2}}\n";
+    checks.check("its text stays as it came", state == wanted);
+    Ok(())
+}
+
 fn lines(checks: &mut Checks, manager: &mut Manager) {
     let open = r#"{"header":{"msg_type":"comm_open"},"content":{"comm_id":"a","target_name":"mine é"}}"#;
     checks.check("an open", manager.line(open.as_bytes()) == Ok(b"reply 4 opened\n"));
@@ -144,6 +163,8 @@ fn main() -> ExitCode {
     checks.check("each call of widgets that echo is made", echoed == Ok(()));
     let many = many_targets(&mut checks);
     checks.check("each register is made", many == Ok(()));
+    let kept = decimals(&mut checks);
+    checks.check("each call of numbers that aren't whole is made", kept == Ok(()));
     match Manager::new(4096) {
         Err(error) => checks.check(&format!("a new manager: {error}"), false),
         Ok(mut manager) => {

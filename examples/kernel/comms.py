@@ -32,7 +32,7 @@ class ProvedComms(CommManager):
 
     def __init__(self, library, **kwargs):
         super().__init__(**kwargs)
-        self.proved = Manager(library=library)
+        self.proved = Manager(decimals=True, library=library)
         self.names = set()
         self.lock, self.is_busy, self.late = threading.RLock(), False, collections.deque()
 
@@ -161,12 +161,11 @@ class ProvedComm(Comm):
         if self.is_old:
             data = old_widgets.said(msg_type, data)
         line = self.command(msg_type, data, buffers)
+        content = b"" if msg_type == "comm_msg" else dumps({"comm_id": self.comm_id, "data": data, **keys}).encode()
 
         def send(sent, parent):
             # The data of a kernel's close and any metadata are the caller's own: the manager says nothing of them.
-            if msg_type == "comm_close":
-                sent = sent._replace(content=dumps({"comm_id": self.comm_id, "data": data}).encode())
-            comms.publish(sent, parent, metadata)
+            comms.publish(sent._replace(content=content) if msg_type == "comm_close" else sent, parent, metadata)
 
         parent = comms.parent_message()
         try:
@@ -174,7 +173,6 @@ class ProvedComm(Comm):
         except CommRefused as refused:
             raise CommRefused(f"{msg_type}: {refused}") from None
         if answer.reply == Reply.OPENED:
-            content = dumps({"comm_id": self.comm_id, "data": data, **keys}).encode()
             comms.publish(Sent(msg_type, self.comm_id, content, b"{}", buffers), parent, metadata)
 
     def command(self, msg_type, data, buffers):

@@ -1,5 +1,5 @@
 """A frontend over ZeroMQ, by jupyter_client: starts the kernel, sends what a notebook sends, and gathers what comes
-back."""
+back. Numbers that aren't whole go and come by their texts (number_texts)."""
 
 import pathlib
 import tempfile
@@ -9,6 +9,7 @@ from jupyter_client import BlockingKernelClient, KernelManager
 from jupyter_client.kernelspec import KernelSpecManager
 
 import spec
+from number_texts import dumps, loads
 
 SECONDS = 120  # a machine may be busy with proofs
 
@@ -21,13 +22,13 @@ class Message(NamedTuple):
 
 
 class Frontend:
-    def __init__(self):
+    def __init__(self, name=spec.NAME):
         self.specs = tempfile.TemporaryDirectory()
         folder = pathlib.Path(self.specs.name) / spec.NAME
         folder.mkdir()
         spec.write(folder)
         specs = KernelSpecManager(kernel_dirs=[self.specs.name])
-        self.kernel = KernelManager(kernel_name=spec.NAME, kernel_spec_manager=specs)
+        self.kernel = KernelManager(kernel_name=name, kernel_spec_manager=specs)
         self.kernel.start_kernel()
         self.client = self.connected()
 
@@ -35,13 +36,14 @@ class Frontend:
         """A client with a session of its own, as another browser tab has."""
         client = BlockingKernelClient(connection_file=self.kernel.connection_file, parent=self.kernel)
         client.load_connection_file()
+        client.session.unpack = loads
         client.start_channels()
         client.wait_for_ready(timeout=SECONDS)
         return client
 
     def send(self, kind, content, metadata=None, buffers=None):
         """Sends on the shell channel. Gives what comes of it on iopub, until the kernel is idle."""
-        sent = self.client.session.msg(kind, content, metadata=metadata or {})
+        sent = {**self.client.session.msg(kind, metadata=metadata), "content": dumps(content).encode()}
         self.client.session.send(self.client.shell_channel.socket, sent, buffers=buffers)
         came = []
         while True:

@@ -19,6 +19,7 @@ from ipykernel.kernelapp import IPKernelApp
 
 from comms import ProvedComm, ProvedComms
 from rolgunai import load
+from wire import unpack
 
 LIBRARY = os.environ.get("ROLGUNAI_LIBRARY") or TOP / "crates/comm_c/out/bindings/librolgunai.so"
 
@@ -29,6 +30,7 @@ class ProvedKernel(IPythonKernel):
         self.shell.configurables.remove(self.comm_manager)
         self.comm_manager = ProvedComms(load(LIBRARY), parent=self, kernel=self)
         self.shell.configurables.append(self.comm_manager)
+        self.session.unpack = unpack
         for kind in ("comm_open", "comm_msg", "comm_close", "comm_info_request"):
             self.shell_handlers[kind] = getattr(self.comm_manager, kind)
         self.control_handlers["comm_info_request"] = self.comm_manager.comm_info_request

@@ -5,6 +5,7 @@ import sys
 import traceback
 
 from frontend import Frontend
+from number_texts import Number, loads
 
 passed = failed = 0
 PNG = b"\x89PNG\r\n\x1a\n\x00"
@@ -61,15 +62,85 @@ def a_slider(front):
     state = {**opened.content["data"]["state"], "value": 10}
     check("the manager has the state", [got.content["data"] for got in came], [update(state)])
     check(
-        "a slider with a fraction is refused",
-        front.run("ipywidgets.FloatSlider()")[0],
-        "CommRefused: comm_open: not_whole",
-    )
-    check(
         "a close in Python",
         [(got.kind, got.content["comm_id"]) for got in front.run("s.close()")[1]],
         [("comm_close", slider)],
     )
+
+
+# What the user makes, and what its state has then.
+FLOATS = (
+    ("FloatSlider(value=0.1, max=1e300)", "value", "0.1"),
+    ("FloatSlider(value=0.1, max=1e300)", "max", "1e+300"),
+    ("FloatRangeSlider(value=(0.25, 50))", "value", "[0.25,50.0]"),
+    ("FloatText(value=6.02214076e23)", "value", "6.02214076e+23"),
+    ("FloatText(value=-0.0)", "value", "-0.0"),
+    ("BoundedFloatText(value=1 / 3)", "value", "0.3333333333333333"),
+    ("FloatProgress(max=1)", "max", "1.0"),
+    ("Controller()", "timestamp", "0.0"),
+    ("interactive(lambda x: None, x=1.0).children[0]", "value", "1.0"),
+)
+
+
+def widgets_with_floats(front):
+    for made, key, text in FLOATS:
+        printed, came = front.run(f"w = ipywidgets.{made}; print(w.comm.comm_id)")
+        opened = {got.content["comm_id"]: got.content["data"]["state"] for got in came if got.kind == "comm_open"}
+        check(f"{made}: {key}", opened.get(printed.strip(), {}).get(key, printed), loads(text))
+
+
+# What a frontend sends of the value, and what Python has then. JavaScript writes 3.0 as 3.
+MOVES = (
+    ("2.50", "2.5"),
+    ("0.30000000000000004", "0.30000000000000004"),
+    ("1e-7", "1e-07"),
+    ("3", "3.0"),
+    ("7.0", "7.0"),
+    ("1E+1", "10.0"),
+    ("-0.0", "-0.0"),
+    ("0.1000000000000000055511151231257827", "0.1"),
+)
+
+
+def a_float_slider(front):
+    """Moved by the frontend: the manager has the text that it sent, Python the float."""
+    made = "f = ipywidgets.FloatSlider(value=5.5, max=10, step=0.05); print(f.comm.comm_id)"
+    printed, came = front.run(f"{made}; f.observe(lambda change: heard.append(change['new']), 'value'); heard = []")
+    slider, state = printed.strip(), came[-1].content["data"]["state"]
+    request = {"comm_id": slider, "data": {"method": "request_state"}}
+    for text, held in MOVES:
+        moved = update({"value": loads(text)})
+        check(f"a move to {text} has no answer", front.send("comm_msg", {"comm_id": slider, "data": moved}), [])
+        printed = front.run("print(repr(f.value), heard == [f.value], heard.clear())")[0]
+        check(f"a move to {text} reaches Python", printed, f"{held} True None\n")
+        came = front.send("comm_msg", request)
+        has = update({**state, "value": loads(text)})
+        check(f"the manager has {text}", [got.content["data"] for got in came], [has])
+    came = front.send("comm_msg", {"comm_id": slider, "data": update({"value": Number("12.75")})})
+    check("Python's bound comes back", [got.content["data"] for got in came], [update({"value": Number("10.0")})])
+
+
+# What Python does, and what goes out of it.
+STEPS = (
+    ("p.value = 0.1 + 0.2", '{"value":0.30000000000000004}'),
+    ("p.value = 1 / 3", '{"value":0.3333333333333333}'),
+    ("p.value = 1e-7", '{"value":1e-07}'),
+    ("p.value = 1", '{"value":1.0}'),
+    ("p.max = 1e300", '{"max":1e+300}'),
+    ("p.value = 2.0 ** 70", '{"value":1.1805916207174113e+21}'),
+    ("p.value = 0", '{"value":0.0}'),
+)
+
+
+def a_float_progress(front):
+    """Moved by the kernel, as a bar of tqdm's is."""
+    printed, came = front.run("p = ipywidgets.FloatProgress(max=1.0); print(p.comm.comm_id)")
+    bar, state = printed.strip(), came[-1].content["data"]["state"]
+    for code, text in STEPS:
+        state.update(loads(text))
+        check(f"{code} goes out", [got.content["data"] for got in front.run(code)[1]], [update(loads(text))])
+        came = front.send("comm_msg", {"comm_id": bar, "data": {"method": "request_state"}})
+        check(f"the manager has {code}", [got.content["data"] for got in came], [update(state)])
 
 
 def a_button(front):
@@ -143,8 +214,8 @@ def a_widget_of_ones_own(front):
     check("a custom message", front.send("comm_msg", custom, buffers=[b"\x01", b""]), [])
     check("what it heard", front.run("print(heard)")[0], "[('update', [b'new']), ('custom', [b'\\x01', b''])]\n")
     check("a fault isn't heard", front.send("comm_msg", {"comm_id": gauge, "data": {"method": "dance"}}), [])
-    printed = front.run("g.set(level=0.5)")[0]
-    check("a fraction is refused, and nothing goes out", printed, "CommRefused: comm_msg: not_whole")
+    changed = [got.content["data"] for got in front.run("g.set(level=0.5)")[1]]
+    check("it changes to a fraction", changed, [update({"level": Number("0.5")})])
     front.send("comm_close", {"comm_id": gauge, "data": {}})
     check("it heard the close", front.run("print(heard[2:])")[0], "['closed']\n")
     check(
@@ -207,6 +278,46 @@ def comms_of_ones_own(front):
     )
 
 
+# What a frontend sends, and what comes of twice that.
+DOUBLES = (
+    ("0.1", "0.2"),
+    ("1e-1", "0.2"),
+    ("0.15", "0.3"),
+    ("3.0", "6.0"),
+    ("3", "6"),
+    ("1e300", "2e+300"),
+    ("18446744073709551616", "36893488147419103232"),
+)
+# What no JSON number is: nothing goes out.
+NO_NUMBERS = (
+    "comms.get_comm('n').send({'x': float('nan')})",
+    "comms.get_comm('n').send({'x': [-float('inf')]})",
+    "Comm(target_name='front.target', data={'x': float('inf')})",
+    "g = Gauge(float('nan'), b'')",
+)
+
+
+def fractions_of_ones_own(front):
+    """On a plain comm that the frontend opened, and on one of the kernel's."""
+    front.run(OWN_COMMS)
+    content = {"comm_id": "n", "target_name": "my.target", "data": loads('{"x":[2.50,1e2,-0]}')}
+    came = front.send("comm_open", content)
+    wanted = [{"hello": loads('{"x":[2.5,100.0,0]}')}]
+    check("an open with fractions", [got.content["data"] for got in came], wanted)
+    for text, twice in DOUBLES:
+        came = front.send("comm_msg", {"comm_id": "n", "data": {"n": loads(text)}})
+        check(f"twice {text}", [got.content["data"] for got in came], [{"twice": loads(twice)}])
+    for code in NO_NUMBERS:
+        printed, came = front.run(code)
+        check(f"{code} is refused", (printed.partition(":")[0], came), ("ValueError", []))
+    front.run("comms.unregister_target('my.target', opened)")
+    printed, came = front.run("k = Comm(target_name='front.target', data={'x': 0.5}, metadata={'m': 1.5})")
+    opened = [(printed, got.content["data"], got.metadata) for got in came]
+    check("one of the kernel's opens", opened, [("", {"x": Number("0.5")}, {"m": Number("1.5")})])
+    for code, text in (("k.send({'x': [1e22, 0.25]})", '{"x":[1e+22,0.25]}'), ("k.close({'x': 1e-5})", '{"x":1e-05}')):
+        check(code, [got.content["data"] for got in front.run(code)[1]], [loads(text)])
+
+
 def a_comm_of_the_kernels(front):
     """A comm that the kernel's code opens towards a target of the frontend's."""
     code = (
@@ -250,10 +361,14 @@ def two_tabs_and_a_kill(front):
 
 PARTS = (
     a_slider,
+    widgets_with_floats,
+    a_float_slider,
+    a_float_progress,
     a_button,
     a_widget_with_bytes,
     a_widget_of_ones_own,
     comms_of_ones_own,
+    fractions_of_ones_own,
     a_comm_of_the_kernels,
     two_tabs_and_a_kill,
 )

@@ -8,7 +8,7 @@ PIECES = [
     b"{", b"}", b"[", b"]", b",", b":", b'"', b"\\", b" ", b"\t", b"\r", b"\n", b"\x00", b"\x1f", b"\x7f", b"\x80",
     b"\xc3", b"\xc0\x80", b"\xed\xa0\x80", b"\xff", b"\xf4\x90\x80\x80",
     b"null", b"true", b"false", b"{}", b"[]", b'""', b"[[]]", b'{"":0}', b"nul", b"0", b"-0", b"00", b"-1", b"1.0",
-    b"1e2", b"1e400", b"1e-400", b"-", b".", b"e",
+    b"1e2", b"1e400", b"1e-400", b"-", b".", b"e", b"1.00", b"1E+2", b"-0.0", b"0e0", b".5", b"+1", b"0." + b"9" * 40,
     b"18446744073709551615", b"18446744073709551616", b"9223372036854775808", b"-9223372036854775808",
     b"-9223372036854775809",
     b"\\u0000", b"\\u0061", b"\\ud800", b"\\udc00", b"\\ud83d\\ude00", b"\\n", b"\\/", b"\\x", b"\\u12",
@@ -22,14 +22,15 @@ PIECES = [
 
 class Mutants:
     """The script of each number, by one seed: random ones of so many lines at most, and examples; or random ones alone,
-    as they were made."""
+    as they were made. With `decimals` numbers that aren't whole are frequent."""
 
-    def __init__(self, root, seed, lines, are_unchanged):
-        self.seed, self.lines, self.are_unchanged = seed, lines, are_unchanged
-        self.examples = [it.read_bytes() for it in sorted((root / "examples").glob("*.jsonl"))]
+    def __init__(self, root, seed, lines, are_unchanged, decimals=False):
+        self.seed, self.lines, self.are_unchanged, self.decimals = seed, lines, are_unchanged, decimals
+        files = sorted((root / "examples").glob("*.jsonl")) + sorted((root / "examples/decimals").glob("*.jsonl"))
+        self.examples = [it.read_bytes() for it in files]
 
     def random_script(self, number):
-        return Scripts(f"{self.seed} {number}").script(self.lines)
+        return Scripts(f"{self.seed} {number}", self.decimals).script(self.lines)
 
     def script(self, number):
         if self.are_unchanged:

@@ -1,5 +1,9 @@
 """Who plays a script, and whether they differ."""
 import subprocess
+import sys
+import tempfile
+
+from .model import Model
 
 SECONDS = 60
 
@@ -10,6 +14,14 @@ def play(words, script):
     except subprocess.TimeoutExpired:
         return -1000, b"", b"no end\n"
     return ran.returncode, ran.stdout, ran.stderr
+
+
+def play_file(words, script):
+    """By a program that is given the script's file."""
+    with tempfile.NamedTemporaryFile(suffix=".jsonl") as file:
+        file.write(script)
+        file.flush()
+        return play([*words, file.name], b"")
 
 
 def words_of(out):
@@ -28,15 +40,14 @@ def words_of(out):
 
 
 class Players:
-    """The program over both managers, and another if one is named."""
+    """Those who play a script, by their names: each gives a status, what it wrote, and its standard error."""
 
-    def __init__(self, program, beside):
-        self.ways = {"one": [program], "shared": [program, "shared"]}
-        if beside:
-            self.ways["beside"] = [beside]
+    def __init__(self, ways, decimals, has_stock):
+        self.ways = ways
+        self.ways["model"] = lambda script: (0, Model(decimals, has_stock).played(script), b"")
 
     def played(self, script):
-        return [(name, play(words, script)) for name, words in self.ways.items()]
+        return [(name, way(script)) for name, way in self.ways.items()]
 
     def compared(self, script):
         """Whether they differ, or end otherwise than by status 0 with nothing on standard error; and the words that
@@ -47,3 +58,22 @@ class Players:
 
     def differ(self, script):
         return self.compared(script)[0]
+
+
+def of_program(program, beside):
+    """The program over both managers, another if one is named, and the model."""
+    commands = {"one": [program], "shared": [program, "shared"], **({"beside": [beside]} if beside else {})}
+    ways = {name: lambda script, words=words: play(words, script) for name, words in commands.items()}
+    return Players(ways, decimals=False, has_stock=True)
+
+
+def of_library(root, folder, beside):
+    """The library from C and from Python, opened with decimals, another program if one is named, and the model."""
+    script = root / "bindings/python/play.py"
+    from_python = [sys.executable, "-B", script, folder / "librolgunai.so", "--decimals"]
+    ways = {
+        "c": lambda it: play_file([folder / "play", "--decimals"], it),
+        "python": lambda it: play_file(from_python, it),
+        **({"beside": lambda it: play([beside], it)} if beside else {}),
+    }
+    return Players(ways, decimals=True, has_stock=False)

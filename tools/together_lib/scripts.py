@@ -1,15 +1,11 @@
 """Random scripts of several clients who have ids and names in common, so that what comes of a line depends on the
 others."""
-import json
-
+from fuzz_lib.json_texts import loose
 from fuzz_lib.scripts import Scripts
 from together_lib.lines import CLIENTS
 
 FIRST = ((("widget", "widget_echo"), "jupyter.widget"), (("echo",), "t"), (("counter",), "u"))
 FEW_IDS = ["a", "b", "é"]
-# How many of these lines stay, of those that tools/fuzz makes. A target that was unregistered or replaced doesn't come
-# back.
-KEPT = {"register": 0.3, "unregister": 0.12, "comm_close": 0.5, "hang_up": 0.5}
 
 
 def kind_of(line):
@@ -30,9 +26,7 @@ class Shared(Scripts):
 
     def asked(self):
         """What a line asks for, of few comms mostly."""
-        line = None
-        while line is None or self.random.random() >= KEPT.get(kind_of(line), 1):
-            line = self.message() if self.random.random() < 0.65 else self.command()
+        line = self.message() if self.random.random() < 0.65 else self.command()
         if self.random.random() < 0.2:
             line = self.read()
         for place, key in (line, "id"), (line.get("content"), "comm_id"):
@@ -46,11 +40,11 @@ class Shared(Scripts):
             line["client"] = client
         if self.random.random() < 0.15:
             line["hear"] = self.random.choice(
-                [it for it in range(clients) if it != client] + [client, CLIENTS, None] * self.rarely()
+                [it for it in range(clients) if it != client] + [client, CLIENTS, None, self.decimal()] * self.rarely()
             )
         if self.rarely(40):
             line[self.random.choice(list(line))] = self.odd()
-        text = json.dumps(line, ensure_ascii=self.random.random() < 0.5)
+        text = loose(line, self.random.random() < 0.5)
         if self.rarely(60):
             text = self.random.choice(["", " \t\r", text[: self.random.randrange(len(text))]])
         return text

@@ -22,9 +22,12 @@ pub fn shut_down<M: ManagerId, T: Target, R: Wait>(
     clients: Vec<Client<M>>,
     publisher: Publisher<M>,
 ) -> Result<Ended, Cause>
-    ensures legal { IfOk result (λ e. IsLegal M.limits.clients M.limits.comms (entries_of e.farewell.history.items)) }
-    ensures settled { IfOk result (λ e. All (λ w. IsSettled (entries_of e.farewell.history.items) w) clients.items) }
-    ensures untaken { IfOk result (λ e. publisher ++ entries_of e.farewell.untaken.items ≡ entries_of e.farewell.history.items) }
+    ensures legal { IfOk result (λ e.
+        IsLegal M.limits.clients M.limits.comms (entries_of e.farewell.history.items)) }
+    ensures settled { IfOk result (λ e.
+        All (λ w. IsSettled (entries_of e.farewell.history.items) w) clients.items) }
+    ensures untaken { IfOk result (λ e. publisher ++ entries_of e.farewell.untaken.items
+        ≡ entries_of e.farewell.history.items) }
     ensures taken { IfOk result (λ e. e.taken ≡ length publisher) }
 {
     let taken = publisher.taken();

@@ -15,7 +15,7 @@ use Rattle.comm_script.specs.declared.asked.Request.{Request}
 use Rattle.comm_script.specs.declared.asked.Request.TheVariants as asks_for
 use Rattle.comm_c.specs.CountedCore.{Changes}
 use Rattle.comm_c.specs.Legal.{HasMade, MakesOne, CallsMakeLegalHistories}
-use Rattle.comm_c.specs.PlaysLine.{SaysOnly, Obeys, AnswersLine, PlaysLineIf, PlaysLine}
+use Rattle.comm_c.specs.PlaysLine.{SaysOnly, PlaysRequest, AnswersLine, PlaysLineIf, PlaysLine}
 use Rattle.comm_c.specs.declared.counted_core.CountedCore.{CountedCore}
 use Rattle.comm_c.proofs.Counting.{Grows, own_made, other_made, zeros}
 
@@ -62,19 +62,19 @@ says_none h d after text said has s = record {
   has = subst (λ (es : List Entry). HasMade es after) (sym (append-nil h)) (subst (λ (e : CountedCore). HasMade h e) (sym s.0) has);
 }
 
-obey_one : GrowsLegal → Grows → (h : List Entry) (d : CountedCore) (client : ℕ) (a : Request) (after : CountedCore) (said : List ℕ) → HasMade h d → Obeys d client a after said → MakesOne h after
-obey_one legal grows h d client (asks_for.Change c) after said has o = change_one legal grows h d client c after said has o.1
-obey_one legal grows h d client (asks_for.Register kind name) after said has o = change_one legal grows h d client _ after said has o
-obey_one legal grows h d client (asks_for.Infos target) after said has o = says_none h d after _ said has o
-obey_one legal grows h d client (asks_for.State id) after said has o = says_none h d after _ said has o
+request_one : GrowsLegal → Grows → (h : List Entry) (d : CountedCore) (client : ℕ) (a : Request) (after : CountedCore) (said : List ℕ) → HasMade h d → PlaysRequest d client a after said → MakesOne h after
+request_one legal grows h d client (asks_for.Change c) after said has o = change_one legal grows h d client c after said has o.1
+request_one legal grows h d client (asks_for.Register kind name) after said has o = change_one legal grows h d client _ after said has o
+request_one legal grows h d client (asks_for.Infos target) after said has o = says_none h d after _ said has o
+request_one legal grows h d client (asks_for.State id) after said has o = says_none h d after _ said has o
 
 answer_one : GrowsLegal → Grows → (h : List Entry) (d : CountedCore) (number : ℕ) (r : Reading (ℕ × Request)) (after : CountedCore) (said : List ℕ) → HasMade h d → AnswersLine d number r after said → MakesOne h after
-answer_one legal grows h d number (Ok m) after said has a = obey_one legal grows h d m.0 m.1 after said has a
+answer_one legal grows h d number (Ok m) after said has a = request_one legal grows h d m.0 m.1 after said has a
 answer_one legal grows h d number (Err fault) after said has a = says_none h d after _ said has a
 
 line_one : GrowsLegal → Grows → (h : List Entry) (d : CountedCore) (number : ℕ) (line : List ℕ) (after : CountedCore) (said : List ℕ) → HasMade h d → (b : Bool) → PlaysLineIf b d number line after said → MakesOne h after
 line_one legal grows h d number line after said has true t = says_none h d after [] said has t
-line_one legal grows h d number line after said has false t = answer_one legal grows h d number (asked 4 line) after said has t
+line_one legal grows h d number line after said has false t = answer_one legal grows h d number (asked d.taken 4 line) after said has t
 
 played_one : GrowsLegal → Grows → (h : List Entry) (d : CountedCore) (number : ℕ) (line : List ℕ) (after : CountedCore) (said : List ℕ) → HasMade h d → PlaysLine d number line after said → MakesOne h after
 unfolding PlaysLine
@@ -82,7 +82,7 @@ played_one legal grows h d number line after said has t = line_one legal grows h
 
 pub calls : GrowsLegal → Grows → CallsMakeLegalHistories
 calls legal grows = record {
-  first = λ comms. record {
+  first = λ comms taken. record {
     legal = tt;
     goes_on = refl;
     machine_is = refl;

@@ -17,7 +17,8 @@ use Rattle.comm_core.specs.declared.entry.Entry.TheVariants.{Change}
 use Rattle.comm_script.specs.Command.{asked}
 use Rattle.comm_script.specs.Line.{Reading}
 use Rattle.comm_script.specs.Lines.{lines_of, is_blank}
-use Rattle.comm_script.specs.Played.{Standing, Turn, says, called, changed, registered, obeyed, answered, turn, played_from, played}
+use Rattle.comm_value.specs.declared.from_json.Numbers.{Numbers}
+use Rattle.comm_script.specs.Played.{Standing, Turn, says, called, changed, registered, executed, answered, turn, played_from, played}
 use Rattle.comm_script.specs.Stock.{first_of, has_kind, rest_of}
 use Rattle.comm_script.specs.Words.{reply_line, out_line, out_lines, state_line}
 use Rattle.comm_script.specs.declared.asked.Request.{Request}
@@ -26,24 +27,25 @@ use Rattle.comm_script.specs.declared.stock.StockKind.{StockKind}
 use Rattle.comm_script.specs.declared.stock.StockKind.TheVariants as stock_kind
 use Rattle.comm_c.specs.CountedCore.{Changes, fresh_counted_core}
 use Rattle.comm_c.specs.ManagerState.{ManagerState, limits_of, new_manager}
-use Rattle.comm_c.specs.PlaysLine.{SaysOnly, Registers, Obeys, AnswersLine, PlaysLineIf, PlaysLine, target_kind}
+use Rattle.comm_c.specs.PlaysLine.{SaysOnly, Registers, PlaysRequest, AnswersLine, PlaysLineIf, PlaysLine, target_kind}
 use Rattle.comm_c.specs.Scripts.{HasEnough, LinesPlayScripts, PlayedLine, Runs, lines_in, one_if, registered_by, registered_by_reading, registered_by_request, said_in, stock_of}
 use Rattle.comm_c.specs.declared.counted_core.CountedCore.{CountedCore}
 use Rattle.comm_c.proofs.Counting.{Grows, own_made, other_made, zeros}
 use Rattle.comm_c.proofs.EnoughTargets.{at_most_sum, first_is_fresh, less, rest_has_enough, stock_has_enough}
 
 -- it stands so
-pub record StandsAt (comms : ℕ) (now : Standing) (d : CountedCore) : Type 0 where
+pub record StandsAt (taken : Numbers) (comms : ℕ) (now : Standing) (d : CountedCore) : Type 0 where
   pub limit : d.core.limit ≡ comms
   pub machine_is : machine d.core ≡ replay comms now.history
   pub exact : is_exact (machine d.core) ≡ true
   pub changes : d.changes ≡ length now.history
   pub made : (c : ℕ) → c < 4 → get_or d.made c 0 ≡ length (mine now.history c)
   pub few : length d.made ≡ 4
+  pub taken_is : d.taken ≡ taken
 
 -- it stands as after the turn, said its text, and the stock has enough for what more is registered
-abbrev pub Turned : ℕ → (StockKind → ℕ) → Turn → CountedCore → List ℕ → Type 0
-Turned comms more t after said = (said ≡ t.text) × (StandsAt comms t.after after × HasEnough t.after.stock more)
+abbrev pub Turned : Numbers → ℕ → (StockKind → ℕ) → Turn → CountedCore → List ℕ → Type 0
+Turned taken comms more t after said = (said ≡ t.text) × (StandsAt taken comms t.after after × HasEnough t.after.stock more)
 
 -- ---- the laws of the core
 
@@ -72,23 +74,23 @@ entry comms now client c S =
     Change client (length (mine now.history client) + 1) c (exact_outcome comms (replay comms now.history) c) S.reply S.outgoing
 
 -- the step of the definition
-exact_step : NoChoice → (comms : ℕ) (now : Standing) (d : CountedCore) (client : ℕ) (c : Call) (after : CountedCore) (said : List ℕ)
-    → StandsAt comms now d → (ch : Changes d client c after said)
+exact_step : NoChoice → (taken : Numbers) (comms : ℕ) (now : Standing) (d : CountedCore) (client : ℕ) (c : Call) (after : CountedCore) (said : List ℕ)
+    → StandsAt taken comms now d → (ch : Changes d client c after said)
     → step comms (replay comms now.history) c (exact_outcome comms (replay comms now.history) c)
     ≡ Some (record { reply = ch.reply; outgoing = ch.outgoing; next = machine after.core })
-exact_step law comms now d client c after said stands ch =
+exact_step law taken comms now d client c after said stands ch =
     let S : Stepped = record { reply = ch.reply; outgoing = ch.outgoing; next = machine after.core } in
     let exact : step d.core.limit (machine d.core) c (exact_outcome d.core.limit (machine d.core) c) ≡ Some S =
     subst (λ (o : Option Outcome). step d.core.limit (machine d.core) c o ≡ Some S) (law d.core.limit (machine d.core) c ch.outcome stands.exact ch.allowed) ch.step_is in
     subst (λ (m : Machine). step comms m c (exact_outcome comms m c) ≡ Some S) stands.machine_is
     (subst (λ (l : ℕ). step l (machine d.core) c (exact_outcome l (machine d.core) c) ≡ Some S) stands.limit exact)
 
-grown : NoChoice → KeepsExact → Grows → (comms : ℕ) (now : Standing) (d : CountedCore) (client : ℕ) (c : Call) (after : CountedCore) (said : List ℕ)
-    (stock : List Registered) → StandsAt comms now d → registers_free c ≡ false → (ch : Changes d client c after said)
-    → StandsAt comms (record { history = now.history ++ entry comms now client c (record { reply = ch.reply; outgoing = ch.outgoing; next = machine after.core }) ∷ []; stock = stock }) after
-grown law keeps grows comms now d client c after said stock stands kept ch =
+grown : NoChoice → KeepsExact → Grows → (taken : Numbers) (comms : ℕ) (now : Standing) (d : CountedCore) (client : ℕ) (c : Call) (after : CountedCore) (said : List ℕ)
+    (stock : List Registered) → StandsAt taken comms now d → registers_free c ≡ false → (ch : Changes d client c after said)
+    → StandsAt taken comms (record { history = now.history ++ entry comms now client c (record { reply = ch.reply; outgoing = ch.outgoing; next = machine after.core }) ∷ []; stock = stock }) after
+grown law keeps grows taken comms now d client c after said stock stands kept ch =
     let S : Stepped = record { reply = ch.reply; outgoing = ch.outgoing; next = machine after.core } in
-    let is = exact_step law comms now d client c after said stands ch in
+    let is = exact_step law taken comms now d client c after said stands ch in
     let below : client < length d.made = let f : length d.made ≡ 4 = stands.few in let b : client < 4 = ch.below in omega (arith, f, b) in
     record {
       limit = ch.limit ∙ stands.limit;
@@ -100,26 +102,27 @@ grown law keeps grows comms now d client c after said stock stands kept ch =
         | inr e ↦ other_made now.history client k (length (mine now.history client) + 1) c (exact_outcome comms (replay comms now.history) c) S d.made e.1 (stands.made k few)
       ]);
       few = ap (λ (m : List ℕ). length m) ch.made ∙ length-set d.made client (get_or d.made client 0 + 1) ∙ stands.few;
+      taken_is = ch.taken ∙ stands.taken_is;
     }
 
-change_turn : NoChoice → KeepsExact → Grows → (comms : ℕ) (more : StockKind → ℕ) (now : Standing) (d : CountedCore) (client : ℕ) (c : Call) (after : CountedCore)
-    (said : List ℕ) (stock : List Registered) → StandsAt comms now d → registers_free c ≡ false → Changes d client c after said → HasEnough stock more
-    → Turned comms more (called (limits_of comms) now client c stock) after said
-change_turn law keeps grows comms more now d client c after said stock stands kept ch enough =
+change_turn : NoChoice → KeepsExact → Grows → (taken : Numbers) (comms : ℕ) (more : StockKind → ℕ) (now : Standing) (d : CountedCore) (client : ℕ) (c : Call) (after : CountedCore)
+    (said : List ℕ) (stock : List Registered) → StandsAt taken comms now d → registers_free c ≡ false → Changes d client c after said → HasEnough stock more
+    → Turned taken comms more (called (limits_of comms) now client c stock) after said
+change_turn law keeps grows taken comms more now d client c after said stock stands kept ch enough =
     let S : Stepped = record { reply = ch.reply; outgoing = ch.outgoing; next = machine after.core } in
     let is : called (limits_of comms) now client c stock ≡ changed (limits_of comms) now client c stock (Some S) =
-    ap (changed (limits_of comms) now client c stock) (exact_step law comms now d client c after said stands ch) in
+    ap (changed (limits_of comms) now client c stock) (exact_step law taken comms now d client c after said stands ch) in
     let text : said ≡ reply_line (length now.history + 1) S.reply ++ out_lines S.outgoing (parent.Call client (length (mine now.history client) + 1)) =
     ch.said_is ∙ ap (λ (n : ℕ). reply_line (n + 1) S.reply ++ out_lines S.outgoing (parent.Call client (get_or d.made client 0 + 1))) stands.changes
     ∙ ap (λ (n : ℕ). reply_line (length now.history + 1) S.reply ++ out_lines S.outgoing (parent.Call client (n + 1))) (stands.made client ch.below) in
-    subst (λ (t : Turn). Turned comms more t after said) (sym is) (text, (grown law keeps grows comms now d client c after said stock stands kept ch, enough))
+    subst (λ (t : Turn). Turned taken comms more t after said) (sym is) (text, (grown law keeps grows taken comms now d client c after said stock stands kept ch, enough))
 
 -- ---- what a line asks for
 
-says_turn : (comms : ℕ) (more : StockKind → ℕ) (now : Standing) (d after : CountedCore) (text wanted said : List ℕ) → StandsAt comms now d → text ≡ wanted
-    → HasEnough now.stock more → SaysOnly d text after said → Turned comms more (says now wanted) after said
-says_turn comms more now d after text wanted said stands is enough s =
-    (s.1 ∙ is, (subst (λ (e : CountedCore). StandsAt comms now e) (sym s.0) stands, enough))
+says_turn : (taken : Numbers) (comms : ℕ) (more : StockKind → ℕ) (now : Standing) (d after : CountedCore) (text wanted said : List ℕ) → StandsAt taken comms now d → text ≡ wanted
+    → HasEnough now.stock more → SaysOnly d text after said → Turned taken comms more (says now wanted) after said
+says_turn taken comms more now d after text wanted said stands is enough s =
+    (s.1 ∙ is, (subst (λ (e : CountedCore). StandsAt taken comms now e) (sym s.0) stands, enough))
 
 kind_exact : (w : StockKind) → is_free (target_kind w) ≡ false
 kind_exact stock_kind.Echo = refl
@@ -127,12 +130,12 @@ kind_exact stock_kind.Counter = refl
 kind_exact stock_kind.Widget = refl
 kind_exact stock_kind.WidgetEcho = refl
 
-register_turn : NoChoice → KeepsExact → Grows → (comms : ℕ) (more : StockKind → ℕ) (now : Standing) (d : CountedCore) (number client : ℕ) (w : StockKind) (name : Name)
-    (after : CountedCore) (said : List ℕ) → StandsAt comms now d → HasEnough now.stock (λ v. one_if (has_kind v (target_kind w)) + more v) → Registers d client (target_kind w) name after said
-    → Turned comms more (registered (limits_of comms) now number client w name (first_of w now.stock)) after said
-register_turn law keeps grows comms more now d number client w name after said stands enough ch =
+register_turn : NoChoice → KeepsExact → Grows → (taken : Numbers) (comms : ℕ) (more : StockKind → ℕ) (now : Standing) (d : CountedCore) (number client : ℕ) (w : StockKind) (name : Name)
+    (after : CountedCore) (said : List ℕ) → StandsAt taken comms now d → HasEnough now.stock (λ v. one_if (has_kind v (target_kind w)) + more v) → Registers d client (target_kind w) name after said
+    → Turned taken comms more (registered (limits_of comms) now number client w name (first_of w now.stock)) after said
+register_turn law keeps grows taken comms more now d number client w name after said stands enough ch =
     rw (first_is_fresh w now.stock more enough)
-    (change_turn law keeps grows comms more now d client (Register name (target_kind w) 0) after said (rest_of w now.stock) stands (kind_exact w) ch
+    (change_turn law keeps grows taken comms more now d client (Register name (target_kind w) 0) after said (rest_of w now.stock) stands (kind_exact w) ch
     (rest_has_enough w now.stock more enough))
 
 without_request : (a : Request) (more : StockKind → ℕ) (stock : List Registered) → HasEnough stock (λ w. registered_by_request w a + more w)
@@ -140,86 +143,88 @@ without_request : (a : Request) (more : StockKind → ℕ) (stock : List Registe
 without_request a more stock enough =
     less stock (λ w. registered_by_request w a + more w) more (λ w. at_most_sum (registered_by_request w a) (more w)) enough
 
-obey_turn : NoChoice → KeepsExact → Grows → (comms : ℕ) (more : StockKind → ℕ) (now : Standing) (d : CountedCore) (number client : ℕ) (a : Request)
-    (after : CountedCore) (said : List ℕ) → StandsAt comms now d → HasEnough now.stock (λ w. registered_by_request w a + more w) → Obeys d client a after said
-    → Turned comms more (obeyed (limits_of comms) now number client a) after said
-obey_turn law keeps grows comms more now d number client (asks_for.Change c) after said stands enough o =
-    change_turn law keeps grows comms more now d client c after said now.stock stands (handless_free c o.0) o.1
+request_turn : NoChoice → KeepsExact → Grows → (taken : Numbers) (comms : ℕ) (more : StockKind → ℕ) (now : Standing) (d : CountedCore) (number client : ℕ) (a : Request)
+    (after : CountedCore) (said : List ℕ) → StandsAt taken comms now d → HasEnough now.stock (λ w. registered_by_request w a + more w) → PlaysRequest d client a after said
+    → Turned taken comms more (executed (limits_of comms) now number client a) after said
+request_turn law keeps grows taken comms more now d number client (asks_for.Change c) after said stands enough o =
+    change_turn law keeps grows taken comms more now d client c after said now.stock stands (handless_free c o.0) o.1
     (without_request (asks_for.Change c) more now.stock enough)
-obey_turn law keeps grows comms more now d number client (asks_for.Register kind name) after said stands enough o =
-    register_turn law keeps grows comms more now d number client kind name after said stands enough o
-obey_turn law keeps grows comms more now d number client (asks_for.Infos target) after said stands enough o =
-    says_turn comms more now d after _ _ said stands
+request_turn law keeps grows taken comms more now d number client (asks_for.Register kind name) after said stands enough o =
+    register_turn law keeps grows taken comms more now d number client kind name after said stands enough o
+request_turn law keeps grows taken comms more now d number client (asks_for.Infos target) after said stands enough o =
+    says_turn taken comms more now d after _ _ said stands
     (ap (λ (m : Machine). out_line (out.InfoReply (infos m target)) (parent.Read client d.changes)) stands.machine_is
     ∙ ap (λ (n : ℕ). out_line (out.InfoReply (infos (replay comms now.history) target)) (parent.Read client n)) stands.changes)
     (without_request (asks_for.Infos target) more now.stock enough) o
-obey_turn law keeps grows comms more now d number client (asks_for.State id) after said stands enough o =
-    says_turn comms more now d after _ _ said stands
+request_turn law keeps grows taken comms more now d number client (asks_for.State id) after said stands enough o =
+    says_turn taken comms more now d after _ _ said stands
     (ap (λ (m : Machine). state_line d.changes (state_of m id)) stands.machine_is ∙ ap (λ (n : ℕ). state_line n (state_of (replay comms now.history) id)) stands.changes)
     (without_request (asks_for.State id) more now.stock enough) o
 
 -- ---- a line
 
-answer_turn : NoChoice → KeepsExact → Grows → (comms : ℕ) (more : StockKind → ℕ) (now : Standing) (d : CountedCore) (number : ℕ) (r : Reading (ℕ × Request))
-    (after : CountedCore) (said : List ℕ) → StandsAt comms now d → HasEnough now.stock (λ w. registered_by_reading w r + more w) → AnswersLine d number r after said
-    → Turned comms more (answered (limits_of comms) now number r) after said
-answer_turn law keeps grows comms more now d number (Ok m) after said stands enough a =
-    obey_turn law keeps grows comms more now d number m.0 m.1 after said stands enough a
-answer_turn law keeps grows comms more now d number (Err fault) after said stands enough a =
-    says_turn comms more now d after _ _ said stands refl (less now.stock (λ w. registered_by_reading w (Err fault) + more w) more (λ w. at_most_sum (registered_by_reading w (Err fault)) (more w)) enough) a
+answer_turn : NoChoice → KeepsExact → Grows → (taken : Numbers) (comms : ℕ) (more : StockKind → ℕ) (now : Standing) (d : CountedCore) (number : ℕ) (r : Reading (ℕ × Request))
+    (after : CountedCore) (said : List ℕ) → StandsAt taken comms now d → HasEnough now.stock (λ w. registered_by_reading w r + more w) → AnswersLine d number r after said
+    → Turned taken comms more (answered (limits_of comms) now number r) after said
+answer_turn law keeps grows taken comms more now d number (Ok m) after said stands enough a =
+    request_turn law keeps grows taken comms more now d number m.0 m.1 after said stands enough a
+answer_turn law keeps grows taken comms more now d number (Err fault) after said stands enough a =
+    says_turn taken comms more now d after _ _ said stands refl (less now.stock (λ w. registered_by_reading w (Err fault) + more w) more (λ w. at_most_sum (registered_by_reading w (Err fault)) (more w)) enough) a
 
 -- how many targets of the kind a line registers, by whether it is blank
-abbrev registered_if : Bool → List ℕ → StockKind → ℕ
-registered_if b line w = if b then 0 else registered_by_reading w (asked 4 line)
+abbrev registered_if : Numbers → Bool → List ℕ → StockKind → ℕ
+registered_if taken b line w = if b then 0 else registered_by_reading w (asked taken 4 line)
 
-line_turn : NoChoice → KeepsExact → Grows → (comms : ℕ) (more : StockKind → ℕ) (now : Standing) (d : CountedCore) (number : ℕ) (line : List ℕ) (after : CountedCore)
-    (said : List ℕ) → StandsAt comms now d → (b : Bool) → HasEnough now.stock (λ w. registered_if b line w + more w) → PlaysLineIf b d number line after said
-    → Turned comms more (if b then says now [] else answered (limits_of comms) now number (asked 4 line)) after said
-line_turn law keeps grows comms more now d number line after said stands true enough t =
-    says_turn comms more now d after [] [] said stands refl (less now.stock (λ w. registered_if true line w + more w) more (λ w. at_most_sum (registered_if true line w) (more w)) enough) t
-line_turn law keeps grows comms more now d number line after said stands false enough t =
-    answer_turn law keeps grows comms more now d number (asked 4 line) after said stands enough t
+line_turn : NoChoice → KeepsExact → Grows → (taken : Numbers) (comms : ℕ) (more : StockKind → ℕ) (now : Standing) (d : CountedCore) (number : ℕ) (line : List ℕ) (after : CountedCore)
+    (said : List ℕ) → StandsAt taken comms now d → (b : Bool) → HasEnough now.stock (λ w. registered_if taken b line w + more w) → PlaysLineIf b d number line after said
+    → Turned taken comms more (if b then says now [] else answered (limits_of comms) now number (asked taken 4 line)) after said
+line_turn law keeps grows taken comms more now d number line after said stands true enough t =
+    says_turn taken comms more now d after [] [] said stands refl (less now.stock (λ w. registered_if taken true line w + more w) more (λ w. at_most_sum (registered_if taken true line w) (more w)) enough) t
+line_turn law keeps grows taken comms more now d number line after said stands false enough t =
+    answer_turn law keeps grows taken comms more now d number (asked taken 4 line) after said stands enough
+    (subst (λ (n : Numbers). AnswersLine d number (asked n 4 line) after said) stands.taken_is t)
 
-turned : NoChoice → KeepsExact → Grows → (comms : ℕ) (more : StockKind → ℕ) (now : Standing) (d : CountedCore) (number : ℕ) (line : List ℕ) (after : CountedCore)
-    (said : List ℕ) → StandsAt comms now d → HasEnough now.stock (λ w. registered_if (is_blank line) line w + more w) → PlaysLine d number line after said
-    → Turned comms more (turn (limits_of comms) now number line) after said
+turned : NoChoice → KeepsExact → Grows → (taken : Numbers) (comms : ℕ) (more : StockKind → ℕ) (now : Standing) (d : CountedCore) (number : ℕ) (line : List ℕ) (after : CountedCore)
+    (said : List ℕ) → StandsAt taken comms now d → HasEnough now.stock (λ w. registered_if taken (is_blank line) line w + more w) → PlaysLine d number line after said
+    → Turned taken comms more (turn taken (limits_of comms) now number line) after said
 unfolding PlaysLine turn
-turned law keeps grows comms more now d number line after said stands enough t =
-    line_turn law keeps grows comms more now d number line after said stands (is_blank line) enough t
+turned law keeps grows taken comms more now d number line after said stands enough t =
+    line_turn law keeps grows taken comms more now d number line after said stands (is_blank line) enough t
 
 -- ---- lines one after another
 
-run_turns : NoChoice → KeepsExact → Grows → (comms : ℕ) (now : Standing) (k : ManagerState) (ps : List PlayedLine) (n : ℕ) → StandsAt comms now k.counted_core
-    → HasEnough now.stock (λ w. registered_by w (lines_in ps)) → k.number ≡ n → Runs k ps → said_in ps ≡ (played_from (limits_of comms) now n (lines_in ps)).text
-run_turns law keeps grows comms now k [] n stands enough is runs = refl
-run_turns law keeps grows comms now k (p ∷ ps) n stands enough is runs =
-    let first : Turn = turn (limits_of comms) now (n + 1) p.0 in
-    let more : StockKind → ℕ = λ w. registered_by w (lines_in ps) in
-    let t : Turned comms more first p.1.counted_core p.1.text =
-    subst (λ (i : ℕ). Turned comms more (turn (limits_of comms) now (i + 1) p.0) p.1.counted_core p.1.text) is
-    (turned law keeps grows comms more now k.counted_core (k.number + 1) p.0 p.1.counted_core p.1.text stands enough runs.0.1) in
+run_turns : NoChoice → KeepsExact → Grows → (taken : Numbers) (comms : ℕ) (now : Standing) (k : ManagerState) (ps : List PlayedLine) (n : ℕ) → StandsAt taken comms now k.counted_core
+    → HasEnough now.stock (λ w. registered_by taken w (lines_in ps)) → k.number ≡ n → Runs k ps → said_in ps ≡ (played_from taken (limits_of comms) now n (lines_in ps)).text
+run_turns law keeps grows taken comms now k [] n stands enough is runs = refl
+run_turns law keeps grows taken comms now k (p ∷ ps) n stands enough is runs =
+    let first : Turn = turn taken (limits_of comms) now (n + 1) p.0 in
+    let more : StockKind → ℕ = λ w. registered_by taken w (lines_in ps) in
+    let t : Turned taken comms more first p.1.counted_core p.1.text =
+    subst (λ (i : ℕ). Turned taken comms more (turn taken (limits_of comms) now (i + 1) p.0) p.1.counted_core p.1.text) is
+    (turned law keeps grows taken comms more now k.counted_core (k.number + 1) p.0 p.1.counted_core p.1.text stands enough runs.0.1) in
     ap (λ (x : List ℕ). x ++ said_in ps) t.0
-    ∙ ap (λ (x : List ℕ). first.text ++ x) (run_turns law keeps grows comms first.after p.1 ps (n + 1) t.1.0 t.1.1 (runs.0.0 ∙ ap (λ (i : ℕ). i + 1) is) runs.1)
+    ∙ ap (λ (x : List ℕ). first.text ++ x) (run_turns law keeps grows taken comms first.after p.1 ps (n + 1) t.1.0 t.1.1 (runs.0.0 ∙ ap (λ (i : ℕ). i + 1) is) runs.1)
 
-runs_play : NoChoice → KeepsExact → Grows → (comms : ℕ) (ps : List PlayedLine) (input : List ℕ) (stock : List Registered) → Runs (new_manager comms) ps
-    → lines_of input ≡ lines_in ps → HasEnough stock (λ w. registered_by w (lines_in ps)) → said_in ps ≡ played (limits_of comms) stock input
-runs_play law keeps grows comms ps input stock runs is enough =
+runs_play : NoChoice → KeepsExact → Grows → (taken : Numbers) (comms : ℕ) (ps : List PlayedLine) (input : List ℕ) (stock : List Registered) → Runs (new_manager comms taken) ps
+    → lines_of input ≡ lines_in ps → HasEnough stock (λ w. registered_by taken w (lines_in ps)) → said_in ps ≡ played taken (limits_of comms) stock input
+runs_play law keeps grows taken comms ps input stock runs is enough =
     let start : Standing = record { history = []; stock = stock } in
-    let stands : StandsAt comms start (fresh_counted_core comms) = record {
+    let stands : StandsAt taken comms start (fresh_counted_core comms taken) = record {
       limit = refl;
       machine_is = refl;
       exact = refl;
       changes = refl;
       made = λ c few. zeros c;
       few = refl;
+      taken_is = refl;
     } in
-    run_turns law keeps grows comms start (new_manager comms) ps 0 stands enough refl runs
-    ∙ ap (λ (ls : List (List ℕ)). (played_from (limits_of comms) start 0 ls).text) (sym is)
+    run_turns law keeps grows taken comms start (new_manager comms taken) ps 0 stands enough refl runs
+    ∙ ap (λ (ls : List (List ℕ)). (played_from taken (limits_of comms) start 0 ls).text) (sym is)
 
 pub scripts : NoChoice → KeepsExact → Grows → LinesPlayScripts
 scripts law keeps grows = record {
-  exact = λ comms ps input runs is.
-      let wanted : StockKind → ℕ = λ w. registered_by w (lines_in ps) in
-      runs_play law keeps grows comms ps input (stock_of wanted) runs is (stock_has_enough wanted);
-  at_least = λ comms ps input stock runs is enough. runs_play law keeps grows comms ps input stock runs is enough;
+  exact = λ comms taken ps input runs is.
+      let wanted : StockKind → ℕ = λ w. registered_by taken w (lines_in ps) in
+      runs_play law keeps grows taken comms ps input (stock_of wanted) runs is (stock_has_enough wanted);
+  at_least = λ comms taken ps input stock runs is enough. runs_play law keeps grows taken comms ps input stock runs is enough;
 }

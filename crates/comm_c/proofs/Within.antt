@@ -7,7 +7,7 @@ use Rattle.comm_script.specs.Lines.{is_blank}
 use Rattle.comm_script.specs.declared.asked.Request.{Request}
 use Rattle.comm_script.specs.declared.asked.Request.TheVariants as asks_for
 use Rattle.comm_c.specs.CountedCore.{Changes, HasMadeAtMost}
-use Rattle.comm_c.specs.PlaysLine.{SaysOnly, Obeys, AnswersLine, PlaysLineIf, PlaysLine}
+use Rattle.comm_c.specs.PlaysLine.{SaysOnly, PlaysRequest, AnswersLine, PlaysLineIf, PlaysLine}
 use Rattle.comm_c.specs.declared.counted_core.CountedCore.{CountedCore}
 
 set_within : (n : ℕ) (xs : List ℕ) (i v k : ℕ) → ((c : ℕ) → get_or xs c 0 ≤ n) → v ≤ n + 1 → get_or (set xs i v) k 0 ≤ n + 1
@@ -30,19 +30,19 @@ says_within n d after text said few s = subst (λ (e : CountedCore). HasMadeAtMo
   made = λ k. let f : get_or d.made k 0 ≤ n = few.made k in omega (arith, f);
 })
 
-obey_within : (n client : ℕ) (d after : CountedCore) (a : Request) (said : List ℕ) → HasMadeAtMost n d → Obeys d client a after said → HasMadeAtMost (n + 1) after
-obey_within n client d after (asks_for.Change c) said few o = change_within n client d after c said few o.1
-obey_within n client d after (asks_for.Register kind name) said few o = change_within n client d after _ said few o
-obey_within n client d after (asks_for.Infos target) said few o = says_within n d after _ said few o
-obey_within n client d after (asks_for.State id) said few o = says_within n d after _ said few o
+request_within : (n client : ℕ) (d after : CountedCore) (a : Request) (said : List ℕ) → HasMadeAtMost n d → PlaysRequest d client a after said → HasMadeAtMost (n + 1) after
+request_within n client d after (asks_for.Change c) said few o = change_within n client d after c said few o.1
+request_within n client d after (asks_for.Register kind name) said few o = change_within n client d after _ said few o
+request_within n client d after (asks_for.Infos target) said few o = says_within n d after _ said few o
+request_within n client d after (asks_for.State id) said few o = says_within n d after _ said few o
 
 answer_within : (n number : ℕ) (d after : CountedCore) (r : Reading (ℕ × Request)) (said : List ℕ) → HasMadeAtMost n d → AnswersLine d number r after said → HasMadeAtMost (n + 1) after
-answer_within n number d after (Ok m) said few a = obey_within n m.0 d after m.1 said few a
+answer_within n number d after (Ok m) said few a = request_within n m.0 d after m.1 said few a
 answer_within n number d after (Err fault) said few a = says_within n d after _ said few a
 
 line_within : (n number : ℕ) (d after : CountedCore) (line said : List ℕ) → HasMadeAtMost n d → (b : Bool) → PlaysLineIf b d number line after said → HasMadeAtMost (n + 1) after
 line_within n number d after line said few true t = says_within n d after [] said few t
-line_within n number d after line said few false t = answer_within n number d after (asked 4 line) said few t
+line_within n number d after line said few false t = answer_within n number d after (asked d.taken 4 line) said few t
 
 pub played_within : (n number : ℕ) (d after : CountedCore) (line said : List ℕ) → HasMadeAtMost n d → PlaysLine d number line after said → HasMadeAtMost (n + 1) after
 unfolding PlaysLine

@@ -1,8 +1,8 @@
 -- The result of a call as values: its text, its number for C, and the parts of the messages that it sends.
 use Rattle.std.specs.Prelude.{ℕ, ◌-◌, ◌==◌, List, [], ◌++◌, Option, Some, None, if◌then◌else◌}
 use Rattle.std.specs.Prelude.{nat_lt, slice_get, option_and_then}
-use Rattle.serde_json.specs.Data.{array, object}
-use Rattle.serde_json.specs.Written.{compact_text}
+use Rattle.json.specs.Json.{array, object}
+use Rattle.comm_json.specs.Text.{compact_text}
 use Rattle.comm_value.specs.ToJson.{json_of}
 use Rattle.comm_value.specs.View.{tree}
 use Rattle.comm_messages.specs.Text.{parts_of, texts}

@@ -1,5 +1,6 @@
 -- A core with counts of its changes, and what one change does to it.
 use Rattle.std.specs.Prelude.{◌≡◌, ℕ, ◌+◌, ◌≤◌, ◌<◌, List, [], ◌∷◌, ◌++◌, true, Option, Some, slice_index, slice_set}
+use Rattle.comm_value.specs.declared.from_json.Numbers.{Numbers}
 use Rattle.comm_messages.specs.declared.outgoing.Outgoing.{Outgoing}
 use Rattle.comm_messages.specs.declared.outgoing.Parent.TheVariants as parent
 use Rattle.comm_core.specs.declared.call.Call.{Call}
@@ -32,14 +33,16 @@ pub record Changes (before : CountedCore) (client : ℕ) (call : Call) (after : 
   pub step_is : step before.core.limit (machine before.core) call outcome
       ≡ Some (record { reply = reply; outgoing = outgoing; next = machine after.core })
   pub limit : after.core.limit ≡ before.core.limit
+  pub taken : after.taken ≡ before.taken
   pub changes : after.changes ≡ before.changes + 1
   pub made : after.made ≡ slice_set before.made client (slice_index before.made client + 1)
   pub said_is : said ≡ change_text before client reply outgoing
 
--- with no change made, and this limit of comms
-abbrev pub fresh_counted_core : ℕ → CountedCore
-fresh_counted_core comms = record {
+-- with no change made, this limit of comms, and these numbers as values
+abbrev pub fresh_counted_core : ℕ → Numbers → CountedCore
+fresh_counted_core comms taken = record {
   core = record { limit = comms; boxes = []; comms = []; settled = true };
   changes = 0;
   made = 0 ∷ 0 ∷ 0 ∷ 0 ∷ [];
+  taken = taken;
 }

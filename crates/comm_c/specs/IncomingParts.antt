@@ -1,7 +1,7 @@
 -- A message of a frontend by its parts, and the line that these make.
 use Rattle.std.specs.Prelude.{◌≡◌, ℕ, List, [], ◌∷◌, ◌++◌, length, take, drop, false, IsSome, codes, decimal}
 use Rattle.std.specs.List.{sum}
-use Rattle.serde_json.specs.Written.{items_text}
+use Rattle.comm_json.specs.Text.{items_text}
 use Rattle.comm_json.specs.Behind.{line_value}
 use Rattle.comm_messages.specs.Text.{buffer_texts}
 use Rattle.comm_c.specs.declared.incoming_parts.IncomingParts.{IncomingParts}

@@ -1,6 +1,7 @@
 -- The changes of a manager since it was made are a legal history, whatever its targets answer, so that the
 -- core's laws over whole runs hold of it.
 use Rattle.std.specs.Prelude.{◌≡◌, ℕ, ◌≤◌, ◌<◌, false, List, [], ◌++◌, length, slice_index}
+use Rattle.comm_value.specs.declared.from_json.Numbers.{Numbers}
 use Rattle.comm_targets.specs.declared.kind.Kind.{Kind}
 use Rattle.comm_core.specs.History.{IsLegal, has_end, mine, replay}
 use Rattle.comm_core.specs.Machine.{Name}
@@ -25,7 +26,7 @@ pub record MakesOne (history : List Entry) (after : CountedCore) : Type 0 where
   pub has : HasMade (history ++ more) after
 
 pub record CallsMakeLegalHistories : Type 0 where
-  pub first : (comms : ℕ) → HasMade [] (new_manager comms).counted_core
+  pub first : (comms : ℕ) (taken : Numbers) → HasMade [] (new_manager comms taken).counted_core
   pub line : (history : List Entry) (k : ManagerState) (line : List ℕ) (after : ManagerState)
       → HasMade history k.counted_core → Plays k line after → MakesOne history after.counted_core
   pub register : (history : List Entry) (k : ManagerState) (kind : Kind) (name : Name) (after : ManagerState)

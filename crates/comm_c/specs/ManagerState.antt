@@ -1,5 +1,6 @@
 -- A manager between its calls.
 use Rattle.std.specs.Prelude.{◌≡◌, ℕ, ◌+◌, ◌≤◌, ◌^◌, true, List, []}
+use Rattle.comm_value.specs.declared.from_json.Numbers.{Numbers}
 use Rattle.comm_core.specs.declared.limits.Limits.{Limits}
 use Rattle.comm_core.specs.Machine.{Name}
 use Rattle.comm_targets.specs.declared.kind.Kind.{Kind}
@@ -24,9 +25,14 @@ pub record IsUsable (d : CountedCore) (n : ℕ) : Type 0 where
   pub within : HasMadeAtMost n d
   pub room : n ≤ 2 ^ 62
 
--- with no call made, and this limit of comms
-abbrev pub new_manager : ℕ → ManagerState
-new_manager comms = record { counted_core = fresh_counted_core comms; number = 0; text = []; call_result = Nothing }
+-- with no call made, this limit of comms, and these numbers as values
+abbrev pub new_manager : ℕ → Numbers → ManagerState
+new_manager comms taken = record {
+  counted_core = fresh_counted_core comms taken;
+  number = 0;
+  text = [];
+  call_result = Nothing;
+}
 
 -- the limits of a manager with this limit of comms
 abbrev pub limits_of : ℕ → Limits

@@ -35,21 +35,22 @@ abbrev pub Registers : CountedCore → ℕ → Kind → Name → CountedCore →
 Registers d client kind name after said = Changes d client (call.Register name kind 0) after said
 
 -- a register makes a new target; any other request hands no target in
-abbrev pub Obeys : CountedCore → ℕ → Request → CountedCore → List ℕ → Type 0
-Obeys d client (Change asked) after said = HandsNothingIn asked × Changes d client asked after said
-Obeys d client (Register kind name) after said = Registers d client (target_kind kind) name after said
-Obeys d client (Infos target) after said =
+abbrev pub PlaysRequest : CountedCore → ℕ → Request → CountedCore → List ℕ → Type 0
+PlaysRequest d client (Change asked) after said = HandsNothingIn asked × Changes d client asked after said
+PlaysRequest d client (Register kind name) after said = Registers d client (target_kind kind) name after said
+PlaysRequest d client (Infos target) after said =
     SaysOnly d (out_line (out.InfoReply (infos (machine d.core) target)) (parent.Read client d.changes)) after said
-Obeys d client (State id) after said = SaysOnly d (state_line d.changes (state_of (machine d.core) id)) after said
+PlaysRequest d client (State id) after said =
+    SaysOnly d (state_line d.changes (state_of (machine d.core) id)) after said
 
 abbrev pub AnswersLine : CountedCore → ℕ → Reading (ℕ × Request) → CountedCore → List ℕ → Type 0
-AnswersLine d number (Ok m) after said = Obeys d m.0 m.1 after said
+AnswersLine d number (Ok m) after said = PlaysRequest d m.0 m.1 after said
 AnswersLine d number (Err fault) after said = SaysOnly d (bad_line number fault) after said
 
 -- by whether the line is blank
 abbrev pub PlaysLineIf : Bool → CountedCore → ℕ → List ℕ → CountedCore → List ℕ → Type 0
 PlaysLineIf true d number line after said = SaysOnly d [] after said
-PlaysLineIf false d number line after said = AnswersLine d number (asked 4 line) after said
+PlaysLineIf false d number line after said = AnswersLine d number (asked d.taken 4 line) after said
 
 -- the line of this number, of one of four clients
 unfoldable pub PlaysLine : CountedCore → ℕ → List ℕ → CountedCore → List ℕ → Type 0

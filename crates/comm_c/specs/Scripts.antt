@@ -2,6 +2,7 @@
 -- `played` gives for it.
 use Rattle.std.specs.Prelude.{◌≡◌, ℕ, ◌+◌, ◌≤◌, List, [], ◌∷◌, ◌++◌, map, replicate, Bool, true, false}
 use Rattle.std.specs.Prelude.{Ok, Err, if◌then◌else◌}
+use Rattle.comm_value.specs.declared.from_json.Numbers.{Numbers}
 use Rattle.comm_targets.specs.declared.kind.Kind.{Kind}
 use Rattle.comm_core.specs.Machine.{Registered}
 use Rattle.comm_script.specs.Command.{asked}
@@ -50,10 +51,10 @@ registered_by_reading w (Ok m) = registered_by_request w m.1
 registered_by_reading w (Err fault) = 0
 
 -- how many targets of the kind these lines register
-abbrev pub registered_by : StockKind → List (List ℕ) → ℕ
-registered_by w [] = 0
-registered_by w (line ∷ lines) =
-    (if is_blank line then 0 else registered_by_reading w (asked 4 line)) + registered_by w lines
+abbrev pub registered_by : Numbers → StockKind → List (List ℕ) → ℕ
+registered_by taken w [] = 0
+registered_by taken w (line ∷ lines) =
+    (if is_blank line then 0 else registered_by_reading w (asked taken 4 line)) + registered_by taken w lines
 
 -- ---- stocks for scripts
 
@@ -88,9 +89,10 @@ pub record HasEnough (stock : List Registered) (wanted : StockKind → ℕ) : Ty
 -- gives: over a stock of just as many new targets of each kind as they register, and over any stock that has
 -- at least as many.
 pub record LinesPlayScripts : Type 0 where
-  pub exact : (comms : ℕ) (ps : List PlayedLine) (input : List ℕ) → Runs (new_manager comms) ps
+  pub exact : (comms : ℕ) (taken : Numbers) (ps : List PlayedLine) (input : List ℕ) → Runs (new_manager comms taken) ps
       → lines_of input ≡ lines_in ps
-      → said_in ps ≡ played (limits_of comms) (stock_of (λ w. registered_by w (lines_in ps))) input
-  pub at_least : (comms : ℕ) (ps : List PlayedLine) (input : List ℕ) (stock : List Registered)
-      → Runs (new_manager comms) ps → lines_of input ≡ lines_in ps → HasEnough stock (λ w. registered_by w (lines_in ps))
-      → said_in ps ≡ played (limits_of comms) stock input
+      → said_in ps ≡ played taken (limits_of comms) (stock_of (λ w. registered_by taken w (lines_in ps))) input
+  pub at_least : (comms : ℕ) (taken : Numbers) (ps : List PlayedLine) (input : List ℕ) (stock : List Registered)
+      → Runs (new_manager comms taken) ps → lines_of input ≡ lines_in ps
+      → HasEnough stock (λ w. registered_by taken w (lines_in ps))
+      → said_in ps ≡ played taken (limits_of comms) stock input

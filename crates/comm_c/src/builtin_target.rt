@@ -29,7 +29,8 @@ pub enum BuiltinTarget {
 impl BuiltinTarget {
     /// A new target of this kind, with no comm. It allocates nothing.
     pub fn new(alloc: Global, kind: BuiltinKind) -> BuiltinTarget
-        ensures { means_of result ≡ record { kind = kind_of kind; notes = 0; ids = []; staged = None } }
+        ensures { means_of result
+            ≡ record { kind = kind_of kind; notes = 0; ids = []; staged = None } }
     {
         match kind {
             BuiltinKind::Echo => BuiltinTarget::Echo(Echo::new(alloc)),

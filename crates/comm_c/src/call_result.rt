@@ -18,7 +18,7 @@ pub struct ChangeMade {
     pub sent: Outgoings,
 }
 
-/// The result of a call.
+/// What the last call gave, from which its text and its parts are taken.
 #[derive(Drop)]
 pub enum CallResult {
     /// Of a blank line, or before the first call.

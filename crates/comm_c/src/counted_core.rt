@@ -1,7 +1,7 @@
 //! A core with counts of its changes, and one change of it.
 //!
-//! The text of a change is written before it is committed. Where memory runs out the change is withdrawn, so
-//! nothing has changed.
+//! The text of a change is written before it is committed. Where memory runs out the change is aborted, so nothing
+//! has changed.
 ghost use Rattle.std.specs.Prelude.{◌≡◌, ◌+◌, ◌<◌, ◌^◌, ◌++◌, [], true, IfOk, OnOk, OnErr, Some};
 ghost use Rattle.std.specs.Prelude.{slice_index, slice_set};
 ghost use Rattle.comm_messages.specs.declared.outgoing.Parent.TheVariants as parent;
@@ -19,7 +19,7 @@ use crate::call_result::{CallResult, ChangeMade};
 use comm_core::{Call, Core, Finished, Outgoings, PreparedChange};
 use comm_messages::Parent;
 use comm_script::{append_outs, append_reply};
-use comm_value::Text;
+use comm_value::{Numbers, Text};
 use std::alloc::{AllocError, Global};
 
 /// A core, how many changes were made, and how many by each client.
@@ -27,6 +27,8 @@ pub struct CountedCore {
     pub core: Core<BuiltinTarget>,
     pub changes: u64,
     pub made: [u64; 4],
+    /// Which numbers of a line are values.
+    pub taken: Numbers,
 }
 
 // Appends the text of a prepared change: `change` is its number among all changes, `number` among its
@@ -54,7 +56,7 @@ fn append_prepared(
 }
 
 impl CountedCore {
-    // Writes the text of a prepared change and commits it. Err: memory; the change is withdrawn.
+    // Writes the text of a prepared change and commits it. Err: memory; the change is aborted.
     fn conclude(
         &mut self,
         alloc: Global,
@@ -76,6 +78,7 @@ impl CountedCore {
         ensures reply { IfOk result (λ m. m.reply ≡ prepared.reply) }
         ensures shows { IfOk result (λ m. text.new.items ≡ result_text (call_result.Change m)) }
         ensures limit { self.new.core.limit ≡ self.old.core.limit }
+        ensures taken { self.new.taken ≡ self.old.taken }
         ensures settled { self.new.core.settled ≡ true }
         ensures changes { OnOk result (self.new.changes ≡ self.old.changes + 1) }
         ensures made { OnOk result (self.new.made

@@ -8,7 +8,7 @@ use crate::builtin_target::BuiltinKind;
 use crate::call_result::CallResult;
 use crate::counted_core::CountedCore;
 use comm_core::{Core, Limits, NewFault};
-use comm_value::Text;
+use comm_value::{Numbers, Text};
 use std::alloc::{AllocError, Global};
 use std::marker::Model;
 use std::mem;
@@ -45,10 +45,10 @@ impl Model for HeldManager {
 }
 
 impl HeldManager {
-    /// A manager that has had no call, of which at most `comms` comms are open at a time. BadLimits exactly
-    /// where that isn't from 1 to 4,096.
-    pub fn new(alloc: Global, comms: usize) -> Result<HeldManager, NewFault>
-        ensures opened { IfOk result (λ m. m ≡ new_manager comms) }
+    /// A manager that has had no call, of which at most `comms` comms are open at a time, and that takes these
+    /// numbers as values. BadLimits exactly where `comms` isn't from 1 to 4,096.
+    pub fn new(alloc: Global, comms: usize, taken: Numbers) -> Result<HeldManager, NewFault>
+        ensures opened { IfOk result (λ m. m ≡ new_manager comms taken) }
         ensures allowed { IsOk result ↔ AreAllowed (limits_of comms) }
         ensures fault { IfErr result (λ e. e ≡ NewFault.BadLimits) }
     {
@@ -64,6 +64,7 @@ impl HeldManager {
                 core,
                 changes: 0,
                 made: [0; 4],
+                taken,
             },
             number: 0,
             text: Vec::new(alloc),
@@ -148,6 +149,7 @@ impl Drop for HeldManager {
             core,
             changes: _,
             made: _,
+            taken: _,
         } = counted_core;
         core.stop_all();
     }

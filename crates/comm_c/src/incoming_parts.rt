@@ -33,10 +33,10 @@ fn append(bytes: &[u8], out: &mut Vec<u8>) -> Result<(), AllocError>
 }
 
 // Whether the bytes are one JSON text. Err: memory.
-fn is_json(bytes: &[u8], room: &mut ParseArena) -> Result<bool, AllocError>
+fn is_json(bytes: &[u8], arena: &mut ParseArena) -> Result<bool, AllocError>
     ensures { IfOk result (λ b. IsTrue b ↔ IsJson bytes.now) }
 {
-    match read_line(bytes, room) {
+    match read_line(bytes, arena) {
         Ok(_) => Ok(true),
         Err(JsonFault::NotJson) => Ok(false),
         Err(JsonFault::Memory) => Err(AllocError),
@@ -116,11 +116,11 @@ impl IncomingParts<'_> {
         ensures { IfOk result (λ b. IsTrue b
             ↔ AreJson self.now.header.now self.now.metadata.now self.now.content.now) }
     {
-        let mut room = ParseArena::new(alloc);
+        let mut arena = ParseArena::new(alloc);
         Ok(
-            is_json(self.header, &mut room)?
-                && is_json(self.metadata, &mut room)?
-                && is_json(self.content, &mut room)?,
+            is_json(self.header, &mut arena)?
+                && is_json(self.metadata, &mut arena)?
+                && is_json(self.content, &mut arena)?,
         )
     }
 

@@ -30,21 +30,21 @@ ghost use Rattle.comm_c.specs.Exports.{FillsPart, FillsText, IsExhausted, IsLong
 ghost use Rattle.comm_c.specs.Exports.{HasHandled, HasLastResult, HasRegisteredTarget, HasShown};
 ghost use Rattle.comm_c.specs.Exports.{reply_part_of, sent_part_of};
 
-use crate::codes::{ALREADY_OPEN, BAD_LIMIT, CLOSED, MEMORY, OK};
+use crate::codes::{CLOSED, MEMORY, OK};
 use crate::handle::Handle;
-use crate::held_manager::HeldManager;
 use crate::incoming_parts::IncomingParts;
 use crate::parts_api::{copy_reply_part, copy_sent_part, play_message, write_result};
-use crate::text_api::{copy_text, play_line, put, register, take};
+use crate::text_api::{copy_text, open_manager, play_line, put, register, take};
+use comm_value::Numbers;
 pub use laws::{calls_make_legal_histories, lines_play_scripts};
 use std::alloc::Global;
 
 /// Makes a manager of which at most `comms` comms are open at a time (1 to 4,096), and puts it into a handle
-/// that has none. BAD_LIMIT: `comms` is out of these bounds. ALREADY_OPEN: the handle has a manager, which
-/// stays; this is tested first.
+/// that has none. A number that isn't whole makes a line or a message BAD. BAD_LIMIT: `comms` is out of these
+/// bounds. ALREADY_OPEN: the handle has a manager, which stays; this is tested first.
 #[unsafe(no_mangle)]
 pub extern "C" fn rolgunai_new(alloc: Global, handle: &mut Handle, comms: usize) -> u32
-    ensures opened { result ≡ ok → handle.new.value ≡ Some (new_manager comms) }
+    ensures opened { result ≡ ok → handle.new.value ≡ Some (new_manager comms Numbers.Whole) }
     ensures same { result ≢ ok → handle.new.value ≡ handle.old.value }
     ensures already_open { result ≡ already_open ↔ IsSome handle.old.value }
     ensures limit { result ≡ bad_limit → ¬ (AreAllowed (limits_of comms)) }
@@ -52,24 +52,26 @@ pub extern "C" fn rolgunai_new(alloc: Global, handle: &mut Handle, comms: usize)
     ensures codes { (result ≡ ok) ⊎ (result ≡ memory) ⊎ (result ≡ bad_limit)
         ⊎ (result ≡ already_open) }
 {
-    match take(handle, alloc) {
-        Some(held) => {
-            put(handle, alloc, held);
-            ALREADY_OPEN
-        }
-        None => {
-            let Ok(manager) = HeldManager::new(alloc, comms) else {
-                return BAD_LIMIT;
-            };
-            match Box::new(alloc, manager) {
-                Ok(manager) => {
-                    put(handle, alloc, manager);
-                    OK
-                }
-                Err(_) => MEMORY,
-            }
-        }
-    }
+    open_manager(alloc, handle, comms, Numbers::Whole)
+}
+
+/// Makes a manager as `rolgunai_new` does, but one that takes every JSON number as a value: one that isn't
+/// whole is kept and sent as the text that came.
+#[unsafe(no_mangle)]
+pub extern "C" fn rolgunai_new_with_decimals(
+    alloc: Global,
+    handle: &mut Handle,
+    comms: usize,
+) -> u32
+    ensures opened { result ≡ ok → handle.new.value ≡ Some (new_manager comms Numbers.Any) }
+    ensures same { result ≢ ok → handle.new.value ≡ handle.old.value }
+    ensures already_open { result ≡ already_open ↔ IsSome handle.old.value }
+    ensures limit { result ≡ bad_limit → ¬ (AreAllowed (limits_of comms)) }
+    ensures allowed { (result ≡ ok) ⊎ (result ≡ memory) → AreAllowed (limits_of comms) }
+    ensures codes { (result ≡ ok) ⊎ (result ≡ memory) ⊎ (result ≡ bad_limit)
+        ⊎ (result ≡ already_open) }
+{
+    open_manager(alloc, handle, comms, Numbers::Any)
 }
 
 /// Plays a line, a message of a frontend or a command of the kernel, and writes the lines of its answer to

@@ -9,18 +9,18 @@ ghost use Rattle.comm_script.specs.Words.{bad_line, out_line, state_line};
 ghost use Rattle.comm_c.specs.CountedCore.{HasMadeAtMost};
 ghost use Rattle.comm_c.specs.CallResult.{result_text};
 ghost use Rattle.comm_c.specs.BuiltinTarget.{kind_of};
-ghost use Rattle.comm_c.specs.PlaysLine.{Obeys, PlaysLine, target_kind};
+ghost use Rattle.comm_c.specs.PlaysLine.{PlaysRequest, PlaysLine, target_kind};
 
 use crate::builtin_target::BuiltinKind;
 use crate::call_result::CallResult;
 use crate::counted_core::CountedCore;
 use comm_core::Outgoings;
 use comm_json::ParseArena;
-use comm_messages::{MessageFault, Outgoing, Parent};
+use comm_messages::{Outgoing, Parent};
 use comm_script::{
     LineFault, Request, StockKind, append_bad, append_outs, append_state_line, is_blank, parse_line,
 };
-use comm_value::{Text, ValueFault};
+use comm_value::Text;
 use std::alloc::{AllocError, Global};
 
 /// How many clients there are: a line names one by 0 to 3.
@@ -99,7 +99,7 @@ impl CountedCore {
     }
 
     // Executes the request of a line, and writes its answer. Err: memory; nothing has changed.
-    fn obey(
+    fn execute(
         &mut self,
         alloc: Global,
         client: u8,
@@ -111,7 +111,7 @@ impl CountedCore {
         requires settled { self.old.core.settled ≡ true }
         requires handless { HandsNothing asked }
         requires empty { text.old.items ≡ [] }
-        ensures obeys { OnOk result (Obeys self.old client asked self.new text.new.items) }
+        ensures plays { OnOk result (PlaysRequest self.old client asked self.new text.new.items) }
         ensures shows { IfOk result (λ s. text.new.items ≡ result_text s) }
         ensures settled { self.new.core.settled ≡ true }
         ensures same { OnErr result (self.new ≡ self.old) }
@@ -149,13 +149,12 @@ impl CountedCore {
         if is_blank(line) {
             return Ok(CallResult::Nothing);
         }
-        let mut room = ParseArena::new(alloc);
-        let read = parse_line(alloc, line, MAX_CLIENTS, &mut room);
-        drop(room);
+        let mut arena = ParseArena::new(alloc);
+        let read = parse_line(alloc, line, MAX_CLIENTS, self.taken, &mut arena);
+        drop(arena);
         match read {
-            Ok((client, asked)) => self.obey(alloc, client, asked, text),
-            Err(LineFault::Message(MessageFault::Memory)) => Err(AllocError),
-            Err(LineFault::Value(ValueFault::Memory)) => Err(AllocError),
+            Ok((client, asked)) => self.execute(alloc, client, asked, text),
+            Err(fault) if fault.is_memory() => Err(AllocError),
             Err(fault) => bad(number, fault, text),
         }
     }

@@ -1,13 +1,18 @@
 //! The calls that answer with a text, and how a handle's manager is taken out and put back.
-ghost use Rattle.std.specs.Prelude.{◌≡◌, ◌≢◌, ◌⊎◌, ◌<◌, ◌≤◌, ◌^◌, None, Some, option_map, length, IsSome, IsUtf8};
-ghost use Rattle.comm_c.specs.Codes.{ok, memory, buffer_too_small, exhausted, bad_name, bad_kind, kind_numbered};
-ghost use Rattle.comm_c.specs.ManagerState.{Plays, Shows};
+ghost use Rattle.std.specs.Prelude.{◌≡◌, ◌≢◌, ◌⊎◌, ◌↔◌, ◌<◌, ◌≤◌, ◌^◌, None, Some, option_map, length, IsSome, IsUtf8};
+ghost use Rattle.comm_core.specs.Limits.{AreAllowed};
+ghost use Rattle.comm_c.specs.Codes.{ok, memory, bad_limit, already_open, buffer_too_small, exhausted, bad_name};
+ghost use Rattle.comm_c.specs.Codes.{bad_kind, kind_numbered};
+ghost use Rattle.comm_c.specs.ManagerState.{Plays, Shows, limits_of, new_manager};
 ghost use Rattle.comm_c.specs.Exports.{Fills, RegistersKind};
 
-use crate::codes::{BAD_KIND, BAD_NAME, BUFFER_TOO_SMALL, EXHAUSTED, MEMORY, OK, kind_numbered};
+use crate::codes::{
+    ALREADY_OPEN, BAD_KIND, BAD_LIMIT, BAD_NAME, BUFFER_TOO_SMALL, EXHAUSTED, MEMORY, OK,
+    kind_numbered,
+};
 use crate::handle::Handle;
 use crate::held_manager::HeldManager;
-use comm_value::Text;
+use comm_value::{Numbers, Text};
 use std::alloc::Global;
 use std::{mem, str};
 
@@ -24,6 +29,37 @@ pub fn put(handle: &mut Handle, alloc: Global, manager: Box<HeldManager>)
     ensures { handle.new.value ≡ Some manager.value }
 {
     let _freed = mem::replace(handle, Handle::of(manager)).into_box(alloc);
+}
+
+/// Makes a manager that takes these numbers as values, and puts it into a handle that has none. ALREADY_OPEN is
+/// tested first, then BAD_LIMIT.
+pub fn open_manager(alloc: Global, handle: &mut Handle, comms: usize, taken: Numbers) -> u32
+    ensures opened { result ≡ ok → handle.new.value ≡ Some (new_manager comms taken) }
+    ensures same { result ≢ ok → handle.new.value ≡ handle.old.value }
+    ensures already_open { result ≡ already_open ↔ IsSome handle.old.value }
+    ensures limit { result ≡ bad_limit → ¬ (AreAllowed (limits_of comms)) }
+    ensures allowed { (result ≡ ok) ⊎ (result ≡ memory) → AreAllowed (limits_of comms) }
+    ensures codes { (result ≡ ok) ⊎ (result ≡ memory) ⊎ (result ≡ bad_limit)
+        ⊎ (result ≡ already_open) }
+{
+    match take(handle, alloc) {
+        Some(held) => {
+            put(handle, alloc, held);
+            ALREADY_OPEN
+        }
+        None => {
+            let Ok(manager) = HeldManager::new(alloc, comms, taken) else {
+                return BAD_LIMIT;
+            };
+            match Box::new(alloc, manager) {
+                Ok(manager) => {
+                    put(handle, alloc, manager);
+                    OK
+                }
+                Err(_) => MEMORY,
+            }
+        }
+    }
 }
 
 /// Copies the text of the last call to `out` if it fits, and writes its length to `size` in any case.

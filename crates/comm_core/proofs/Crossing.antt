@@ -11,6 +11,7 @@ use Rattle.comm_value.proofs.chars.Chars.TheSendSync as Chars
 use Rattle.comm_value.proofs.buffer.Bytes.TheSendSync as Bytes
 use Rattle.comm_value.proofs.buffer.Buffers.TheSendSync as Buffers
 use Rattle.comm_value.proofs.whole.Whole.TheSendSync as Whole
+use Rattle.comm_value.proofs.decimal.Decimal.TheSendSync as Decimal
 use Rattle.comm_value.proofs.val.Dict.TheLaws.TheKnot as knot
 use Rattle.comm_value.specs.contracts.val.Dict as dict
 use Rattle.comm_value.specs.contracts.val.Val as val
@@ -27,7 +28,22 @@ use Rattle.comm_core.specs.contracts.entry.Entry as entry
 use Rattle.comm_core.specs.contracts.entry.Outgoings as outgoings
 use Rattle.comm_core.specs.contracts.reply.Reply as reply
 
-pub ruleset leaves = (sendable, crosses, Text.the_send, Text.the_sync, Chars.the_send, Chars.the_sync, Bytes.the_send, Bytes.the_sync, Buffers.the_send, Buffers.the_sync, Whole.the_send, Whole.the_sync)
+pub ruleset leaves = (
+  sendable,
+  crosses,
+  Text.the_send,
+  Text.the_sync,
+  Chars.the_send,
+  Chars.the_sync,
+  Bytes.the_send,
+  Bytes.the_sync,
+  Buffers.the_send,
+  Buffers.the_sync,
+  Whole.the_send,
+  Whole.the_sync,
+  Decimal.the_send,
+  Decimal.the_sync,
+)
 
 pub dict_send : IsSend dict.the_row
 dict_send = search (leaves, knot.crosses) depth 40

@@ -94,7 +94,7 @@ impl Comms {
         self.all.insert(id, comm);
     }
 
-    /// Takes a comm out.
+    /// Takes the comm of this id out; None where there is none. Its room stays.
     pub fn take(&mut self, id: &Text) -> Option<Comm>
         ensures taken { result ≡ at self.old.all id.now }
         ensures all { self.new.all ≡ without self.old.all id.now }

@@ -47,7 +47,7 @@ pub fn legal_histories_grow()
         → Follows clients comms es e → IsLegal clients comms (es ++ e ∷ []) }
 {}
 
-/// What one entry more does to what the manager holds.
+/// Replaying a history and one more entry is applying that entry to what the history gives.
 pub fn replays_grow()
     ensures { (comms : ℕ) (es : List Entry) (e : Entry)
         → replay comms (es ++ e ∷ []) ≡ applied comms (replay comms es) e }

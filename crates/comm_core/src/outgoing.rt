@@ -14,7 +14,7 @@ use comm_value::{Dict, Path, Separated, Text, Val, paths_val, separate};
 use std::alloc::{AllocError, Global};
 use uuid::Uuid;
 
-/// One message.
+/// A list of just this message. Err: out of memory, as of each function here.
 pub fn one(alloc: Global, message: Outgoing) -> Result<Vec<Outgoing>, AllocError>
     ensures { IfOk result (λ v. v.items ≡ message ∷ []) }
 {
@@ -23,14 +23,14 @@ pub fn one(alloc: Global, message: Outgoing) -> Result<Vec<Outgoing>, AllocError
     Ok(all)
 }
 
-/// One close of a comm.
+/// A list of just the close of this comm.
 pub fn close_message(alloc: Global, id: &Text) -> Result<Vec<Outgoing>, AllocError>
     ensures { IfOk result (λ v. v.items ≡ out.Close id.now ∷ []) }
 {
     one(alloc, Outgoing::Close { id: id.copy()? })
 }
 
-/// One close of each of these comms.
+/// A close of each of these comms, in their order.
 pub fn close_messages(alloc: Global, ids: &[Text]) -> Result<Vec<Outgoing>, AllocError>
     ensures { IfOk result (λ v. v.items ≡ map out.Close ids.now) }
 {

@@ -1,4 +1,4 @@
-//! What stands ready between `begin` and `finish`.
+//! A change between `prepare` and `commit`.
 ghost use Rattle.std.specs.Prelude.{◌≡◌};
 
 use crate::call::Call;
@@ -12,7 +12,7 @@ use std::snapshot::Snapshot;
 /// A change that stands ready, for which no memory has to be taken any more.
 ///
 /// [`Core::prepare`](crate::Core::prepare) gives it, or [`Ready::into_parts`]. It has spent its call: contracts alone
-/// see that one, and what it had in it is in the plan, or goes out. It can't be dropped: `Core::commit` or
+/// see that one, and what it had in it is in the update of the table, or goes out. It can't be dropped: `Core::commit` or
 /// `Core::abort` takes it.
 #[must_use]
 pub struct PreparedChange<T: Target> {

@@ -14,7 +14,7 @@ use std::alloc::AllocError;
 
 impl<T: Target> Core<T> {
     /// The open comms with the names of their targets, those of one target where a name is given, in the byte order
-    /// of the ids ('Messaging in Jupyter' 5.3, "Comm info").
+    /// of the ids ('Messaging in Jupyter' 5.3, "Comm info"). Err: out of memory, as of each read.
     pub fn infos(&self, target: Option<&Text>) -> Result<Infos, AllocError>
         ensures { IfOk result (λ v. v ≡ infos (machine self.now)
             (option_map (λ t. t.now) target.entry)) }
@@ -34,7 +34,7 @@ impl<T: Target> Core<T> {
         part_of(self.alloc, whole, target)
     }
 
-    /// The state of a comm, shared.
+    /// The state of a comm, shared: no value of it is copied. Err: out of memory.
     pub fn state(&self, id: &Text) -> Result<StateAnswer, AllocError>
         ensures { IfOk result (λ s. s ≡ state_of (machine self.now) id.now) }
     {

@@ -4,15 +4,19 @@ use crate::ids::Ids;
 use comm_targets::{Custom, TargetFault};
 use comm_value::Dict;
 use std::alloc::{AllocError, Global};
+use thiserror::Error;
 
 /// Why a comm isn't opened.
-#[derive(Drop)]
+#[derive(Debug, Drop, Error)]
 pub enum Refusal {
     /// No target has the name.
+    #[error("no target has the name")]
     NoTarget,
     /// As many comms are open as the limit allows.
+    #[error("as many comms are open as may be")]
     TooManyComms,
     /// The target refuses.
+    #[error("{0}")]
     Fault(TargetFault),
 }
 

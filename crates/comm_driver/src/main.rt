@@ -10,6 +10,7 @@ ghost use Rattle.comm_driver.specs.Program.{over_of, program_limits, program_sto
 use comm_core::Limits;
 use comm_script::{RunFault, exit_status, push_target, run_with};
 use comm_targets::{Counter, Echo, Target};
+use comm_value::Numbers;
 use shared_script::run_shared_with;
 use std::alloc::Global;
 use std::env::Args;
@@ -44,8 +45,10 @@ fn play<R: Read, W: Write, H: Wait>(
     reader: &mut R,
     writer: &mut W,
 ) -> Result<(), RunFault>
-    ensures one_thread { over ≡ Over.OneThread → OnOk result (IfSome (R.remaining reader.old) (λ input.
-        Appends (W.contents writer.old) (W.contents writer.new) (played program_limits program_stock input))) }
+    ensures one_thread { over ≡ Over.OneThread
+        → OnOk result (IfSome (R.remaining reader.old) (λ input.
+        Appends (W.contents writer.old) (W.contents writer.new)
+        (played Numbers.Whole program_limits program_stock input))) }
     ensures limits { IfErr result (λ e. e ≢ RunFault.BadLimits) }
 {
     let mut stock = Vec::new(alloc);
@@ -66,8 +69,8 @@ fn play<R: Read, W: Write, H: Wait>(
     let other_echoing: Box<dyn Target> = Box::new(alloc, WidgetTarget::with_echo(alloc))?;
     push_target(&mut stock, other_echoing)?;
     match over {
-        Over::OneThread => run_with(alloc, reader, writer, LIMITS, stock),
-        Over::Shared => run_shared_with(rt, alloc, reader, writer, LIMITS, stock),
+        Over::OneThread => run_with(alloc, reader, writer, LIMITS, Numbers::Whole, stock),
+        Over::Shared => run_shared_with(rt, alloc, reader, writer, LIMITS, Numbers::Whole, stock),
     }
 }
 

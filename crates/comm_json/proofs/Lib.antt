@@ -1,3 +1,4 @@
-pub mod ReadLists
+pub mod Wholes
 pub mod LookUp
 pub mod MemberOrder
+pub mod LineNumbers

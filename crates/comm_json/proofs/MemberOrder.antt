@@ -9,12 +9,17 @@ use Rattle.std.specs.Map.{keys_of}
 use Rattle.std.specs.Ordering.{match_ordering, ordering_reverse}
 use Rattle.std.specs.BTreeMap.{insert_entry}
 use Rattle.json.specs.Value.{value_view, members_view}
-use Rattle.serde_json.specs.Data.{Members, no_members, put}
+use Rattle.json.specs.Json.{Members, no_members}
 use Rattle.comm_json.specs.declared.json_ref.JsonRef.{JsonRef}
-use Rattle.comm_json.specs.Behind.{behind, data_of, members_data, members_of, text_cmp, AreInOrder}
-use Rattle.comm_json.proofs.ReadLists.{Member}
+use Rattle.comm_json.specs.Behind.{behind, put, tidy, tidy_members, members_of, text_cmp, AreInOrder}
+use Rattle.json.specs.declared.value.Value.{Value as Borrowed}
+use Rattle.serde_json.specs.Written.{outline, members_outline}
 use Rattle.serde_json.specs.View.{view, members_view as owned_view}
 use Rattle.serde_json.specs.declared.value.Value.{Value}
+
+-- a member as it stands in a line
+abbrev pub Member : Type 0 → Type 0
+Member A = Bor (List ℕ) × Borrowed A
 
 abbrev pub Key : Type 0
 Key = Bor (List ℕ)
@@ -32,9 +37,9 @@ members_of-insert_entry [] k v = refl
 members_of-insert_entry (e ∷ es) k v = members_of-match_ordering (text_cmp k e.0) _ _ _ ∙ rw (members_of-insert_entry es k v)
 
 -- the last member is put in last
-pub put_last : {A : Type 0} → (ms : List (Member A)) (m : Member A) (found : Members) → members_data (members_view (ms ++ m ∷ [])) found ≡ put m.0.now (data_of (value_view m.1)) (members_data (members_view ms) found)
+pub put_last : {A : Type 0} → (ms : List (Member A)) (m : Member A) (found : Members) → tidy_members (members_view (ms ++ m ∷ [])) found ≡ put m.0.now (tidy (value_view m.1)) (tidy_members (members_view ms) found)
 put_last [] m found = refl
-put_last (n ∷ ms) m found = put_last ms m (put n.0.now (data_of (value_view n.1)) found)
+put_last (n ∷ ms) m found = put_last ms m (put n.0.now (tidy (value_view n.1)) found)
 
 text_antisymm : (x y : Key) → text_cmp x y ≡ ordering_reverse (text_cmp y x)
 text_antisymm x y = nat_list_cmp_total.antisymm x.now y.now
@@ -116,11 +121,11 @@ takes_place (e ∷ es) (suc i) k v d s h is =
     rw more (ap (λ l. e ∷ l) (takes_place es i k v d s.1 (omega arith) is))
 
 -- one more member of a list is put in
-pub put_next : {A : Type 0} → (ms : List (Member A)) (i : ℕ) (m : Member A) (es new : List Ref) (k : Key) (v : JsonRef) → i < length ms → m ≡ get_or ms i m → members_of es ≡ members_data (members_view (take i ms)) no_members
-    → new ≡ insert_entry text_cmp es k v → k.now ≡ m.0.now → behind v ≡ data_of (value_view m.1) → members_of new ≡ members_data (members_view (take (i + 1) ms)) no_members
+pub put_next : {A : Type 0} → (ms : List (Member A)) (i : ℕ) (m : Member A) (es new : List Ref) (k : Key) (v : JsonRef) → i < length ms → m ≡ get_or ms i m → members_of es ≡ tidy_members (members_view (take i ms)) no_members
+    → new ≡ insert_entry text_cmp es k v → k.now ≡ m.0.now → behind v ≡ tidy (value_view m.1) → members_of new ≡ tidy_members (members_view (take (i + 1) ms)) no_members
 put_next ms i m es new k v within is h inserted key value =
     ap members_of inserted ∙ members_of-insert_entry es k v ∙ rw (key, value, h) (sym (put_last (take i ms) m no_members))
-    ∙ ap (λ l. members_data (members_view l) no_members) (sym (take_more ms i m within ∙ ap (λ n. take i ms ++ n ∷ []) (sym is)))
+    ∙ ap (λ l. tidy_members (members_view l) no_members) (sym (take_more ms i m within ∙ ap (λ n. take i ms ++ n ∷ []) (sym is)))
 
 -- ---- at the loops
 
@@ -160,15 +165,15 @@ abbrev pub AreOwned : List Ref → List Owned → Type 0
 AreOwned [] [] = Unit {0}
 AreOwned [] (x ∷ xs) = ⊥
 AreOwned (e ∷ es) [] = ⊥
-AreOwned (e ∷ es) (x ∷ xs) = (e.0.now ≡ string_bytes x.0) × (behind e.1 ≡ view x.1) × AreOwned es xs
+AreOwned (e ∷ es) (x ∷ xs) = (e.0.now ≡ string_bytes x.0) × (behind e.1 ≡ outline (view x.1)) × AreOwned es xs
 
-pub one_more_owned : (es : List Ref) (xs : List Owned) (e : Ref) (x : Owned) → AreOwned es xs → e.0.now ≡ string_bytes x.0 → behind e.1 ≡ view x.1 → AreOwned (es ++ e ∷ []) (xs ++ x ∷ [])
+pub one_more_owned : (es : List Ref) (xs : List Owned) (e : Ref) (x : Owned) → AreOwned es xs → e.0.now ≡ string_bytes x.0 → behind e.1 ≡ outline (view x.1) → AreOwned (es ++ e ∷ []) (xs ++ x ∷ [])
 one_more_owned [] [] e x h key value = (key, value, tt)
 one_more_owned [] (y ∷ xs) e x h key value = absurd h
 one_more_owned (f ∷ es) [] e x h key value = absurd h
 one_more_owned (f ∷ es) (y ∷ xs) e x h key value = (h.0, h.1, one_more_owned es xs e x h.2 key value)
 
-pub owned_members : (es : List Ref) (xs : List Owned) → AreOwned es xs → members_of es ≡ owned_view xs
+pub owned_members : (es : List Ref) (xs : List Owned) → AreOwned es xs → members_of es ≡ members_outline (owned_view xs)
 owned_members [] [] h = refl
 owned_members [] (x ∷ xs) h = absurd h
 owned_members (e ∷ es) [] h = absurd h
@@ -187,8 +192,8 @@ owned_in_order [] (x ∷ xs) h s = absurd h
 owned_in_order (e ∷ es) [] h s = absurd h
 owned_in_order (e ∷ es) (x ∷ xs) h s = (owned_above e x es xs h.0 h.2 s.0, owned_in_order es xs h.2 s.1)
 
-pub all_owned : (all done rest : List Owned) (es : List Ref) → all ≡ done ++ rest → rest ≡ [] → AreOwned es done → members_of es ≡ owned_view all
-all_owned all done rest es is end h = owned_members es done h ∙ ap owned_view (sym (is ∙ ap (λ l. done ++ l) end ∙ append-nil done))
+pub all_owned : (all done rest : List Owned) (es : List Ref) → all ≡ done ++ rest → rest ≡ [] → AreOwned es done → members_of es ≡ members_outline (owned_view all)
+all_owned all done rest es is end h = owned_members es done h ∙ ap (λ l. members_outline (owned_view l)) (sym (is ∙ ap (λ l. done ++ l) end ∙ append-nil done))
 
 pub all_owned_in_order : (all done rest : List Owned) (es : List Ref) → all ≡ done ++ rest → rest ≡ [] → IsStrictlySortedBy string_cmp (keys_of all) → AreOwned es done → AreInOrder es
 all_owned_in_order all done rest es is end s h = owned_in_order es done h (subst (λ l. IsStrictlySortedBy string_cmp (keys_of l)) (is ∙ ap (λ l. done ++ l) end ∙ append-nil done) s)

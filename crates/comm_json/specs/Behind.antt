@@ -1,16 +1,20 @@
 -- A JSON value behind a reference: an owned one of serde_json, or one of the kit's json that borrows from a line.
-use Rattle.std.specs.Prelude.{ℕ, suc, List, [], ◌∷◌, Option, Some, None, if◌then◌else◌}
-use Rattle.std.specs.Ordering.{nat_cmp}
+use Rattle.std.specs.Prelude.{ℕ, suc, ◌<◌, ◌^◌, ℤ, pos, negsuc, List, [], ◌∷◌, Bool, true, ◌&&◌, Option, Some, None}
+use Rattle.std.specs.Prelude.{is_some, false, option_map, unwrap_or, option_and_then, if◌then◌else◌}
+use Rattle.std.specs.Ordering.{nat_cmp, match_ordering}
 use Rattle.std.specs.Cmp.Lexicographic.{slice_cmp}
 use Rattle.std.specs.List.Sorted.{IsStrictlySortedBy}
 use Rattle.std.specs.Map.{keys_of}
 use Rattle.std.specs.declared.cmp.Ordering.{Ordering}
 use Rattle.std.specs.Borrow.{Bor}
-use Rattle.json.specs.Json as json
+use Rattle.json.specs.Json.{Json, null, boolean, number, string, array, object, value, if_last}
+use Rattle.json.specs.Json.{Items, no_items, item, Members, no_members, member}
+use Rattle.json.specs.Lex.{tokens}
 use Rattle.json.specs.Value.{value_view, items_view as borrowed_items, members_view as borrowed_members}
-use Rattle.serde_json.specs.Data.{Num, Data, null, boolean, number, string, array, object}
-use Rattle.serde_json.specs.Data.{Items, no_items, item, Members, no_members, member, put}
-use Rattle.serde_json.specs.Read.{number_of, read}
+use Rattle.serde_json.specs.Read.{number_of, max_depth}
+use Rattle.json.specs.Word.{after_number}
+use Rattle.serde_json.specs.Find.{as_integer, is_float}
+use Rattle.serde_json.specs.Written.{number_text, outline, items_outline, members_outline}
 use Rattle.std.specs.Str.{is_utf8}
 use Rattle.serde_json.specs.View.{view, number_view, items_view, members_view}
 use Rattle.comm_json.specs.declared.json_ref.JsonRef.{JsonRef}
@@ -21,56 +25,110 @@ use Rattle.comm_json.specs.declared.json_ref.ObjectRef.{ObjectRef}
 use Rattle.comm_json.specs.declared.json_ref.ObjectRef.TheVariants as object_ref
 use Rattle.comm_json.specs.declared.in_order.MembersInOrder.{MembersInOrder}
 use Rattle.comm_json.specs.declared.in_order.MembersInOrder.TheVariants as in_order
+use Rattle.comm_json.specs.declared.json_number.NumberRef.{NumberRef}
+use Rattle.comm_json.specs.declared.json_number.NumberRef.TheVariants as number_ref
 use Rattle.comm_json.specs.declared.json_ref.JsonKind.{JsonKind}
 use Rattle.comm_json.specs.declared.json_ref.JsonKind.TheVariants as kind
 
-abbrev pub number_or_null : Option Num → Data
-number_or_null None = null
-number_or_null (Some n) = number n
+-- the members, with j at k
+abbrev pub put : List ℕ → Json → Members → Members
+put k j no_members = member k j no_members
+put k j (member l i ms) =
+    match_ordering (slice_cmp nat_cmp k l) (member k j (member l i ms)) (member l j ms) (member l i (put k j ms))
 
--- what serde_json reads where json reads j and each number is in range: of several members with one key the last counts
+-- the same value with each object's keys in order, each once: of several members with one key the last counts
 abbrev mutual
-  pub data_of : json.Json → Data
-  data_of json.null = null
-  data_of (json.boolean b) = boolean b
-  data_of (json.number s) = number_or_null (number_of s)
-  data_of (json.string s) = string s
-  data_of (json.array js) = array (items_data js)
-  data_of (json.object ms) = object (members_data ms no_members)
+  pub tidy : Json → Json
+  tidy null = null
+  tidy (boolean b) = boolean b
+  tidy (number s) = number s
+  tidy (string s) = string s
+  tidy (array js) = array (tidy_items js)
+  tidy (object ms) = object (tidy_members ms no_members)
 
-  pub items_data : json.Items → Items
-  items_data json.no_items = no_items
-  items_data (json.item j js) = item (data_of j) (items_data js)
+  pub tidy_items : Items → Items
+  tidy_items no_items = no_items
+  tidy_items (item j js) = item (tidy j) (tidy_items js)
 
-  pub members_data : json.Members → Members → Members
-  members_data json.no_members found = found
-  members_data (json.member k j ms) found = members_data ms (put k (data_of j) found)
+  pub tidy_members : Members → Members → Members
+  tidy_members no_members found = found
+  tidy_members (member k j ms) found = tidy_members ms (put k (tidy j) found)
 
--- the data behind a reference
-abbrev pub behind : JsonRef → Data
-behind (r.Owned v) = view v.now
-behind (r.Borrowed v) = data_of (value_view v.now)
+-- the member with this key
+abbrev pub get_member : List ℕ → Members → Option Json
+get_member k no_members = None
+get_member k (member l j ms) = match_ordering (slice_cmp nat_cmp k l) (get_member k ms) (Some j) (get_member k ms)
+
+-- whether serde_json takes each number: none is too large for a float
+abbrev mutual
+  pub in_range : Json → Bool
+  in_range (number s) = is_some (number_of s)
+  in_range (array js) = items_in_range js
+  in_range (object ms) = members_in_range ms
+  in_range _ = true
+
+  pub items_in_range : Items → Bool
+  items_in_range no_items = true
+  items_in_range (item j js) = in_range j && items_in_range js
+
+  pub members_in_range : Members → Bool
+  members_in_range no_members = true
+  members_in_range (member k j ms) = in_range j && members_in_range ms
+
+abbrev pub if_in_range : Json → Option Json
+if_in_range j = if in_range j then Some (tidy j) else None
+
+-- a number's text; a float that serde_json made has none
+abbrev pub number_ref_text : NumberRef → List ℕ
+number_ref_text (number_ref.Read n) = number_text (number_view n)
+number_ref_text (number_ref.Written s) = s.now
+
+-- the whole number that a text is: `1.0`, `-0` and what lies beyond 64 bits are none
+abbrev pub whole_of : List ℕ → Option ℤ
+whole_of s = option_and_then as_integer (number_of s)
+
+abbrev pub ends : Option (List ℕ) → Bool
+ends (Some []) = true
+ends _ = false
+
+-- the text of a JSON number (RFC 8259, 6) that serde_json takes, as a float
+abbrev pub is_decimal : List ℕ → Bool
+is_decimal s = ends (after_number s) && unwrap_or (option_map is_float (number_of s)) false
+
+-- within 64 bits, with a sign or without
+abbrev pub Fits : ℤ → Type 0
+Fits (pos n) = n < 2 ^ 64
+Fits (negsuc n) = n < 2 ^ 63
+
+-- the value behind a reference
+abbrev pub behind : JsonRef → Json
+behind (r.Owned v) = outline (view v.now)
+behind (r.Borrowed v) = tidy (value_view v.now)
 
 abbrev pub items : ItemsRef → Items
-items (items_ref.Owned vs) = items_view vs.now.items
-items (items_ref.Borrowed vs) = items_data (borrowed_items vs.now.items)
+items (items_ref.Owned vs) = items_outline (items_view vs.now.items)
+items (items_ref.Borrowed vs) = tidy_items (borrowed_items vs.now.items)
 
 abbrev pub members : ObjectRef → Members
-members (object_ref.Owned m) = members_view m.now.entries
-members (object_ref.Borrowed ms) = members_data (borrowed_members ms.now.items) no_members
+members (object_ref.Owned m) = members_outline (members_view m.now.entries)
+members (object_ref.Borrowed ms) = tidy_members (borrowed_members ms.now.items) no_members
 
--- the data of a value whose kind, items and members these are
-abbrev pub data_of_kind : JsonKind → Data
-data_of_kind kind.Null = null
-data_of_kind (kind.Bool b) = boolean b
-data_of_kind (kind.Number n) = number (number_view n)
-data_of_kind (kind.Text s) = string s.now
-data_of_kind (kind.Items is) = array (items is)
-data_of_kind (kind.Object o) = object (members o)
+-- the value whose kind, items and members these are
+abbrev pub value_of_kind : JsonKind → Json
+value_of_kind kind.Null = null
+value_of_kind (kind.Bool b) = boolean b
+value_of_kind (kind.Number n) = number (number_ref_text n)
+value_of_kind (kind.Text s) = string s.now
+value_of_kind (kind.Items is) = array (items is)
+value_of_kind (kind.Object o) = object (members o)
 
--- the JSON value of a line: UTF-8, and one value with nothing after it (RFC 8259, 2 and 8.1)
-abbrev pub line_value : List ℕ → Option Data
-line_value bytes = if is_utf8 bytes then read bytes else None
+-- the JSON value that a text is, and nothing after it (RFC 8259, 2)
+abbrev pub text_value : List ℕ → Option Json
+text_value text = option_and_then if_in_range (option_and_then (λ p. if_last p.0 p.1) (value max_depth (tokens text)))
+
+-- the JSON value of a line: it is UTF-8 (RFC 8259, 8.1)
+abbrev pub line_value : List ℕ → Option Json
+line_value bytes = if is_utf8 bytes then text_value bytes else None
 
 -- keys behind references, by their bytes
 abbrev pub text_cmp : Bor (List ℕ) → Bor (List ℕ) → Ordering
@@ -92,4 +150,4 @@ AreInOrder ms = IsStrictlySortedBy text_cmp (keys_of ms)
 -- the number of items
 abbrev pub items_count : Items → ℕ
 items_count no_items = 0
-items_count (item d ds) = suc (items_count ds)
+items_count (item j js) = suc (items_count js)

@@ -1,9 +1,10 @@
 ghost use Rattle.std.specs.Prelude.{◌≡◌, Ok, IfOk, true};
 ghost use Rattle.std.specs.BTreeMap.{insert_entry};
 ghost use Rattle.json.specs.Value.{members_view};
-ghost use Rattle.serde_json.specs.Data.{no_members};
+ghost use Rattle.json.specs.Json.{no_members};
 ghost use Rattle.serde_json.specs.View.{members_view as owned_view};
-ghost use Rattle.comm_json.specs.Behind.{behind, members, members_data, members_of};
+ghost use Rattle.serde_json.specs.Written.{members_outline};
+ghost use Rattle.comm_json.specs.Behind.{behind, members, tidy_members, members_of};
 ghost use Rattle.comm_json.specs.Behind.{member_refs, text_cmp, AreInOrder};
 
 use crate::json_ref::{JsonRef, LineMembers, ObjectRef};
@@ -56,7 +57,8 @@ fn all_of<'v, 'a>(
     alloc: Global,
     map: &'v Map<String, Value>,
 ) -> Result<Vec<MemberRef<'v, 'a>>, AllocError>
-    ensures all { IfOk result (λ all. members_of all.items ≡ owned_view map.now.entries) }
+    ensures all { IfOk result
+        (λ all. members_of all.items ≡ members_outline (owned_view map.now.entries)) }
     ensures ordered { IfOk result (λ all. AreInOrder all.items) }
 {
     let mut all = Vec::with_capacity(alloc, map.len())?;
@@ -71,7 +73,7 @@ fn in_order<'v, 'a>(
     list: &'v LineMembers<'a>,
 ) -> Result<Vec<MemberRef<'v, 'a>, &'a Bump>, AllocError>
     ensures all { IfOk result
-        (λ all. members_of all.items ≡ members_data (members_view list.now.items) no_members) }
+        (λ all. members_of all.items ≡ tidy_members (members_view list.now.items) no_members) }
     ensures ordered { IfOk result (λ all. AreInOrder all.items) }
 {
     let mut all = Vec::with_capacity(*list.allocator(), list.len())?;
@@ -120,7 +122,7 @@ fn by_map<'v, 'a>(
     list: &'v LineMembers<'a>,
 ) -> Result<Vec<MemberRef<'v, 'a>, &'a Bump>, AllocError>
     ensures all { IfOk result
-        (λ all. members_of all.items ≡ members_data (members_view list.now.items) no_members) }
+        (λ all. members_of all.items ≡ tidy_members (members_view list.now.items) no_members) }
     ensures ordered { IfOk result (λ all. AreInOrder all.items) }
 {
     let mut map: BTreeMap<&'v str, JsonRef<'v, 'a>> = BTreeMap::new(alloc);

@@ -1,13 +1,13 @@
-ghost use Rattle.std.specs.Prelude.{◌≡◌, ◌<◌, IfSome, Some, None, true, false, option_map, MatchBool};
+ghost use Rattle.std.specs.Prelude.{◌≡◌, ◌<◌, IfSome, option_map};
+ghost use Rattle.json.specs.Json.{no_members};
+ghost use Rattle.json.specs.Find.{get_item};
 ghost use Rattle.json.specs.Value.{value_view, members_view};
-ghost use Rattle.serde_json.specs.Data.{no_members};
-ghost use Rattle.serde_json.specs.Find.{get_member, get_item};
-ghost use Rattle.serde_json.specs.Read.{of_json};
-ghost use Rattle.comm_json.specs.Behind.{behind, data_of, members_data, items, members, data_of_kind, items_count};
+ghost use Rattle.comm_json.specs.Behind.{behind, tidy, tidy_members, get_member, items, members, value_of_kind};
+ghost use Rattle.comm_json.specs.Behind.{items_count};
 
-use crate::json_number::number_in;
+use crate::json_number::NumberRef;
 use bumpalo::Bump;
-use serde_json::{Map, Number, Value};
+use serde_json::{Map, Value};
 
 /// The JSON value that [`crate::read_line`] gives: strings are slices of the line, lists stand in the arena.
 pub type LineValue<'a> = json::Value<'a, &'a Bump>;
@@ -41,16 +41,16 @@ pub enum ObjectRef<'v, 'a> {
 pub enum JsonKind<'v, 'a> {
     Null,
     Bool(bool),
-    Number(Number),
+    Number(NumberRef<'v>),
     Text(&'v str),
     Items(ItemsRef<'v, 'a>),
     Object(ObjectRef<'v, 'a>),
 }
 
 impl<'v, 'a> JsonRef<'v, 'a> {
-    /// Its kind. A number beyond `serde_json`'s range would be `Null`; a tree that `read_line` gave has none.
+    /// Its kind.
     pub fn kind(self) -> JsonKind<'v, 'a>
-        ensures { data_of_kind result ≡ behind self.entry }
+        ensures { value_of_kind result ≡ behind self.entry }
     {
         match self {
             JsonRef::Owned(value) => kind_of_owned(value),
@@ -60,12 +60,12 @@ impl<'v, 'a> JsonRef<'v, 'a> {
 }
 
 fn kind_of_owned<'v, 'a>(value: &'v Value) -> JsonKind<'v, 'a>
-    ensures { data_of_kind result ≡ behind (JsonRef.Owned value.entry) }
+    ensures { value_of_kind result ≡ behind (JsonRef.Owned value.entry) }
 {
     match value {
         Value::Null => JsonKind::Null,
         Value::Bool(b) => JsonKind::Bool(*b),
-        Value::Number(number) => JsonKind::Number(*number),
+        Value::Number(number) => JsonKind::Number(NumberRef::Read(*number)),
         Value::String(text) => JsonKind::Text(text.as_str()),
         Value::Array(items) => JsonKind::Items(ItemsRef::Owned(items)),
         Value::Object(members) => JsonKind::Object(ObjectRef::Owned(members)),
@@ -73,15 +73,12 @@ fn kind_of_owned<'v, 'a>(value: &'v Value) -> JsonKind<'v, 'a>
 }
 
 fn kind_of_borrowed<'v, 'a>(value: &'v LineValue<'a>) -> JsonKind<'v, 'a>
-    ensures { data_of_kind result ≡ behind (JsonRef.Borrowed value.entry) }
+    ensures { value_of_kind result ≡ behind (JsonRef.Borrowed value.entry) }
 {
     match value {
         json::Value::Null => JsonKind::Null,
         json::Value::Bool(b) => JsonKind::Bool(*b),
-        json::Value::Number(text) => match number_in(text) {
-            Some(number) => JsonKind::Number(number),
-            None => JsonKind::Null,
-        },
+        json::Value::Number(text) => JsonKind::Number(NumberRef::Written(text)),
         json::Value::String(text) => JsonKind::Text(text),
         json::Value::Array(items) => JsonKind::Items(ItemsRef::Borrowed(items)),
         json::Value::Object(list) => JsonKind::Object(ObjectRef::Borrowed(list)),
@@ -139,8 +136,8 @@ impl<'v, 'a> ObjectRef<'v, 'a> {
 
 // The value of the last member with this key.
 fn last_of<'v, 'a>(list: &'v LineMembers<'a>, key: &str) -> Option<&'v LineValue<'a>>
-    ensures { option_map (λ v. data_of (value_view v.now)) result
-        ≡ get_member key.now (members_data (members_view list.now.items) no_members) }
+    ensures { option_map (λ v. tidy (value_view v.now)) result
+        ≡ get_member key.now (tidy_members (members_view list.now.items) no_members) }
 {
     let mut left = list.len();
     while left > 0 {

@@ -1,8 +1,6 @@
-ghost use Rattle.std.specs.Prelude.{◌≡◌, Some, None, MatchBool};
+ghost use Rattle.std.specs.Prelude.{◌≡◌};
 ghost use Rattle.json.specs.Value.{value_view, items_view, members_view};
-ghost use Rattle.serde_json.specs.Data.{no_members};
-ghost use Rattle.serde_json.specs.Read.{of_json, of_items, of_members};
-ghost use Rattle.comm_json.specs.Behind.{data_of, items_data, members_data};
+ghost use Rattle.comm_json.specs.Behind.{in_range, items_in_range, members_in_range};
 
 use crate::json_number::number_in;
 use crate::json_ref::{LineMembers, LineValue};
@@ -13,9 +11,7 @@ use json::Value;
 #[must_use]
 #[cycle(in_range)]
 pub fn numbers_are_in_range(value: &LineValue<'_>) -> bool
-    ensures { MatchBool result
-        (of_json (value_view value.now) ≡ Some (data_of (value_view value.now)))
-        (of_json (value_view value.now) ≡ None) }
+    ensures { result ≡ in_range (value_view value.now) }
 {
     match value {
         Value::Null | Value::Bool(_) | Value::String(_) => true,
@@ -27,9 +23,7 @@ pub fn numbers_are_in_range(value: &LineValue<'_>) -> bool
 
 #[cycle(in_range)]
 fn items_are_in_range(items: &Vec<LineValue<'_>, &Bump>) -> bool
-    ensures { MatchBool result
-        (of_items (items_view items.now.items) ≡ Some (items_data (items_view items.now.items)))
-        (of_items (items_view items.now.items) ≡ None) }
+    ensures { result ≡ items_in_range (items_view items.now.items) }
 {
     for item in items {
         if !numbers_are_in_range(item) {
@@ -41,10 +35,7 @@ fn items_are_in_range(items: &Vec<LineValue<'_>, &Bump>) -> bool
 
 #[cycle(in_range)]
 fn members_are_in_range(members: &LineMembers<'_>) -> bool
-    ensures { MatchBool result
-        (of_members (members_view members.now.items) no_members
-        ≡ Some (members_data (members_view members.now.items) no_members))
-        (of_members (members_view members.now.items) no_members ≡ None) }
+    ensures { result ≡ members_in_range (members_view members.now.items) }
 {
     for member in members {
         if !numbers_are_in_range(&member.1) {

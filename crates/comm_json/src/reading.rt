@@ -1,8 +1,7 @@
 ghost use Rattle.std.specs.Prelude.{◌≡◌, Some, None, IfOk, IfErr};
 ghost use Rattle.json.specs.Value.{value_view};
-ghost use Rattle.serde_json.specs.Read.{read};
 ghost use Rattle.comm_json.specs.declared.reading.JsonFault.TheVariants.{NotJson};
-ghost use Rattle.comm_json.specs.Behind.{data_of, line_value};
+ghost use Rattle.comm_json.specs.Behind.{tidy, text_value, line_value};
 
 use crate::json_ref::LineValue;
 use crate::ranges::numbers_are_in_range;
@@ -46,7 +45,7 @@ const DEPTH: usize = 127;
 /// Parses a line as one JSON value (RFC 8259). Strings are slices of the line, or of the arena where they have escapes;
 /// lists stand in the arena. Err: NotJson or Memory, after which the arena serves the next line as before.
 pub fn read_line<'a>(line: &'a [u8], arena: &'a mut ParseArena) -> Result<LineValue<'a>, JsonFault>
-    ensures value { IfOk result (λ v. line_value line.now ≡ Some (data_of (value_view v))) }
+    ensures value { IfOk result (λ v. line_value line.now ≡ Some (tidy (value_view v))) }
     ensures fault { IfErr result (λ e. e ≡ NotJson → line_value line.now ≡ None) }
 {
     match simdutf8::compat::from_utf8(line) {
@@ -56,8 +55,8 @@ pub fn read_line<'a>(line: &'a [u8], arena: &'a mut ParseArena) -> Result<LineVa
 }
 
 fn read_text<'a>(text: &'a str, arena: &'a mut ParseArena) -> Result<LineValue<'a>, JsonFault>
-    ensures value { IfOk result (λ v. read text.now ≡ Some (data_of (value_view v))) }
-    ensures fault { IfErr result (λ e. e ≡ NotJson → read text.now ≡ None) }
+    ensures value { IfOk result (λ v. text_value text.now ≡ Some (tidy (value_view v))) }
+    ensures fault { IfErr result (λ e. e ≡ NotJson → text_value text.now ≡ None) }
 {
     let ParseArena { texts, lists } = arena;
     // The lists of the last line were dropped. If one were left, the arena would grow instead of being emptied.

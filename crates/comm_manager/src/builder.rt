@@ -1,5 +1,6 @@
 //! What a manager is made of before it has a name.
-ghost use Rattle.std.specs.Prelude.{◌≡◌, ◌≤◌, ◌++◌, [], ◌∷◌, All, IfOk, IfErr, nat_lt, ◌+◌, ◌<◌, ◌-◌, vec_len, if◌then◌else◌};
+ghost use Rattle.std.specs.Prelude.{◌≡◌, ◌≤◌, ◌++◌, [], ◌∷◌, All, IfOk, IfErr, nat_lt, ◌+◌, ◌<◌, ◌-◌, vec_len};
+ghost use Rattle.std.specs.Prelude.{if◌then◌else◌};
 ghost use Rattle.comm_core.specs.Limits.{AreAllowed};
 ghost use Rattle.comm_manager.specs.SeqView.{seq_view};
 ghost use Rattle.comm_manager.specs.ClientView.{client_view, all_new};

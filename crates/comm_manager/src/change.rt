@@ -1,5 +1,6 @@
 //! One change, in its order.
-ghost use Rattle.std.specs.Prelude.{◌≡◌, ◌+◌, ◌<◌, ◌≤◌, ◌^◌, ◌++◌, [], ◌∷◌, length, true, ◌⊎◌, IfOk, IfErr, IfSome, OnErr, OnOk, MatchOption, MatchResult, slice_index, slice_set};
+ghost use Rattle.std.specs.Prelude.{◌≡◌, ◌+◌, ◌<◌, ◌≤◌, ◌^◌, ◌++◌, [], ◌∷◌, length, true, ◌⊎◌, IfOk, IfErr, IfSome};
+ghost use Rattle.std.specs.Prelude.{OnErr, OnOk, MatchOption, MatchResult, slice_index, slice_set};
 ghost use mathlib.Core.List.{IsPrefix};
 ghost use Rattle.std.specs.Arc.{arc_value};
 ghost use Rattle.comm_core.specs.History.{IsLegal, replay};
@@ -7,7 +8,8 @@ ghost use Rattle.comm_core.specs.Ready.{CoreValue, HandsNothingIn, IsReady, mach
 ghost use Rattle.comm_core.specs.Tables.{IdleWhere};
 ghost use Rattle.comm_targets.specs.Meaning.{IsIdle};
 ghost use Rattle.comm_manager.specs.Asked.{ready_entry};
-ghost use Rattle.comm_manager.specs.Log.{HasRoom, HasSeenAll, IsAppended, IsCounted, IsStampOf, IsTotal, IsUnchanged, LogInvariant, register_call};
+ghost use Rattle.comm_manager.specs.Log.{HasRoom, HasSeenAll, IsAppended, IsCounted, IsStampOf, IsTotal, IsUnchanged};
+ghost use Rattle.comm_manager.specs.Log.{LogInvariant, register_call};
 ghost use Rattle.comm_manager.specs.UnderLock.{OutboxInvariant};
 ghost use Rattle.comm_manager.specs.SeqView.{seq_view};
 ghost use Rattle.comm_manager.specs.Why.{IsReason, IsHistoryFirst};
@@ -28,7 +30,7 @@ use std::alloc::{AllocError, Global};
 use std::sync::{Arc, Wait};
 
 /// A change that was made: its answer, and a target that has to be ended.
-pub struct MadeChange<M: ManagerId, T: Target> {
+pub struct AnsweredChange<M: ManagerId, T: Target> {
     pub answered: Answered<M>,
     pub ended: Option<Held<T>>,
 }
@@ -209,7 +211,7 @@ pub fn ask<M: ManagerId, T: Target, R: Wait>(
     reader: &mut VersionReader<M>,
     seq: &mut ClientSeq<M>,
     call: Call,
-) -> Result<MadeChange<M, T>, Unavailable<Stamp<M>>>
+) -> Result<AnsweredChange<M, T>, Unavailable<Stamp<M>>>
     requires kept { LogInvariant M.queue M.limits log.old core.old }
     requires below { seq.old.client < M.limits.clients }
     requires call { HandsNothingIn call }
@@ -245,7 +247,7 @@ pub fn ask<M: ManagerId, T: Target, R: Wait>(
                 ended,
             } = core.commit(prepared);
             let (number, stamp) = complete(rt, log, reader, seq, kept, sent);
-            Ok(MadeChange {
+            Ok(AnsweredChange {
                 answered: Answered {
                     number,
                     reply,
@@ -271,7 +273,7 @@ pub fn register<M: ManagerId, T: Target, R: Wait>(
     seq: &mut ClientSeq<M>,
     name: Text,
     boxed: T,
-) -> Result<MadeChange<M, T>, (Unavailable<Stamp<M>>, T)>
+) -> Result<AnsweredChange<M, T>, (Unavailable<Stamp<M>>, T)>
     requires kept { LogInvariant M.queue M.limits log.old core.old }
     requires below { seq.old.client < M.limits.clients }
     requires idle { IsIdle (T.means boxed) }
@@ -305,7 +307,7 @@ pub fn register<M: ManagerId, T: Target, R: Wait>(
                 ended,
             } = core.commit(prepared);
             let (number, stamp) = complete(rt, log, reader, seq, kept, sent);
-            Ok(MadeChange {
+            Ok(AnsweredChange {
                 answered: Answered {
                     number,
                     reply,

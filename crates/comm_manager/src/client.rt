@@ -14,7 +14,7 @@ ghost use Rattle.comm_manager.specs.Why.{IsReason};
 ghost use Rattle.comm_versions.specs.declared.reads.ReadFault.TheVariants as fault;
 
 use crate::answered::Answered;
-use crate::change::MadeChange;
+use crate::change::AnsweredChange;
 use crate::ledger::{ClientSeq, SeqTotals};
 use crate::manager_id::ManagerId;
 use crate::shared::Manager;
@@ -128,7 +128,7 @@ impl<M: ManagerId> Client<M> {
         let made = manager.inner.lock(rt).ask(rt, manager.alloc, self, call);
         // Here the lock is let go: a target may take its time to end.
         match made {
-            Ok(MadeChange { answered, ended }) => {
+            Ok(AnsweredChange { answered, ended }) => {
                 end(ended);
                 Ok(answered)
             }
@@ -159,7 +159,7 @@ impl<M: ManagerId> Client<M> {
             .lock(rt)
             .register(rt, manager.alloc, self, name, target);
         match made {
-            Ok(MadeChange { answered, ended }) => {
+            Ok(AnsweredChange { answered, ended }) => {
                 end(ended);
                 Ok(answered)
             }
@@ -168,7 +168,7 @@ impl<M: ManagerId> Client<M> {
     }
 
     /// Opens a comm towards a target, as the frontend asks by `comm_open`. `version` is the widget protocol's, of the
-    /// message's metadata.
+    /// message's metadata. Err: as of `ask`.
     pub fn open_comm<T: Target, R: Wait>(
         &mut self,
         rt: &R,
@@ -196,7 +196,7 @@ impl<M: ManagerId> Client<M> {
         )
     }
 
-    /// Hands a `comm_msg` of the frontend to the comm's target.
+    /// Hands a `comm_msg` of the frontend to the comm's target. Err: as of `ask`.
     pub fn message<T: Target, R: Wait>(
         &mut self,
         rt: &R,
@@ -212,7 +212,7 @@ impl<M: ManagerId> Client<M> {
         self.ask(rt, manager, Call::Msg { id, body })
     }
 
-    /// Closes a comm, as the frontend asks by `comm_close`.
+    /// Closes a comm, as the frontend asks by `comm_close`. Err: as of `ask`.
     pub fn close_comm<T: Target, R: Wait>(
         &mut self,
         rt: &R,
@@ -227,7 +227,7 @@ impl<M: ManagerId> Client<M> {
         self.ask(rt, manager, Call::Close { id })
     }
 
-    /// Takes a target out: closes its comms, with a `comm_close` for each, and ends it.
+    /// Takes a target out: closes its comms, with a `comm_close` for each, and ends it. Err: as of `ask`.
     pub fn unregister<T: Target, R: Wait>(
         &mut self,
         rt: &R,
@@ -242,7 +242,7 @@ impl<M: ManagerId> Client<M> {
         self.ask(rt, manager, Call::Unregister { name })
     }
 
-    /// Opens a widget's comm for the kernel, with this state; sends `comm_open`.
+    /// Opens a widget's comm for the kernel, with this state; sends `comm_open`. Err: as of `ask`.
     pub fn launch<T: Target, R: Wait>(
         &mut self,
         rt: &R,
@@ -260,7 +260,8 @@ impl<M: ManagerId> Client<M> {
         self.ask(rt, manager, Call::Launch { id, target, state })
     }
 
-    /// Changes these keys of a widget's state for the kernel; sends an `update` with just them.
+    /// Changes these keys of a widget's state for the kernel; sends an `update` with just them. Err: as of
+    /// `ask`.
     pub fn push<T: Target, R: Wait>(
         &mut self,
         rt: &R,
@@ -276,7 +277,7 @@ impl<M: ManagerId> Client<M> {
         self.ask(rt, manager, Call::Push { id, state })
     }
 
-    /// Sends a `comm_msg` of the kernel on a comm, past its target.
+    /// Sends a `comm_msg` of the kernel on a comm, past its target. Err: as of `ask`.
     pub fn send<T: Target, R: Wait>(
         &mut self,
         rt: &R,
@@ -292,7 +293,7 @@ impl<M: ManagerId> Client<M> {
         self.ask(rt, manager, Call::Send { id, body })
     }
 
-    /// Closes a comm for the kernel; sends `comm_close`.
+    /// Closes a comm for the kernel; sends `comm_close`. Err: as of `ask`.
     pub fn hang_up<T: Target, R: Wait>(
         &mut self,
         rt: &R,

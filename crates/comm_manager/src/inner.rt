@@ -1,5 +1,6 @@
 //! What lies under the lock.
-ghost use Rattle.std.specs.Prelude.{◌≡◌, ◌+◌, ◌<◌, ◌≤◌, ◌++◌, [], ◌∷◌, length, false, All, IfOk, IfErr, OnErr, true, vec_capacity};
+ghost use Rattle.std.specs.Prelude.{◌≡◌, ◌+◌, ◌<◌, ◌≤◌, ◌++◌, [], ◌∷◌, length, false, All, IfOk, IfErr, OnErr, true};
+ghost use Rattle.std.specs.Prelude.{vec_capacity};
 ghost use Rattle.std.specs.Arc.{arc_value};
 ghost use Rattle.std.specs.Mem.{manually_drop_value};
 ghost use Rattle.comm_core.specs.History.{IsLegal, has_end};
@@ -16,7 +17,7 @@ ghost use Rattle.comm_manager.specs.UnderLock.{OutboxInvariant, counts};
 ghost use Rattle.comm_manager.specs.Mine.{IsAnswered, IsSettled};
 ghost use Rattle.comm_manager.specs.Why.{IsReason, IsHistoryFirst};
 
-use crate::change::{self, MadeChange};
+use crate::change::{self, AnsweredChange};
 use crate::change_log::ChangeLog;
 use crate::client::Client;
 use crate::journal::Journal;
@@ -109,7 +110,7 @@ impl<M: ManagerId, T: Target> Inner<M, T> {
         alloc: Global,
         client: &mut Client<M>,
         call: Call,
-    ) -> Result<MadeChange<M, T>, Unavailable<Stamp<M>>>
+    ) -> Result<AnsweredChange<M, T>, Unavailable<Stamp<M>>>
         requires { HandsNothingIn call }
         ensures answered { IfOk result (λ m.
             IsAnswered M.limits client.old client.new call
@@ -142,7 +143,7 @@ impl<M: ManagerId, T: Target> Inner<M, T> {
         client: &mut Client<M>,
         name: Text,
         boxed: T,
-    ) -> Result<MadeChange<M, T>, (Unavailable<Stamp<M>>, T)>
+    ) -> Result<AnsweredChange<M, T>, (Unavailable<Stamp<M>>, T)>
         requires { IsIdle (T.means boxed) }
         ensures answered { IfOk result (λ m.
             IsAnswered M.limits client.old client.new

@@ -175,7 +175,7 @@
 //!     search (sendable, crosses) depth 60
 //! ```
 //!
-//! `thread_harness` has this whole: `src/named.rt` has the two functions, `src/threads.rt` starts the threads.
+//! `thread_harness` has this whole: `src/harness.rt` has the two functions, `src/threads.rt` starts the threads.
 //! `interleaving_tests` plays its tests over it.
 #![tactic(auto)]
 

@@ -1,7 +1,7 @@
 -- Buffers that are decoded one after the other.
 use Rattle.std.proofs.Common.{◌≡◌, ℕ, zero, suc, Bool, true, false, List, [], ◌∷◌, ◌++◌, length, Some, None, Ok, Err, refl, sym, ap, ◌∙◌, arith, append-nil, append_assoc, length-append}
-use Rattle.serde_json.specs.Data.{Data, Items, no_items, item}
-use Rattle.serde_json.specs.Find.{get_item}
+use Rattle.json.specs.Json.{Json, Items, no_items, item}
+use Rattle.json.specs.Find.{get_item}
 use Rattle.comm_value.specs.Gives.{◌>>=◌, or_fault, Fails}
 use Rattle.comm_messages.specs.Gives.{Reading, is_memory}
 use Rattle.comm_messages.specs.Buffers.{buffer_of, buffers_from}
@@ -29,7 +29,7 @@ left zero ds = ds
 left (suc n) no_items = no_items
 left (suc n) (item d ds) = left n ds
 
-left_item : (ds : Items) (n : ℕ) (d : Data) → get_item n ds ≡ Some d → left n ds ≡ item d (left (suc n) ds)
+left_item : (ds : Items) (n : ℕ) (d : Json) → get_item n ds ≡ Some d → left n ds ≡ item d (left (suc n) ds)
 left_item no_items zero d at = absurd (cc)
 left_item no_items (suc n) d at = absurd (cc)
 left_item (item e ds) zero d at = ap (λ x. item x ds) (some_same at)
@@ -45,7 +45,7 @@ left_none (item e ds) (suc n) at = left_none ds n at
 abbrev pub rest : Items → ℕ → Reading (List (List ℕ))
 rest ds n = buffers_from n (left n ds)
 
-pub one_more : (ds : Items) (d : Data) (all new : List (List ℕ)) (b : List ℕ) (whole : Reading (List (List ℕ)))
+pub one_more : (ds : Items) (d : Json) (all new : List (List ℕ)) (b : List ℕ) (whole : Reading (List (List ℕ)))
     → get_item (length all) ds ≡ Some d → or_fault (BadBuffer (length all)) (buffer_of d) ≡ Ok b → new ≡ all ++ b ∷ []
     → whole ≡ after all (rest ds (length all)) → whole ≡ after new (rest ds (length new))
 one_more ds d all new b whole at is more before =
@@ -57,7 +57,7 @@ one_more ds d all new b whole at is more before =
     ∙ after-cons all b (rest ds (suc n))
     ∙ ap (λ l. after l (rest ds (suc n))) (sym more) ∙ ap (λ m. after new (rest ds m)) next
 
-pub one_fails : (ds : Items) (d : Data) (all : List (List ℕ)) (e : MessageFault) (whole : Reading (List (List ℕ)))
+pub one_fails : (ds : Items) (d : Json) (all : List (List ℕ)) (e : MessageFault) (whole : Reading (List (List ℕ)))
     → get_item (length all) ds ≡ Some d → or_fault (BadBuffer (length all)) (buffer_of d) ≡ Err e → whole ≡ after all (rest ds (length all)) → whole ≡ Err e
 one_fails ds d all e whole at is before =
     let n = length all in

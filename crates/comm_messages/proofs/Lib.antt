@@ -4,3 +4,4 @@ pub mod NoBytes
 pub mod WriteLemmas
 pub mod JsonTexts
 pub mod ReadAgain
+pub mod AnyNumber

@@ -5,8 +5,9 @@ use Rattle.std.proofs.Math.Seq.{drop-cons}
 use Rattle.base64.specs.GeneralPurpose.{encode_of}
 use Rattle.base64.specs.Engines.{standard}
 use Rattle.json.specs.Print.{quoted}
-use Rattle.serde_json.specs.Written.{comma_if, items_text, members_text, compact_text}
-use Rattle.serde_json.specs.Data.{object}
+use Rattle.serde_json.specs.Written.{comma_if}
+use Rattle.comm_json.specs.Text.{items_text, members_text, compact_text}
+use Rattle.json.specs.Json.{object}
 use Rattle.comm_value.specs.ToJson.{json_members}
 use Rattle.comm_messages.specs.Content.{Content}
 use Rattle.serde_json.proofs.OnLiterals.{serde_json_on_literals}

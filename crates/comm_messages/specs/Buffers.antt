@@ -3,14 +3,14 @@ use Rattle.std.specs.Prelude.{ℕ, suc, List, [], ◌∷◌, Option, Some, None,
 use Rattle.std.specs.Result.{result_ok}
 use Rattle.base64.specs.GeneralPurpose.{decode_of}
 use Rattle.base64.specs.Engines.{standard}
-use Rattle.serde_json.specs.Data.{Data, null, string, array, Items, no_items, item}
+use Rattle.json.specs.Json.{Json, null, string, array, Items, no_items, item}
 use Rattle.comm_value.specs.Gives.{or_fault, ◌>>=◌}
 use Rattle.comm_messages.specs.Gives.{Reading}
 use Rattle.comm_messages.specs.declared.fault.MessageFault.TheVariants.{BadContent, BadBuffer}
 use Rattle.comm_messages.specs.declared.fault.Field.TheVariants.{Buffers}
 
 -- the bytes that a string encodes
-abbrev pub buffer_of : Data → Option (List ℕ)
+abbrev pub buffer_of : Json → Option (List ℕ)
 buffer_of (string s) = result_ok (decode_of standard s)
 buffer_of _ = None
 
@@ -21,7 +21,7 @@ buffers_from n (item d ds) =
     or_fault (BadBuffer n) (buffer_of d) >>= (λ b. buffers_from (suc n) ds >>= (λ bs. Ok (b ∷ bs)))
 
 -- absent or null is no buffer
-abbrev pub buffers_of : Option Data → Reading (List (List ℕ))
+abbrev pub buffers_of : Option Json → Reading (List (List ℕ))
 buffers_of None = Ok []
 buffers_of (Some null) = Ok []
 buffers_of (Some (array ds)) = buffers_from 0 ds

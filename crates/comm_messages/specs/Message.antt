@@ -2,9 +2,10 @@
 -- "Comm info").
 use Rattle.std.specs.Prelude.{ℕ, List, Option, option_and_then, Ok, Err, codes, if◌then◌else◌}
 use Rattle.std.specs.Str.{bytes_eq}
-use Rattle.serde_json.specs.Data.{Data, Members}
-use Rattle.serde_json.specs.Find.{get_member}
+use Rattle.json.specs.Json.{Json, Members}
+use Rattle.comm_json.specs.Behind.{get_member}
 use Rattle.comm_value.specs.FromJson.{members_of}
+use Rattle.comm_value.specs.declared.from_json.Numbers.{Numbers}
 use Rattle.comm_value.specs.Tree as tree
 use Rattle.comm_messages.specs.Content.{Content}
 use Rattle.comm_value.specs.Gives.{or_fault, ◌>>=◌}
@@ -26,7 +27,7 @@ type_named name =
     else if bytes_eq name (codes "comm_close") then Ok type.Close
     else if bytes_eq name (codes "comm_info_request") then Ok type.InfoRequest else Err UnknownType
 
-abbrev pub type_of : Option Data → Reading MessageType
+abbrev pub type_of : Option Json → Reading MessageType
 type_of header =
     or_fault NoType
     (option_and_then (λ ms. text (get_member (codes "msg_type") ms)) (option_and_then members_in header))
@@ -48,30 +49,31 @@ object_at field key ms = or_fault (BadContent field) (object_or_empty (get_membe
 abbrev pub version_of : Members → Option (List ℕ)
 version_of metadata = text (get_member (codes "version") metadata)
 
-abbrev pub whole_dict : Members → Reading tree.Members
-whole_dict ms = or_fault NotWhole (members_of ms)
+-- where a number in it isn't taken it's NotWhole
+abbrev pub dict_of : Numbers → Members → Reading tree.Members
+dict_of taken ms = or_fault NotWhole (members_of taken ms)
 
-abbrev pub body_of : Members → Members → Reading Content
-body_of dict line = do
-  content ← whole_dict dict
+abbrev pub body_of : Numbers → Members → Members → Reading Content
+body_of taken dict line = do
+  content ← dict_of taken dict
   buffers ← buffers_of (get_member (codes "buffers") line)
   Ok (record { content = content; buffers = buffers })
 
-unfoldable pub open_in : Members → Members → Reading Incoming
-open_in line content = do
+unfoldable pub open_in : Numbers → Members → Members → Reading Incoming
+open_in taken line content = do
   id ← text_at field.CommId (codes "comm_id") content
   target ← text_at field.TargetName (codes "target_name") content
   dict ← object_at field.Body (codes "data") content
   metadata ← object_at field.Metadata (codes "metadata") line
-  body ← body_of dict line
+  body ← body_of taken dict line
   Ok (Open id target (version_of metadata) body)
 
-unfoldable pub msg_in : Members → Members → Reading Incoming
-msg_in line content = do
+unfoldable pub msg_in : Numbers → Members → Members → Reading Incoming
+msg_in taken line content = do
   id ← text_at field.CommId (codes "comm_id") content
   dict ← object_at field.Body (codes "data") content
   metadata ← object_at field.Metadata (codes "metadata") line
-  body ← body_of dict line
+  body ← body_of taken dict line
   Ok (Msg id body)
 
 -- the metadata and the buffers of a message that uses neither: they are checked and dropped
@@ -98,24 +100,24 @@ info_request_in line content = do
   unused ← unused_in line
   Ok (InfoRequest target)
 
-abbrev pub incoming_in : MessageType → Members → Members → Reading Incoming
-incoming_in type.Open line content = open_in line content
-incoming_in type.Msg line content = msg_in line content
-incoming_in type.Close line content = close_in line content
-incoming_in type.InfoRequest line content = info_request_in line content
+abbrev pub incoming_in : Numbers → MessageType → Members → Members → Reading Incoming
+incoming_in taken type.Open line content = open_in taken line content
+incoming_in taken type.Msg line content = msg_in taken line content
+incoming_in taken type.Close line content = close_in line content
+incoming_in taken type.InfoRequest line content = info_request_in line content
 
 -- the client and the message of an object's members
-unfoldable pub message_in : ℕ → Members → Reading (ℕ × Incoming)
-message_in clients line = do
+unfoldable pub message_in : ℕ → Numbers → Members → Reading (ℕ × Incoming)
+message_in clients taken line = do
   head ← heading clients line
   content ← object_at field.Content (codes "content") line
-  incoming ← incoming_in head.1 line content
+  incoming ← incoming_in taken head.1 line content
   Ok (head.0, incoming)
 
 -- the client and the message of a JSON value
-abbrev pub message_of : ℕ → Data → Reading (ℕ × Incoming)
-message_of clients value = or_fault NotJson (members_in value) >>= message_in clients
+abbrev pub message_of : ℕ → Numbers → Json → Reading (ℕ × Incoming)
+message_of clients taken value = or_fault NotJson (members_in value) >>= message_in clients taken
 
 -- the client and the message of a line's bytes
-abbrev pub message : ℕ → List ℕ → Reading (ℕ × Incoming)
-message clients bytes = object_in bytes >>= message_in clients
+abbrev pub message : ℕ → Numbers → List ℕ → Reading (ℕ × Incoming)
+message clients taken bytes = object_in bytes >>= message_in clients taken

@@ -1,8 +1,8 @@
 -- The text of an outgoing message in parts, in the order in which they are written.
 use Rattle.std.specs.Prelude.{◌≡◌, ℕ, List, [], ◌++◌, false, codes, decimal}
 use Rattle.json.specs.Print.{quoted}
-use Rattle.serde_json.specs.Data.{array, object}
-use Rattle.serde_json.specs.Written.{compact_text, items_text}
+use Rattle.json.specs.Json.{array, object}
+use Rattle.comm_json.specs.Text.{compact_text, items_text}
 use Rattle.comm_messages.specs.Text.{parts_of, buffer_texts, texts}
 use Rattle.comm_messages.specs.declared.infos.Info.{Info}
 use Rattle.comm_messages.specs.declared.outgoing.Outgoing.{Outgoing}

@@ -1,14 +1,16 @@
 -- The round trip of a message that is written: it is read as JSON and as an equal message. The law is in laws.rt.
 use Rattle.std.specs.Prelude.{◌≡◌, ◌<◌, ◌≤◌, ◌^◌, ℕ, true, false, List, [], ◌∷◌, Option, Some, None, Ok, All, IsUtf8, ⊤}
 use Rattle.base64.specs.GeneralPurpose.{IsBytes}
-use Rattle.serde_json.specs.Data.{depth}
+use Rattle.json.specs.Tree.{depth}
 use Rattle.serde_json.specs.Read.{max_depth}
-use Rattle.comm_value.specs.Tree.{Tree, whole, text as a_text, list, dict}
+use Rattle.comm_value.specs.Tree.{Tree, whole, decimal, text as a_text, list, dict}
 use Rattle.comm_value.specs.Tree.{Items, no_items, item, Members, no_members, member}
 use Rattle.comm_value.specs.Order.{members_ordered}
 use Rattle.comm_value.specs.Places.{members_have_bytes}
 use Rattle.comm_value.specs.Range.{in_range}
-use Rattle.comm_json.specs.Behind.{line_value}
+use Rattle.comm_json.specs.Behind.{line_value, is_decimal}
+use Rattle.comm_value.specs.declared.from_json.Numbers.{Numbers}
+use Rattle.comm_value.specs.declared.from_json.Numbers.TheVariants.{Whole, Any}
 use Rattle.comm_messages.specs.Content.{Content}
 use Rattle.comm_messages.specs.Listed.{IdsAreInOrder}
 use Rattle.comm_messages.specs.declared.infos.Info.{Info}
@@ -35,39 +37,45 @@ number_in (Read client front) = front
 
 -- ---- what the types of a message keep to
 
--- each text is UTF-8, and each number one that JSON holds without loss
+-- a number that isn't whole, where such are taken
+abbrev pub IsTaken : Numbers → List ℕ → Type 0
+IsTaken Whole s = ⊥
+IsTaken Any s = (is_decimal s ≡ true) × IsUtf8 s
+
+-- each text is UTF-8, each whole number one that JSON holds without loss, and each decimal one of another form
 abbrev mutual
-  pub IsKept : Tree → Type 0
-  IsKept (whole z) = in_range z ≡ true
-  IsKept (a_text s) = IsUtf8 s
-  IsKept (list ts) = ItemsKept ts
-  IsKept (dict ms) = MembersKept ms
-  IsKept _ = ⊤
+  pub IsKept : Numbers → Tree → Type 0
+  IsKept taken (whole z) = in_range z ≡ true
+  IsKept taken (decimal s) = IsTaken taken s
+  IsKept taken (a_text s) = IsUtf8 s
+  IsKept taken (list ts) = ItemsKept taken ts
+  IsKept taken (dict ms) = MembersKept taken ms
+  IsKept taken _ = ⊤
 
-  pub ItemsKept : Items → Type 0
-  ItemsKept no_items = ⊤
-  ItemsKept (item t ts) = IsKept t × ItemsKept ts
+  pub ItemsKept : Numbers → Items → Type 0
+  ItemsKept taken no_items = ⊤
+  ItemsKept taken (item t ts) = IsKept taken t × ItemsKept taken ts
 
-  pub MembersKept : Members → Type 0
-  MembersKept no_members = ⊤
-  MembersKept (member k t ms) = IsUtf8 k × IsKept t × MembersKept ms
+  pub MembersKept : Numbers → Members → Type 0
+  MembersKept taken no_members = ⊤
+  MembersKept taken (member k t ms) = IsUtf8 k × IsKept taken t × MembersKept taken ms
 
 -- the data of a body has its keys in order and no bytes, and a buffer's bytes are below 256
-pub record BodyKept (body : Content) : Type 0 where
+pub record BodyKept (taken : Numbers) (body : Content) : Type 0 where
   pub ordered : members_ordered body.content ≡ true
   pub plain : members_have_bytes body.content ≡ false
-  pub values : MembersKept body.content
+  pub values : MembersKept taken body.content
   pub bytes : All IsBytes body.buffers
 
 abbrev pub InfosKept : List Info → Type 0
 InfosKept [] = ⊤
 InfosKept (info ∷ infos) = IsUtf8 info.id × IsUtf8 info.target × InfosKept infos
 
-abbrev pub MessageKept : Outgoing → Type 0
-MessageKept (Open id target version body) = IsUtf8 id × IsUtf8 target × IsUtf8 version × BodyKept body
-MessageKept (Msg id body) = IsUtf8 id × BodyKept body
-MessageKept (Close id) = IsUtf8 id
-MessageKept (InfoReply comms) = InfosKept comms × IdsAreInOrder comms
+abbrev pub MessageKept : Numbers → Outgoing → Type 0
+MessageKept taken (Open id target version body) = IsUtf8 id × IsUtf8 target × IsUtf8 version × BodyKept taken body
+MessageKept taken (Msg id body) = IsUtf8 id × BodyKept taken body
+MessageKept taken (Close id) = IsUtf8 id
+MessageKept taken (InfoReply comms) = InfosKept comms × IdsAreInOrder comms
 
 -- ---- the law
 
@@ -75,21 +83,21 @@ MessageKept (InfoReply comms) = InfosKept comms × IdsAreInOrder comms
 -- is read
 abbrev pub TextIsItsObject : Type 0
 TextIsItsObject =
-    (m : Outgoing) (parent : Parent) → MessageKept m → client_in parent < 2 ^ 8 → number_in parent < 2 ^ 64
-    → depth (json_of (parts_of m) parent) ≤ max_depth
+    (taken : Numbers) (m : Outgoing) (parent : Parent) → MessageKept taken m → client_in parent < 2 ^ 8
+    → number_in parent < 2 ^ 64 → depth (json_of (parts_of m) parent) ≤ max_depth
     → line_value (text m parent) ≡ Some (json_of (parts_of m) parent)
 
--- the object that is written says the message
+-- the object that is written says the message to a reader that takes its numbers
 abbrev pub ObjectSaysMessage : Type 0
 ObjectSaysMessage =
-    (clients : ℕ) (m : Outgoing) (parent : Parent) (i : Incoming) → same_message m ≡ Some i → MessageKept m
-    → client_in parent < clients
-    → message_of clients (json_of (parts_of m) parent) ≡ Ok (client_in parent, i)
+    (clients : ℕ) (taken : Numbers) (m : Outgoing) (parent : Parent) (i : Incoming) → same_message m ≡ Some i
+    → MessageKept taken m → client_in parent < 2 ^ 64 → client_in parent < clients
+    → message_of clients taken (json_of (parts_of m) parent) ≡ Ok (client_in parent, i)
 
 -- so the message and its client are read from the text again
 abbrev pub TextIsReadAgain : Type 0
 TextIsReadAgain =
-    (clients : ℕ) (m : Outgoing) (parent : Parent) (i : Incoming) → same_message m ≡ Some i → MessageKept m
-    → client_in parent < clients → clients < 2 ^ 8 → number_in parent < 2 ^ 64
+    (clients : ℕ) (taken : Numbers) (m : Outgoing) (parent : Parent) (i : Incoming) → same_message m ≡ Some i
+    → MessageKept taken m → clients < 2 ^ 8 → client_in parent < clients → number_in parent < 2 ^ 64
     → depth (json_of (parts_of m) parent) ≤ max_depth
-    → message clients (text m parent) ≡ Ok (client_in parent, i)
+    → message clients taken (text m parent) ≡ Ok (client_in parent, i)

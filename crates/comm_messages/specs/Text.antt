@@ -1,11 +1,11 @@
 -- The text of an outgoing message ('Messaging in Jupyter' 5.3, "Custom Messages" and "Comm info"): compact JSON with
 -- its keys in byte order.
-use Rattle.std.specs.Prelude.{ℕ, List, [], ◌∷◌, map, codes, Bool, true, false}
+use Rattle.std.specs.Prelude.{ℕ, List, [], ◌∷◌, map, codes, decimal, Bool, true, false}
 use Rattle.base64.specs.GeneralPurpose.{encode_of}
 use Rattle.base64.specs.Engines.{standard}
-use Rattle.serde_json.specs.Data.{Data, number, unsigned, string, array, object}
-use Rattle.serde_json.specs.Data.{Items, no_items, item, Members, no_members, member}
-use Rattle.serde_json.specs.Written.{compact_text}
+use Rattle.json.specs.Json.{Json, number, string, array, object}
+use Rattle.json.specs.Json.{Items, no_items, item, Members, no_members, member}
+use Rattle.comm_json.specs.Text.{compact_text}
 use Rattle.comm_value.specs.ToJson.{json_members}
 use Rattle.comm_messages.specs.declared.outgoing.Outgoing.{Outgoing}
 use Rattle.comm_messages.specs.declared.outgoing.Outgoing.TheVariants.{Open, Msg, Close, InfoReply}
@@ -69,19 +69,19 @@ client_in (Read client front) = client
 
 -- a call is numbered within its client, from 1
 abbrev pub with_call : Parent → Members → Members
-with_call (Call client call) more = member (codes "call") (number (unsigned call)) more
+with_call (Call client call) more = member (codes "call") (number (decimal call)) more
 with_call (Read client front) more = more
 
 -- a read has the number of changes that it saw
 abbrev pub with_front : Parent → Members → Members
 with_front (Call client call) more = more
-with_front (Read client front) more = member (codes "front") (number (unsigned front)) more
+with_front (Read client front) more = member (codes "front") (number (decimal front)) more
 
-abbrev pub json_of : Parts → Parent → Data
+abbrev pub json_of : Parts → Parent → Json
 json_of parts parent =
     object (member (codes "buffers") (array (buffer_texts parts.buffers))
     (with_call parent
-    (member (codes "client") (number (unsigned (client_in parent)))
+    (member (codes "client") (number (decimal (client_in parent)))
     (member (codes "content") (object parts.content)
     (with_front parent
     (member (codes "header") (object (member (codes "msg_type") (string parts.type) no_members))

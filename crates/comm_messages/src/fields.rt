@@ -1,14 +1,14 @@
 ghost use Rattle.std.specs.Prelude.{◌≡◌, ◌<◌, false, option_map, IfOk};
-ghost use Rattle.serde_json.specs.Find.{get_member};
+ghost use Rattle.comm_json.specs.Behind.{get_member};
 ghost use Rattle.comm_value.specs.Places.{members_have_bytes};
 ghost use Rattle.comm_messages.specs.Gives.{Gives};
 ghost use Rattle.comm_messages.specs.Fields.{behind, fields, read_fields, object_in};
-ghost use Rattle.comm_messages.specs.Fields.{object_or_empty, text, text_or_none, client_of};
-ghost use Rattle.comm_messages.specs.Message.{whole_dict};
+ghost use Rattle.comm_messages.specs.Fields.{object_or_empty, text, text_or_none, client_of, below};
+ghost use Rattle.comm_messages.specs.Message.{dict_of};
 
 use crate::fault::MessageFault;
 use comm_json::{JsonFault, JsonKind, JsonRef, LineMembers, ObjectRef, ParseArena, read_line};
-use comm_value::{Dict, ValueFault};
+use comm_value::{Dict, Numbers, ValueFault};
 use json::Value;
 use std::alloc::Global;
 
@@ -101,25 +101,32 @@ pub fn client_of(value: Option<JsonRef<'_, '_>>, clients: u8) -> Result<u8, Mess
     };
     match value.kind() {
         JsonKind::Null => Ok(0),
-        JsonKind::Number(number) => match number.as_u64() {
-            Some(n) if n < clients as u64 => Ok(n as u8),
-            _ => Err(MessageFault::BadClient),
-        },
+        JsonKind::Number(number) => below(number.whole(), clients),
         JsonKind::Bool(_) | JsonKind::Text(_) | JsonKind::Items(_) | JsonKind::Object(_) => Err(
             MessageFault::BadClient,
         ),
     }
 }
 
-/// An object as a dict. Err: NotWhole where a number in it isn't an integer from -2^63 to 2^64 - 1, or Memory.
+fn below(number: Option<i128>, clients: u8) -> Result<u8, MessageFault>
+    ensures value { Gives (λ n. n) result (below clients number) }
+    ensures below { IfOk result (λ n. n < clients) }
+{
+    match number {
+        Some(n) if 0 <= n && n < clients as i128 => Ok(n as u8),
+        _ => Err(MessageFault::BadClient),
+    }
+}
+
+/// An object as a dict. Err: NotWhole where a number in it isn't taken, or Memory.
 #[tactic(auto, using(crate::proofs::NoBytes::no_bytes))]
-pub fn whole_dict(alloc: Global, object: Fields<'_, '_>) -> Result<Dict, MessageFault>
-    ensures value { Gives (λ d. d) result (whole_dict (fields object.entry)) }
+pub fn dict_of(alloc: Global, taken: Numbers, object: Fields<'_, '_>) -> Result<Dict, MessageFault>
+    ensures value { Gives (λ d. d) result (dict_of taken (fields object.entry)) }
     ensures plain { IfOk result (λ d. members_have_bytes d ≡ false) }
 {
     match object {
         None => Ok(Dict::new()),
-        Some(object) => match Dict::from_ref(alloc, object) {
+        Some(object) => match Dict::from_ref(alloc, taken, object) {
             Ok(dict) => Ok(dict),
             Err(ValueFault::NotWhole) => Err(MessageFault::NotWhole),
             Err(ValueFault::Memory) => Err(MessageFault::Memory),

@@ -1,5 +1,6 @@
 ghost use Rattle.std.specs.Prelude.{◌≡◌, ◌<◌, IfOk, Some, option_map, codes};
 ghost use Rattle.serde_json.specs.View.{view};
+ghost use Rattle.serde_json.specs.Written.{outline};
 ghost use Rattle.comm_messages.specs.Gives.{Gives};
 ghost use Rattle.comm_messages.specs.Fields.{behind, fields};
 ghost use Rattle.comm_messages.specs.Message.{type_named, type_of, heading, text_at, filter_at};
@@ -11,12 +12,11 @@ use crate::body::Body;
 use crate::buffers::buffers_of;
 use crate::fault::{Field, MessageFault};
 use crate::fields::{
-    Fields, client_of, fields_of, member, object_in, object_or_empty, text, text_or_none,
-    whole_dict,
+    Fields, client_of, dict_of, fields_of, member, object_in, object_or_empty, text, text_or_none,
 };
 use crate::incoming::Incoming;
 use comm_json::{JsonKind, JsonRef, ObjectRef, ParseArena};
-use comm_value::{Buffers, Text};
+use comm_value::{Buffers, Numbers, Text};
 use serde_json::Value;
 use std::alloc::{AllocError, Global};
 
@@ -29,41 +29,60 @@ pub enum MessageType {
     InfoRequest,
 }
 
-/// Parses a line of JSON as a message of one of `clients` clients. Gives the client's index, from 0, and the message.
-/// Err: the first test that the line fails (see [`MessageFault`]), or Memory.
+/// Parses a line of JSON as a message of one of `clients` clients, whose numbers are integers. Gives the client's
+/// index, from 0, and the message. Err: the first test that the line fails (see [`MessageFault`]), or Memory.
 pub fn read_message(alloc: Global, line: &[u8], clients: u8) -> Result<(u8, Incoming), MessageFault>
-    ensures message { Gives (λ r. (r.0, r.1)) result (message clients line.now) }
+    ensures message { Gives (λ r. (r.0, r.1)) result (message clients Numbers.Whole line.now) }
+    ensures below { 0 < clients → IfOk result (λ r. r.0 < clients) }
+{
+    read_message_with(alloc, line, clients, Numbers::Whole)
+}
+
+/// Parses a line as [`read_message`] does, with these numbers as values. With [`Numbers::Any`] one that isn't whole is
+/// kept as its text, and NotWhole doesn't come ([`crate::any_number_is_read`]).
+pub fn read_message_with(
+    alloc: Global,
+    line: &[u8],
+    clients: u8,
+    taken: Numbers,
+) -> Result<(u8, Incoming), MessageFault>
+    ensures message { Gives (λ r. (r.0, r.1)) result (message clients taken line.now) }
     ensures below { 0 < clients → IfOk result (λ r. r.0 < clients) }
 {
     let mut arena = ParseArena::new(alloc);
     let object = object_in(line, &mut arena)?;
-    message_in(alloc, fields_of(&object), clients)
+    message_in(alloc, fields_of(&object), clients, taken)
 }
 
 /// Reads a message from a parsed JSON value, as [`read_message`] does from a line.
 pub fn message_of(alloc: Global, value: &Value, clients: u8) -> Result<(u8, Incoming), MessageFault>
-    ensures message { Gives (λ r. (r.0, r.1)) result (message_of clients (view value.now)) }
+    ensures message { Gives (λ r. (r.0, r.1)) result
+        (message_of clients Numbers.Whole (outline (view value.now))) }
     ensures below { 0 < clients → IfOk result (λ r. r.0 < clients) }
 {
     match value {
-        Value::Object(map) => message_in(alloc, Some(ObjectRef::Owned(map)), clients),
+        Value::Object(map) => {
+            message_in(alloc, Some(ObjectRef::Owned(map)), clients, Numbers::Whole)
+        }
         _ => Err(MessageFault::NotJson),
     }
 }
 
-/// Reads a message from the members of a JSON object, as [`read_message`] does from a line.
+/// Reads a message from the members of a JSON object, as [`read_message_with`] does from a line.
 #[tactic(auto, unfolding(crate::specs::Message::message_in))]
 pub fn message_in(
     alloc: Global,
     line: Fields<'_, '_>,
     clients: u8,
+    taken: Numbers,
 ) -> Result<(u8, Incoming), MessageFault>
-    ensures message { Gives (λ r. (r.0, r.1)) result (message_in clients (fields line.entry)) }
+    ensures message { Gives (λ r. (r.0, r.1)) result
+        (message_in clients taken (fields line.entry)) }
     ensures below { 0 < clients → IfOk result (λ r. r.0 < clients) }
 {
     let (client, type_) = heading(line, clients)?;
     let content = object_at(Field::Content, "content", line)?;
-    let incoming = incoming_in(alloc, type_, line, content)?;
+    let incoming = incoming_in(alloc, taken, type_, line, content)?;
     Ok((client, incoming))
 }
 
@@ -144,27 +163,30 @@ fn version_of<'v>(metadata: Fields<'v, '_>) -> Option<&'v str>
 /// BadBuffer or Memory.
 pub fn body_of(
     alloc: Global,
+    taken: Numbers,
     object: Fields<'_, '_>,
     line: Fields<'_, '_>,
 ) -> Result<Body, MessageFault>
-    ensures { Gives (λ b. b) result (body_of (fields object.entry) (fields line.entry)) }
+    ensures { Gives (λ b. b) result (body_of taken (fields object.entry) (fields line.entry)) }
 {
-    let content = whole_dict(alloc, object)?;
+    let content = dict_of(alloc, taken, object)?;
     let buffers = buffers_of(alloc, member(line, "buffers"))?;
     Ok(Body::new(content, buffers))
 }
 
 fn incoming_in(
     alloc: Global,
+    taken: Numbers,
     type_: MessageType,
     line: Fields<'_, '_>,
     content: Fields<'_, '_>,
 ) -> Result<Incoming, MessageFault>
-    ensures { Gives (λ i. i) result (incoming_in type_ (fields line.entry) (fields content.entry)) }
+    ensures { Gives (λ i. i) result
+        (incoming_in taken type_ (fields line.entry) (fields content.entry)) }
 {
     match type_ {
-        MessageType::Open => open_in(alloc, line, content),
-        MessageType::Msg => msg_in(alloc, line, content),
+        MessageType::Open => open_in(alloc, taken, line, content),
+        MessageType::Msg => msg_in(alloc, taken, line, content),
         MessageType::Close => close_in(alloc, line, content),
         MessageType::InfoRequest => info_request_in(alloc, line, content),
     }
@@ -173,16 +195,17 @@ fn incoming_in(
 #[tactic(auto, unfolding(crate::specs::Message::open_in))]
 fn open_in(
     alloc: Global,
+    taken: Numbers,
     line: Fields<'_, '_>,
     content: Fields<'_, '_>,
 ) -> Result<Incoming, MessageFault>
-    ensures { Gives (λ i. i) result (open_in (fields line.entry) (fields content.entry)) }
+    ensures { Gives (λ i. i) result (open_in taken (fields line.entry) (fields content.entry)) }
 {
     let id = text_at(Field::CommId, "comm_id", content)?;
     let target = text_at(Field::TargetName, "target_name", content)?;
     let data = object_at(Field::Body, "data", content)?;
     let metadata = object_at(Field::Metadata, "metadata", line)?;
-    let body = body_of(alloc, data, line)?;
+    let body = body_of(alloc, taken, data, line)?;
     Ok(open_message(alloc, id, target, version_of(metadata), body)?)
 }
 
@@ -219,15 +242,16 @@ fn copy_optional(alloc: Global, text: Option<&str>) -> Result<Option<Text>, Allo
 #[tactic(auto, unfolding(crate::specs::Message::msg_in))]
 fn msg_in(
     alloc: Global,
+    taken: Numbers,
     line: Fields<'_, '_>,
     content: Fields<'_, '_>,
 ) -> Result<Incoming, MessageFault>
-    ensures { Gives (λ i. i) result (msg_in (fields line.entry) (fields content.entry)) }
+    ensures { Gives (λ i. i) result (msg_in taken (fields line.entry) (fields content.entry)) }
 {
     let id = text_at(Field::CommId, "comm_id", content)?;
     let data = object_at(Field::Body, "data", content)?;
     object_at(Field::Metadata, "metadata", line)?;
-    let body = body_of(alloc, data, line)?;
+    let body = body_of(alloc, taken, data, line)?;
     Ok(Incoming::Msg {
         id: Text::copy_of(alloc, id)?,
         body,

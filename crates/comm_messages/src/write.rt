@@ -2,8 +2,9 @@ ghost use Rattle.std.specs.Prelude.{◌≡◌, ◌++◌, ◌∷◌, [], false, t
 ghost use Rattle.base64.specs.GeneralPurpose.{encode_of};
 ghost use Rattle.base64.specs.Engines.{standard};
 ghost use Rattle.json.specs.Print.{quoted};
-ghost use Rattle.serde_json.specs.Written.{comma_if, items_text, members_text, compact_text};
-ghost use Rattle.serde_json.specs.Data.{object};
+ghost use Rattle.serde_json.specs.Written.{comma_if};
+ghost use Rattle.comm_json.specs.Text.{items_text, members_text, compact_text};
+ghost use Rattle.json.specs.Json.{object};
 ghost use Rattle.comm_value.specs.ToJson.{json_members};
 ghost use Rattle.comm_messages.specs.Text.{text, buffer_texts, comm_members, goes_with};
 ghost use Rattle.comm_messages.specs.Parts.{GrowsBy, buffers_text, parent_text, front_text};

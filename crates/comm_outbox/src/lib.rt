@@ -78,7 +78,7 @@
 //! ```
 //!
 //! `comm_manager` has all of this: `src/change.rt`, `src/inner.rt` and `src/publisher.rt`; `interleaving_tests` has a
-//! queue that is refused memory, in `src/tests/queue.rt`. A structure that keeps an `Outbox` under a lock says of
+//! queue that is refused memory, in `src/tests/new_queue.rt`. A structure that keeps an `Outbox` under a lock says of
 //! which queue it is by a type parameter, as `comm_manager`'s `ManagerId` does, so that `queue` is known where lock
 //! and publisher come together again.
 #![tactic(auto)]

@@ -1,10 +1,12 @@
 -- The changes that a script makes are a legal history.
-use Rattle.std.proofs.Common.{◌≡◌, ℕ, ◌+◌, ◌<◌, List, [], ◌∷◌, ◌++◌, Bool, true, false, Option, Some, None, Ok, Err, refl, ap, sym, cond, true≢false}
+use Rattle.std.proofs.Common.{◌≡◌, ℕ, ℤ, pos, negsuc, ◌+◌, ◌<◌, List, [], ◌∷◌, ◌++◌, Bool, true, false, Option, Some, None, Ok, Err, refl, ap, sym, cond, true≢false}
 use Rattle.std.specs.Prelude.{IfOk, nat_lt, option_and_then, codes}
 use Rattle.std.proofs.lemmas.Bool.{ltb-true}
-use Rattle.serde_json.specs.Data.{Data, Members}
-use Rattle.serde_json.specs.Data as json
-use Rattle.serde_json.specs.Find.{get_member, as_number, as_u64}
+use Rattle.json.specs.Json.{Json, Members}
+use Rattle.json.specs.Json as json
+use Rattle.json.specs.Find.{as_number}
+use Rattle.comm_json.specs.Behind.{get_member, whole_of}
+use Rattle.comm_value.specs.declared.from_json.Numbers.{Numbers}
 use Rattle.comm_targets.specs.Answers.{answer_of, IsFreeAnswer}
 use Rattle.comm_targets.specs.Widget.{nothing}
 use Rattle.comm_targets.specs.declared.answer.Answer.{Answer}
@@ -34,7 +36,7 @@ use Rattle.comm_script.specs.Line.{Reading, of_message}
 use Rattle.comm_script.specs.Lines.{is_blank, lines_of}
 use Rattle.comm_script.specs.Command.{asked, asked_in, asked_by, asked_by_message, command}
 use Rattle.comm_script.specs.Stock.{first_of, rest_of}
-use Rattle.comm_script.specs.Played.{Standing, says, machine, changed, called, registered, obeyed, answered, turn, played_from, history_of}
+use Rattle.comm_script.specs.Played.{Standing, says, machine, changed, called, registered, executed, answered, turn, played_from, history_of}
 use Rattle.comm_script.specs.declared.stock.StockKind.{StockKind}
 use Rattle.comm_script.specs.declared.asked.Request.{Request as Wish}
 use Rattle.comm_script.specs.declared.asked.Request.TheVariants as wish
@@ -57,7 +59,7 @@ line_any : {A B : Type 0} (Q : B → Type 0) (r : Reading A) (f : A → Reading 
 line_any Q (Ok x) f more = more x
 line_any Q (Err e) f more = tt
 
-module _ (clients : ℕ) (some : 0 < clients) where
+module _ (taken : Numbers) (clients : ℕ) (some : 0 < clients) where
   abbrev Below : {X : Type 0} → ℕ × X → Type 0
   Below m = m.0 < clients
 
@@ -65,18 +67,19 @@ module _ (clients : ℕ) (some : 0 < clients) where
   below_case n true is = ltb-true n clients is
   below_case n false is = tt
 
-  below_all : (o : Option ℕ) → IfOk (below_clients clients o) (λ n. n < clients)
+  below_all : (o : Option ℤ) → IfOk (below_clients clients o) (λ n. n < clients)
   below_all None = tt
-  below_all (Some n) = below_case n (nat_lt n clients) refl
+  below_all (Some (pos n)) = below_case n (nat_lt n clients) refl
+  below_all (Some (negsuc n)) = tt
 
-  client_below : (d : Option Data) → IfOk (client_of clients d) (λ n. n < clients)
+  client_below : (d : Option Json) → IfOk (client_of clients d) (λ n. n < clients)
   client_below None = some
   client_below (Some json.null) = some
-  client_below (Some (json.boolean b)) = below_all (option_and_then as_u64 (as_number (json.boolean b)))
-  client_below (Some (json.number n)) = below_all (option_and_then as_u64 (as_number (json.number n)))
-  client_below (Some (json.string s)) = below_all (option_and_then as_u64 (as_number (json.string s)))
-  client_below (Some (json.array ds)) = below_all (option_and_then as_u64 (as_number (json.array ds)))
-  client_below (Some (json.object ms)) = below_all (option_and_then as_u64 (as_number (json.object ms)))
+  client_below (Some (json.boolean b)) = below_all (option_and_then whole_of (as_number (json.boolean b)))
+  client_below (Some (json.number n)) = below_all (option_and_then whole_of (as_number (json.number n)))
+  client_below (Some (json.string s)) = below_all (option_and_then whole_of (as_number (json.string s)))
+  client_below (Some (json.array ds)) = below_all (option_and_then whole_of (as_number (json.array ds)))
+  client_below (Some (json.object ms)) = below_all (option_and_then whole_of (as_number (json.object ms)))
 
   heading_below : (line : Members) → IfOk (heading clients line) (Below {X = MessageType})
   unfolding heading
@@ -84,21 +87,21 @@ module _ (clients : ℕ) (some : 0 < clients) where
       message_then (λ n. n < clients) (Below {X = MessageType}) (client_of clients (get_member (codes "client") line)) _ (client_below (get_member (codes "client") line))
       (λ client h. message_any {A = MessageType} (Below {X = MessageType}) (type_of (get_member (codes "header") line)) (λ type. Ok (client, type)) (λ type. h))
 
-  message_below : (line : Members) → IfOk (message_in clients line) (Below {X = Incoming})
+  message_below : (line : Members) → IfOk (message_in clients taken line) (Below {X = Incoming})
   unfolding message_in
   message_below line =
       message_then (Below {X = MessageType}) (Below {X = Incoming}) (heading clients line) _ (heading_below line)
       (λ head h. message_any {A = Members} (Below {X = Incoming}) (object_at field.Content (codes "content") line) _
-      (λ content. message_any {A = Incoming} (Below {X = Incoming}) (incoming_in head.1 line content) (λ incoming. Ok (head.0, incoming)) (λ incoming. h)))
+      (λ content. message_any {A = Incoming} (Below {X = Incoming}) (incoming_in taken head.1 line content) (λ incoming. Ok (head.0, incoming)) (λ incoming. h)))
 
-  asked_by_below : (name : Option Data) (line : Members) → IfOk (asked_by name clients line) (Below {X = Wish})
-  asked_by_below None line = line_then (Below {X = Incoming}) (Below {X = Wish}) (message_in clients line) (λ m. Ok (m.0, asked_by_message m.1)) (message_below line) (λ m h. h)
+  asked_by_below : (name : Option Json) (line : Members) → IfOk (asked_by taken name clients line) (Below {X = Wish})
+  asked_by_below None line = line_then (Below {X = Incoming}) (Below {X = Wish}) (message_in clients taken line) (λ m. Ok (m.0, asked_by_message m.1)) (message_below line) (λ m h. h)
   asked_by_below (Some name) line =
       line_then (λ n. n < clients) (Below {X = Wish}) (client_of clients (get_member (codes "client") line)) _ (client_below (get_member (codes "client") line))
-      (λ client h. line_any {A = Wish} (Below {X = Wish}) (command name line) (λ asked. Ok (client, asked)) (λ asked. h))
+      (λ client h. line_any {A = Wish} (Below {X = Wish}) (command taken name line) (λ asked. Ok (client, asked)) (λ asked. h))
 
-  asked_below : (bytes : List ℕ) → IfOk (asked clients bytes) (Below {X = Wish})
-  asked_below bytes = line_any (Below {X = Wish}) (of_message (object_in bytes)) (asked_in clients) (λ line. asked_by_below (get_member (codes "call") line) line)
+  asked_below : (bytes : List ℕ) → IfOk (asked taken clients bytes) (Below {X = Wish})
+  asked_below bytes = line_any (Below {X = Wish}) (of_message (object_in bytes)) (asked_in taken clients) (λ line. asked_by_below (get_member (codes "call") line) line)
 
 -- ---- the outcome is one that the target's kind may give
 
@@ -147,7 +150,7 @@ going_more [] client n c o s h = refl
 going_more (End ∷ es) client n c o s h = absurd (true≢false h)
 going_more (Change k m d p r out ∷ es) client n c o s h = going_more es client n c o s h
 
-module _ (limits : Limits) (some : 0 < limits.clients) (grow : Grows) where
+module _ (taken : Numbers) (limits : Limits) (some : 0 < limits.clients) (grow : Grows) where
   changed_goes : (now : Standing) (client : ℕ) (c : Call) (left : List Registered) (o : Option Stepped) → Goes limits now.history → client < limits.clients
       → step limits.comms (machine limits now) c (exact_outcome limits.comms (machine limits now) c) ≡ o → Goes limits (changed limits now client c left o).after.history
   changed_goes now client c left None h below is = h
@@ -164,27 +167,27 @@ module _ (limits : Limits) (some : 0 < limits.clients) (grow : Grows) where
   registered_goes now number client kind name None h below = h
   registered_goes now number client kind name (Some r) h below = called_goes now client (Register name r.kind r.notes) (rest_of kind now.stock) h below
 
-  obeyed_goes : (now : Standing) (number client : ℕ) (a : Wish) → Goes limits now.history → client < limits.clients → Goes limits (obeyed limits now number client a).after.history
-  obeyed_goes now number client (wish.Change c) h below = called_goes now client c now.stock h below
-  obeyed_goes now number client (wish.Register kind name) h below = registered_goes now number client kind name (first_of kind now.stock) h below
-  obeyed_goes now number client (wish.Infos target) h below = h
-  obeyed_goes now number client (wish.State id) h below = h
+  executed_goes : (now : Standing) (number client : ℕ) (a : Wish) → Goes limits now.history → client < limits.clients → Goes limits (executed limits now number client a).after.history
+  executed_goes now number client (wish.Change c) h below = called_goes now client c now.stock h below
+  executed_goes now number client (wish.Register kind name) h below = registered_goes now number client kind name (first_of kind now.stock) h below
+  executed_goes now number client (wish.Infos target) h below = h
+  executed_goes now number client (wish.State id) h below = h
 
   answered_goes : (now : Standing) (number : ℕ) (r : Reading (ℕ × Wish)) → Goes limits now.history → IfOk r (λ m. m.0 < limits.clients) → Goes limits (answered limits now number r).after.history
-  answered_goes now number (Ok m) h below = obeyed_goes now number m.0 m.1 h below
+  answered_goes now number (Ok m) h below = executed_goes now number m.0 m.1 h below
   answered_goes now number (Err e) h below = h
 
-  blank_goes : (now : Standing) (number : ℕ) (line : List ℕ) (b : Bool) → Goes limits now.history → Goes limits (cond b (says now []) (answered limits now number (asked limits.clients line))).after.history
+  blank_goes : (now : Standing) (number : ℕ) (line : List ℕ) (b : Bool) → Goes limits now.history → Goes limits (cond b (says now []) (answered limits now number (asked taken limits.clients line))).after.history
   blank_goes now number line true h = h
-  blank_goes now number line false h = answered_goes now number (asked limits.clients line) h (asked_below limits.clients some line)
+  blank_goes now number line false h = answered_goes now number (asked taken limits.clients line) h (asked_below taken limits.clients some line)
 
-  turn_goes : (now : Standing) (number : ℕ) (line : List ℕ) → Goes limits now.history → Goes limits (turn limits now number line).after.history
+  turn_goes : (now : Standing) (number : ℕ) (line : List ℕ) → Goes limits now.history → Goes limits (turn taken limits now number line).after.history
   unfolding turn
   turn_goes now number line h = blank_goes now number line (is_blank line) h
 
-  lines_go : (now : Standing) (n : ℕ) (lines : List (List ℕ)) → Goes limits now.history → Goes limits (played_from limits now n lines).after.history
+  lines_go : (now : Standing) (n : ℕ) (lines : List (List ℕ)) → Goes limits now.history → Goes limits (played_from taken limits now n lines).after.history
   lines_go now n [] h = h
-  lines_go now n (line ∷ lines) h = lines_go (turn limits now (n + 1) line).after (n + 1) lines (turn_goes now (n + 1) line h)
+  lines_go now n (line ∷ lines) h = lines_go (turn taken limits now (n + 1) line).after (n + 1) lines (turn_goes now (n + 1) line h)
 
-  pub script_legal : (stock : List Registered) (input : List ℕ) → IsLegal limits.clients limits.comms (history_of limits stock input)
+  pub script_legal : (stock : List Registered) (input : List ℕ) → IsLegal limits.clients limits.comms (history_of taken limits stock input)
   script_legal stock input = (lines_go (record { history = []; stock = stock }) 0 (lines_of input) (record { legal = tt; going = refl })).legal

@@ -1,20 +1,21 @@
 -- What a line asks for: a command of the kernel where its object has the key `call`, else a message of the frontend.
 use Rattle.std.specs.Prelude.{ℕ, List, Option, Some, None, option_and_then, Result, Ok, Err, codes, if◌then◌else◌, ⊤}
 use Rattle.std.specs.Str.{bytes_eq}
-use Rattle.serde_json.specs.Data.{Data, null, string, array, Members}
-use Rattle.serde_json.specs.Find.{get_member}
+use Rattle.json.specs.Json.{Json, null, string, array, Members}
+use Rattle.comm_json.specs.Behind.{get_member}
 use Rattle.uuid.specs.Text.{parsed}
 use Rattle.comm_value.specs.Tree.{Tree}
 use Rattle.comm_value.specs.Tree as tree
 use Rattle.comm_value.specs.Node.{Path}
 use Rattle.comm_value.specs.FromJson.{tree_of}
+use Rattle.comm_value.specs.declared.from_json.Numbers.{Numbers}
 use Rattle.comm_value.specs.Paths.{read_paths}
 use Rattle.comm_value.specs.Put.{placed_in}
 use Rattle.comm_value.specs.declared.fault.ValueFault.{ValueFault}
 use Rattle.comm_value.specs.declared.fault.ValueFault.TheVariants.{NotWhole}
 use Rattle.comm_messages.specs.Buffers.{buffers_of}
 use Rattle.comm_messages.specs.Fields.{object_in, object_or_empty, text, client_of}
-use Rattle.comm_messages.specs.Message.{message_in, whole_dict, body_of}
+use Rattle.comm_messages.specs.Message.{message_in, dict_of, body_of}
 use Rattle.comm_messages.specs.declared.incoming.Incoming.{Incoming}
 use Rattle.comm_messages.specs.declared.incoming.Incoming.TheVariants as incoming
 use Rattle.comm_core.specs.declared.call.Call.TheVariants as call
@@ -39,7 +40,7 @@ abbrev pub object_field : Key → List ℕ → Members → Reading Members
 object_field k name line = or_fault (BadField k) (object_or_empty (get_member name line))
 
 -- absent or null is an empty list
-abbrev pub list_or_empty : Option Data → Reading ⊤
+abbrev pub list_or_empty : Option Json → Reading ⊤
 list_or_empty None = Ok tt
 list_or_empty (Some null) = Ok tt
 list_or_empty (Some (array ds)) = Ok tt
@@ -61,10 +62,6 @@ kind_field line = or_fault (BadField key.Kind) (option_and_then kind_named (text
 
 -- ---- a state with its buffers at its paths
 
-abbrev pub whole_value : Option Data → Reading (Option Tree)
-whole_value None = Ok None
-whole_value (Some d) = or_fault (Value NotWhole) (tree_of d) >>= (λ t. Ok (Some t))
-
 -- a fault of a value is one of the line
 abbrev pub of_value : {A : Type 0} → Result A ValueFault → Reading A
 of_value (Ok x) = Ok x
@@ -72,13 +69,6 @@ of_value (Err e) = Err (Value e)
 
 abbrev pub placed_at : Result (List Path) ValueFault → List (List ℕ) → tree.Members → Reading tree.Members
 placed_at paths buffers state = of_value (paths >>= (λ ps. placed_in ps buffers state))
-
-unfoldable pub state_in : Members → Members → Reading tree.Members
-state_in object line = do
-  state ← of_message (whole_dict object)
-  paths ← whole_value (get_member (codes "buffer_paths") line)
-  buffers ← of_message (buffers_of (get_member (codes "buffers") line))
-  placed_at (read_paths paths) buffers state
 
 -- ---- the commands
 
@@ -95,70 +85,84 @@ unregister_in line = text_field key.Name (codes "name") line >>= (λ name. Ok (C
 abbrev pub launched : List ℕ → List ℕ → tree.Members → Reading Request
 launched name uuid state = or_fault BadUuid (parsed uuid) >>= (λ id. Ok (Change (call.Launch id name state)))
 
-unfoldable pub launch_in : Members → Reading Request
-launch_in line = do
-  name ← text_field key.Name (codes "name") line
-  uuid ← text_field key.Uuid (codes "uuid") line
-  object ← object_field key.State (codes "state") line
-  list ← list_field line
-  state_in object line >>= launched name uuid
-
-unfoldable pub push_in : Members → Reading Request
-push_in line = do
-  id ← text_field key.Id (codes "id") line
-  object ← object_field key.State (codes "state") line
-  list ← list_field line
-  state ← state_in object line
-  Ok (Change (call.Push id state))
-
-unfoldable pub send_in : Members → Reading Request
-send_in line = do
-  id ← text_field key.Id (codes "id") line
-  object ← object_field key.Data (codes "data") line
-  list ← list_field line
-  body ← of_message (body_of object line)
-  Ok (Change (call.Send id body))
-
 abbrev pub hang_up_in : Members → Reading Request
 hang_up_in line = text_field key.Id (codes "id") line >>= (λ id. Ok (Change (call.HangUp id)))
 
 abbrev pub state_read_in : Members → Reading Request
 state_read_in line = text_field key.Id (codes "id") line >>= (λ id. Ok (State id))
 
-abbrev pub command_named : List ℕ → Members → Reading Request
-command_named name line =
-    if bytes_eq name (codes "register") then register_in line
-    else if bytes_eq name (codes "unregister") then unregister_in line
-    else if bytes_eq name (codes "launch") then launch_in line
-    else if bytes_eq name (codes "push") then push_in line
-    else if bytes_eq name (codes "send") then send_in line
-    else if bytes_eq name (codes "hang_up") then hang_up_in line
-    else if bytes_eq name (codes "state") then state_read_in line
-    else Err UnknownCall
-
-abbrev pub command : Data → Members → Reading Request
-command (string name) line = command_named name line
-command _ line = Err UnknownCall
-
--- ---- a line
-
+-- a message of the frontend
 abbrev pub asked_by_message : Incoming → Request
 asked_by_message (incoming.Open id target version body) = Change (call.Open id target version body)
 asked_by_message (incoming.Msg id body) = Change (call.Msg id body)
 asked_by_message (incoming.Close id) = Change (call.Close id)
 asked_by_message (incoming.InfoRequest target) = Infos target
 
-abbrev pub asked_by : Option Data → ℕ → Members → Reading (ℕ × Request)
-asked_by None clients line = of_message (message_in clients line) >>= (λ m. Ok (m.0, asked_by_message m.1))
-asked_by (Some name) clients line =
-    of_message (client_of clients (get_member (codes "client") line)) >>= (λ client. command name line >>= (λ asked. Ok (client, asked)))
+-- ---- what depends on which numbers are values
 
-abbrev pub asked_in : ℕ → Members → Reading (ℕ × Request)
-asked_in clients line = asked_by (get_member (codes "call") line) clients line
+module _ (taken : Numbers) where
+  abbrev pub value_in : Option Json → Reading (Option Tree)
+  value_in None = Ok None
+  value_in (Some d) = or_fault (Value NotWhole) (tree_of taken d) >>= (λ t. Ok (Some t))
 
--- the client, and what it asks for
-abbrev pub asked : ℕ → List ℕ → Reading (ℕ × Request)
-asked clients bytes = of_message (object_in bytes) >>= asked_in clients
+  unfoldable pub state_in : Members → Members → Reading tree.Members
+  state_in object line = do
+    state ← of_message (dict_of taken object)
+    paths ← value_in (get_member (codes "buffer_paths") line)
+    buffers ← of_message (buffers_of (get_member (codes "buffers") line))
+    placed_at (read_paths paths) buffers state
+
+  unfoldable pub launch_in : Members → Reading Request
+  launch_in line = do
+    name ← text_field key.Name (codes "name") line
+    uuid ← text_field key.Uuid (codes "uuid") line
+    object ← object_field key.State (codes "state") line
+    list ← list_field line
+    state_in object line >>= launched name uuid
+
+  unfoldable pub push_in : Members → Reading Request
+  push_in line = do
+    id ← text_field key.Id (codes "id") line
+    object ← object_field key.State (codes "state") line
+    list ← list_field line
+    state ← state_in object line
+    Ok (Change (call.Push id state))
+
+  unfoldable pub send_in : Members → Reading Request
+  send_in line = do
+    id ← text_field key.Id (codes "id") line
+    object ← object_field key.Data (codes "data") line
+    list ← list_field line
+    body ← of_message (body_of taken object line)
+    Ok (Change (call.Send id body))
+
+  abbrev pub command_named : List ℕ → Members → Reading Request
+  command_named name line =
+      if bytes_eq name (codes "register") then register_in line
+      else if bytes_eq name (codes "unregister") then unregister_in line
+      else if bytes_eq name (codes "launch") then launch_in line
+      else if bytes_eq name (codes "push") then push_in line
+      else if bytes_eq name (codes "send") then send_in line
+      else if bytes_eq name (codes "hang_up") then hang_up_in line
+      else if bytes_eq name (codes "state") then state_read_in line
+      else Err UnknownCall
+
+  abbrev pub command : Json → Members → Reading Request
+  command (string name) line = command_named name line
+  command _ line = Err UnknownCall
+
+  abbrev pub asked_by : Option Json → ℕ → Members → Reading (ℕ × Request)
+  asked_by None clients line = of_message (message_in clients taken line) >>= (λ m. Ok (m.0, asked_by_message m.1))
+  asked_by (Some name) clients line =
+      of_message (client_of clients (get_member (codes "client") line))
+      >>= (λ client. command name line >>= (λ asked. Ok (client, asked)))
+
+  abbrev pub asked_in : ℕ → Members → Reading (ℕ × Request)
+  asked_in clients line = asked_by (get_member (codes "call") line) clients line
+
+  -- the client, and what it asks for
+  abbrev pub asked : ℕ → List ℕ → Reading (ℕ × Request)
+  asked clients bytes = of_message (object_in bytes) >>= asked_in clients
 
 -- a change that is asked for hands no target in: a register takes one out of the stock
 abbrev pub HandsNothing : Request → Type 0

@@ -16,6 +16,7 @@ use Rattle.comm_core.specs.declared.entry.Entry.TheVariants.{Change}
 use Rattle.comm_core.specs.Reads.{infos, state_of}
 use Rattle.comm_script.specs.declared.stock.StockKind.{StockKind}
 use Rattle.comm_script.specs.Lines.{lines_of, is_blank, has_line_feed, IsWhole}
+use Rattle.comm_value.specs.declared.from_json.Numbers.{Numbers}
 use Rattle.comm_script.specs.Line.{Reading}
 use Rattle.comm_script.specs.Command.{asked}
 use Rattle.comm_script.specs.Stock.{first_of, rest_of}
@@ -48,7 +49,8 @@ changed limits now client asked left (Some s) =
     let number = length (mine now.history client) + 1 in
     record {
       after = record {
-        history = now.history ++ Change client number asked (exact_outcome limits.comms (machine limits now) asked) s.reply s.outgoing ∷ [];
+        history = now.history
+            ++ Change client number asked (exact_outcome limits.comms (machine limits now) asked) s.reply s.outgoing ∷ [];
         stock = left;
       };
       text = reply_line (length now.history + 1) s.reply ++ out_lines s.outgoing (parent.Call client number);
@@ -56,47 +58,26 @@ changed limits now client asked left (Some s) =
 
 abbrev pub called : Limits → Standing → ℕ → Call → List Registered → Turn
 called limits now client asked left =
-    changed limits now client asked left (step limits.comms (machine limits now) asked (exact_outcome limits.comms (machine limits now) asked))
+    changed limits now client asked left
+    (step limits.comms (machine limits now) asked (exact_outcome limits.comms (machine limits now) asked))
 
 abbrev pub registered : Limits → Standing → ℕ → ℕ → StockKind → Name → Option Registered → Turn
 registered limits now number client kind name None = says now (bad_line number NoStock)
 registered limits now number client kind name (Some r) =
     called limits now client (call.Register name r.kind r.notes) (rest_of kind now.stock)
 
-abbrev pub obeyed : Limits → Standing → ℕ → ℕ → Request → Turn
-obeyed limits now number client (Change asked) = called limits now client asked now.stock
-obeyed limits now number client (Register kind name) = registered limits now number client kind name (first_of kind now.stock)
-obeyed limits now number client (Infos target) =
+abbrev pub executed : Limits → Standing → ℕ → ℕ → Request → Turn
+executed limits now number client (Change asked) = called limits now client asked now.stock
+executed limits now number client (Register kind name) =
+    registered limits now number client kind name (first_of kind now.stock)
+executed limits now number client (Infos target) =
     says now (out_line (out.InfoReply (infos (machine limits now) target)) (parent.Read client (length now.history)))
-obeyed limits now number client (State id) = says now (state_line (length now.history) (state_of (machine limits now) id))
+executed limits now number client (State id) =
+    says now (state_line (length now.history) (state_of (machine limits now) id))
 
 abbrev pub answered : Limits → Standing → ℕ → Reading (ℕ × Request) → Turn
-answered limits now number (Ok m) = obeyed limits now number m.0 m.1
+answered limits now number (Ok m) = executed limits now number m.0 m.1
 answered limits now number (Err fault) = says now (bad_line number fault)
-
--- the line of this number
-unfoldable pub turn : Limits → Standing → ℕ → List ℕ → Turn
-turn limits now number line = if is_blank line then says now [] else answered limits now number (asked limits.clients line)
-
--- the lines after the first n
-abbrev pub played_from : Limits → Standing → ℕ → List (List ℕ) → Turn
-played_from limits now n [] = says now []
-played_from limits now n (line ∷ lines) =
-    let first = turn limits now (n + 1) line in
-    let rest = played_from limits first.after (n + 1) lines in
-    record { after = rest.after; text = first.text ++ rest.text }
-
--- a whole script, with these targets in stock
-abbrev pub script : Limits → List Registered → List ℕ → Turn
-script limits stock input = played_from limits (record { history = []; stock = stock }) 0 (lines_of input)
-
--- what is written for it
-abbrev pub played : Limits → List Registered → List ℕ → List ℕ
-played limits stock input = (script limits stock input).text
-
--- the changes that it makes
-abbrev pub history_of : Limits → List Registered → List ℕ → List Entry
-history_of limits stock input = (script limits stock input).after.history
 
 -- what was written before a fault
 
@@ -107,27 +88,57 @@ pub record Begins (before now : Option (List ℕ)) (text : List ℕ) : Type 0 wh
   pub appends : Appends before now part
   pub is : text ≡ part ++ rest
 
--- The lines are answered that were whole before the last piece was read, which is at most 65,536 bytes. Nothing else
--- is: neither what was cut then, nor the piece, nor the rest, which is left.
-pub record Pauses (limits : Limits) (stock : List Registered) (input : List ℕ) (left before now : Option (List ℕ)) : Type 0 where
-  pub whole : List ℕ
-  pub ended : IsWhole whole
-  pub cut : List ℕ
-  pub one_line : has_line_feed cut ≡ false
-  pub piece : List ℕ
-  pub short : length piece ≤ 65536
-  pub rest : List ℕ
-  pub known : left ≡ Some rest
-  pub is : input ≡ whole ++ (cut ++ (piece ++ rest))
-  pub answered : Appends before now (played limits stock whole)
+-- ---- what depends on which numbers are values
 
--- just the lines that were read whole are answered: what was cut isn't a line yet, and the rest is left
-pub record Stops (limits : Limits) (stock : List Registered) (input : List ℕ) (left before now : Option (List ℕ)) : Type 0 where
-  pub whole : List ℕ
-  pub ended : IsWhole whole
-  pub cut : List ℕ
-  pub one_line : has_line_feed cut ≡ false
-  pub rest : List ℕ
-  pub known : left ≡ Some rest
-  pub is : input ≡ whole ++ (cut ++ rest)
-  pub answered : Appends before now (played limits stock whole)
+module _ (taken : Numbers) where
+  -- the line of this number
+  unfoldable pub turn : Limits → Standing → ℕ → List ℕ → Turn
+  turn limits now number line =
+      if is_blank line then says now [] else answered limits now number (asked taken limits.clients line)
+
+  -- the lines after the first n
+  abbrev pub played_from : Limits → Standing → ℕ → List (List ℕ) → Turn
+  played_from limits now n [] = says now []
+  played_from limits now n (line ∷ lines) =
+      let first = turn limits now (n + 1) line in
+      let rest = played_from limits first.after (n + 1) lines in
+      record { after = rest.after; text = first.text ++ rest.text }
+
+  -- a whole script, with these targets in stock
+  abbrev pub script : Limits → List Registered → List ℕ → Turn
+  script limits stock input = played_from limits (record { history = []; stock = stock }) 0 (lines_of input)
+
+  -- what is written for it
+  abbrev pub played : Limits → List Registered → List ℕ → List ℕ
+  played limits stock input = (script limits stock input).text
+
+  -- the changes that it makes
+  abbrev pub history_of : Limits → List Registered → List ℕ → List Entry
+  history_of limits stock input = (script limits stock input).after.history
+
+  -- The lines are answered that were whole before the last piece was read, which is at most 65,536 bytes. Nothing else
+  -- is: neither what was cut then, nor the piece, nor the rest, which is left.
+  pub record Pauses (limits : Limits) (stock : List Registered) (input : List ℕ) (left before now : Option (List ℕ))
+      : Type 0 where
+    pub whole : List ℕ
+    pub ended : IsWhole whole
+    pub cut : List ℕ
+    pub one_line : has_line_feed cut ≡ false
+    pub piece : List ℕ
+    pub short : length piece ≤ 65536
+    pub rest : List ℕ
+    pub known : left ≡ Some rest
+    pub is : input ≡ whole ++ (cut ++ (piece ++ rest))
+    pub answered : Appends before now (played limits stock whole)
+
+  -- just the lines that were read whole are answered: what was cut isn't a line yet, and the rest is left
+  pub record Stops (limits : Limits) (stock : List Registered) (input : List ℕ) (left before now : Option (List ℕ))
+      : Type 0 where
+    pub whole : List ℕ
+    pub ended : IsWhole whole
+    pub cut : List ℕ
+    pub one_line : has_line_feed cut ≡ false
+    pub rest : List ℕ
+    pub known : left ≡ Some rest
+    pub is : input ≡ whole ++ (cut ++ rest)
+    pub answered : Appends before now (played limits stock whole)

@@ -1,7 +1,7 @@
 -- The lines that are written.
 use Rattle.std.specs.Prelude.{ℕ, List, [], ◌∷◌, ◌++◌, Option, Some, None, codes, decimal}
-use Rattle.serde_json.specs.Data.{Data, array, object, no_members, member}
-use Rattle.serde_json.specs.Written.{compact_text}
+use Rattle.json.specs.Json.{Json, array, object, no_members, member}
+use Rattle.comm_json.specs.Text.{compact_text}
 use Rattle.comm_value.specs.Tree.{Members}
 use Rattle.comm_value.specs.ToJson.{json_of, json_members}
 use Rattle.comm_value.specs.View.{tree}
@@ -90,8 +90,10 @@ fault_words NoStock = codes "no_stock"
 
 -- ---- replies
 
-abbrev pub custom_json : Custom → Data
-custom_json custom = object (member (codes "buffers") (array (buffer_texts custom.buffers)) (member (codes "content") (json_of (tree custom.content)) no_members))
+abbrev pub custom_json : Custom → Json
+custom_json custom = object
+    (member (codes "buffers") (array (buffer_texts custom.buffers))
+    (member (codes "content") (json_of (tree custom.content)) no_members))
 
 abbrev pub refusal_words : Refusal → List ℕ
 refusal_words refusal.NoTarget = codes "no_target"
@@ -118,7 +120,7 @@ reply_words reply.Launched = codes "launched"
 reply_words reply.NotWidget = codes "not_widget"
 
 -- the plain state, with its buffers and their paths
-abbrev pub state_json : Members → Data
+abbrev pub state_json : Members → Json
 state_json s =
     object (member (codes "buffer_paths") (json_of (paths_tree (member_paths s)))
     (member (codes "buffers") (array (buffer_texts (member_buffers s)))

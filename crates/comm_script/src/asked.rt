@@ -7,6 +7,8 @@ use comm_core::Call;
 use comm_messages::MessageFault;
 use comm_value::{Text, ValueFault};
 use std::alloc::AllocError;
+use std::fmt;
+use thiserror::Error;
 
 /// What a line asks for.
 #[derive(Drop)]
@@ -24,7 +26,7 @@ pub enum Request {
 /// A key of a command that can be of the wrong type.
 #[derive(Clone, Copy, Debug, PartialEq, Eq, Drop)]
 pub enum Key {
-    /// `kind`: one of the words `echo`, `counter`, `widget`.
+    /// `kind`: one of the words `echo`, `counter`, `widget`, `widget_echo`.
     Kind,
     /// `name`, a text.
     Name,
@@ -40,20 +42,45 @@ pub enum Key {
     Buffers,
 }
 
+impl fmt::Display for Key {
+    ghost use Rattle.std.specs.Prelude.{Some};
+    ghost use Rattle.comm_script.specs.Words.{key_words};
+
+    ghost output = { λ key. Some (key_words key) };
+
+    fn fmt<W: fmt::Write>(&self, f: &mut fmt::Formatter<W>) -> fmt::Result {
+        match self {
+            Key::Kind => write!(f, "kind"),
+            Key::Name => write!(f, "name"),
+            Key::Uuid => write!(f, "uuid"),
+            Key::State => write!(f, "state"),
+            Key::Id => write!(f, "id"),
+            Key::Data => write!(f, "data"),
+            Key::Buffers => write!(f, "buffers"),
+        }
+    }
+}
+
 /// Why a line can't be read: the first test that it fails.
-#[derive(Clone, Copy, Debug, PartialEq, Eq, Drop)]
+#[derive(Clone, Copy, Debug, PartialEq, Eq, Drop, Error)]
 pub enum LineFault {
     /// A part that messages have too.
+    #[error("{0}")]
     Message(MessageFault),
     /// The command's name isn't known.
+    #[error("`call` names no command")]
     UnknownCall,
     /// This key of the command is missing or of the wrong type.
+    #[error("`{0}` of the command is missing or has the wrong type")]
     BadField(Key),
     /// A number in the state or its paths isn't whole, or a buffer can't be placed.
+    #[error("{0}")]
     Value(ValueFault),
     /// The `uuid` isn't one.
+    #[error("`uuid` is not a UUID")]
     BadUuid,
     /// No target of this kind is left.
+    #[error("no target of this kind is left")]
     NoStock,
 }
 

@@ -5,7 +5,7 @@ ghost use Rattle.comm_messages.specs.Fields.{behind, fields};
 ghost use Rattle.comm_value.specs.Paths.{read_paths, Refuses};
 ghost use Rattle.comm_script.specs.Line.{Gives};
 ghost use Rattle.comm_script.specs.Command.{text_field, object_field, list_or_empty, list_field, kind_named};
-ghost use Rattle.comm_script.specs.Command.{kind_field, whole_value, placed_at, state_in, register_in, unregister_in};
+ghost use Rattle.comm_script.specs.Command.{kind_field, value_in, placed_at, state_in, register_in, unregister_in};
 ghost use Rattle.comm_script.specs.Command.{launched, launch_in, push_in, send_in, hang_up_in, state_read_in};
 ghost use Rattle.comm_script.specs.Command.{command_named, command, HandsNothing};
 ghost use Rattle.uuid.specs.Text.{parsed};
@@ -16,8 +16,8 @@ use crate::asked::{Key, LineFault, Request};
 use crate::stock::StockKind;
 use comm_core::Call;
 use comm_json::{JsonKind, JsonRef};
-use comm_messages::{Fields, body_of, buffers_of, member, object_or_empty, text, whole_dict};
-use comm_value::{Buffers, Dict, Path, Text, Val, ValueFault, paths_of, put_all};
+use comm_messages::{Fields, body_of, buffers_of, dict_of, member, object_or_empty, text};
+use comm_value::{Buffers, Dict, Numbers, Path, Text, Val, ValueFault, paths_of, put_all};
 use std::alloc::Global;
 use uuid::Uuid;
 
@@ -86,12 +86,16 @@ fn kind_field(line: Fields<'_, '_>) -> Result<StockKind, LineFault>
     }
 }
 
-fn whole_value(alloc: Global, json: Option<JsonRef<'_, '_>>) -> Result<Option<Val>, LineFault>
-    ensures { Gives (λ v. option_map tree v) result (whole_value (behind json.entry)) }
+fn value_in(
+    alloc: Global,
+    taken: Numbers,
+    json: Option<JsonRef<'_, '_>>,
+) -> Result<Option<Val>, LineFault>
+    ensures { Gives (λ v. option_map tree v) result (value_in taken (behind json.entry)) }
 {
     match json {
         None => Ok(None),
-        Some(json) => Ok(Some(Val::from_ref(alloc, json)?)),
+        Some(json) => Ok(Some(Val::from_ref(alloc, taken, json)?)),
     }
 }
 
@@ -129,11 +133,16 @@ fn placed_at(
 
 // A state with the buffers at their paths.
 #[tactic(auto, unfolding(crate::specs::Command::state_in))]
-fn state_in(alloc: Global, object: Fields<'_, '_>, line: Fields<'_, '_>) -> Result<Dict, LineFault>
-    ensures { Gives (λ d. d) result (state_in (fields object.entry) (fields line.entry)) }
+fn state_in(
+    alloc: Global,
+    taken: Numbers,
+    object: Fields<'_, '_>,
+    line: Fields<'_, '_>,
+) -> Result<Dict, LineFault>
+    ensures { Gives (λ d. d) result (state_in taken (fields object.entry) (fields line.entry)) }
 {
-    let state = whole_dict(alloc, object)?;
-    let paths = match whole_value(alloc, member(line, "buffer_paths")) {
+    let state = dict_of(alloc, taken, object)?;
+    let paths = match value_in(alloc, taken, member(line, "buffer_paths")) {
         Ok(paths) => paths,
         Err(fault) => {
             drop(state);
@@ -199,41 +208,41 @@ fn launched(alloc: Global, name: &str, uuid: &str, state: Dict) -> Result<Reques
 }
 
 #[tactic(auto, unfolding(crate::specs::Command::launch_in))]
-fn launch_in(alloc: Global, line: Fields<'_, '_>) -> Result<Request, LineFault>
-    ensures asked { Gives (λ a. a) result (launch_in (fields line.entry)) }
+fn launch_in(alloc: Global, taken: Numbers, line: Fields<'_, '_>) -> Result<Request, LineFault>
+    ensures asked { Gives (λ a. a) result (launch_in taken (fields line.entry)) }
     ensures handless { IfOk result HandsNothing }
 {
     let name = text_field(Key::Name, "name", line)?;
     let uuid = text_field(Key::Uuid, "uuid", line)?;
     let object = object_field(Key::State, "state", line)?;
     list_field(line)?;
-    let state = state_in(alloc, object, line)?;
+    let state = state_in(alloc, taken, object, line)?;
     launched(alloc, name, uuid, state)
 }
 
 #[tactic(auto, unfolding(crate::specs::Command::push_in))]
-fn push_in(alloc: Global, line: Fields<'_, '_>) -> Result<Request, LineFault>
-    ensures asked { Gives (λ a. a) result (push_in (fields line.entry)) }
+fn push_in(alloc: Global, taken: Numbers, line: Fields<'_, '_>) -> Result<Request, LineFault>
+    ensures asked { Gives (λ a. a) result (push_in taken (fields line.entry)) }
     ensures handless { IfOk result HandsNothing }
 {
     let id = text_field(Key::Id, "id", line)?;
     let object = object_field(Key::State, "state", line)?;
     list_field(line)?;
     let id = Text::copy_of(alloc, id)?;
-    let state = state_in(alloc, object, line)?;
+    let state = state_in(alloc, taken, object, line)?;
     Ok(Request::Change(Call::Push { id, state }))
 }
 
 #[tactic(auto, unfolding(crate::specs::Command::send_in))]
-fn send_in(alloc: Global, line: Fields<'_, '_>) -> Result<Request, LineFault>
-    ensures asked { Gives (λ a. a) result (send_in (fields line.entry)) }
+fn send_in(alloc: Global, taken: Numbers, line: Fields<'_, '_>) -> Result<Request, LineFault>
+    ensures asked { Gives (λ a. a) result (send_in taken (fields line.entry)) }
     ensures handless { IfOk result HandsNothing }
 {
     let id = text_field(Key::Id, "id", line)?;
     let object = object_field(Key::Data, "data", line)?;
     list_field(line)?;
     let id = Text::copy_of(alloc, id)?;
-    let body = body_of(alloc, object, line)?;
+    let body = body_of(alloc, taken, object, line)?;
     Ok(Request::Change(Call::Send { id, body }))
 }
 
@@ -255,8 +264,13 @@ fn state_read_in(alloc: Global, line: Fields<'_, '_>) -> Result<Request, LineFau
     Ok(Request::State { id })
 }
 
-fn command_named(alloc: Global, name: &str, line: Fields<'_, '_>) -> Result<Request, LineFault>
-    ensures asked { Gives (λ a. a) result (command_named name.now (fields line.entry)) }
+fn command_named(
+    alloc: Global,
+    taken: Numbers,
+    name: &str,
+    line: Fields<'_, '_>,
+) -> Result<Request, LineFault>
+    ensures asked { Gives (λ a. a) result (command_named taken name.now (fields line.entry)) }
     ensures handless { IfOk result HandsNothing }
 {
     if name == "register" {
@@ -264,11 +278,11 @@ fn command_named(alloc: Global, name: &str, line: Fields<'_, '_>) -> Result<Requ
     } else if name == "unregister" {
         unregister_in(alloc, line)
     } else if name == "launch" {
-        launch_in(alloc, line)
+        launch_in(alloc, taken, line)
     } else if name == "push" {
-        push_in(alloc, line)
+        push_in(alloc, taken, line)
     } else if name == "send" {
-        send_in(alloc, line)
+        send_in(alloc, taken, line)
     } else if name == "hang_up" {
         hang_up_in(alloc, line)
     } else if name == "state" {
@@ -281,14 +295,15 @@ fn command_named(alloc: Global, name: &str, line: Fields<'_, '_>) -> Result<Requ
 /// What a command asks for: a line with the key `call`, whose value is handed in.
 pub fn command(
     alloc: Global,
+    taken: Numbers,
     call: JsonRef<'_, '_>,
     line: Fields<'_, '_>,
 ) -> Result<Request, LineFault>
-    ensures asked { Gives (λ a. a) result (command (of_ref call.entry) (fields line.entry)) }
+    ensures asked { Gives (λ a. a) result (command taken (of_ref call.entry) (fields line.entry)) }
     ensures handless { IfOk result HandsNothing }
 {
     match call.kind() {
-        JsonKind::Text(name) => command_named(alloc, name, line),
+        JsonKind::Text(name) => command_named(alloc, taken, name, line),
         JsonKind::Null
         | JsonKind::Bool(_)
         | JsonKind::Number(_)

@@ -1,5 +1,6 @@
 //! Laws of the definitions. Each is the contract of a function that does nothing.
 ghost use Rattle.std.specs.Prelude.{ℕ, List};
+ghost use Rattle.comm_value.specs.declared.from_json.Numbers.{Numbers};
 ghost use Rattle.comm_core.specs.declared.limits.Limits.{Limits};
 ghost use Rattle.comm_core.specs.Limits.{AreAllowed};
 ghost use Rattle.comm_core.specs.Machine.{Registered};
@@ -11,8 +12,9 @@ use comm_core::legal_histories_grow;
 /// The changes that a script makes, whatever it is, are a legal history. So comm_core's laws over whole runs hold of
 /// each script: after it those comms are listed that it left open, with the states that it gave them last.
 pub fn scripts_make_legal_histories()
-    ensures { (limits : Limits) (stock : List Registered) (input : List ℕ) → AreAllowed limits
-        → IsLegal limits.clients limits.comms (history_of limits stock input) }
+    ensures { (taken : Numbers) (limits : Limits) (stock : List Registered) (input : List ℕ)
+        → AreAllowed limits
+        → IsLegal limits.clients limits.comms (history_of taken limits stock input) }
 {
     legal_histories_grow();
 }

@@ -16,6 +16,7 @@ mod asked;
 mod backend;
 mod command;
 mod fault;
+mod fault_words;
 mod laws;
 mod line;
 mod lines;

@@ -11,6 +11,7 @@ use crate::line::parse_line;
 use crate::lines::is_blank;
 use crate::wording::append_bad;
 use comm_json::ParseArena;
+use comm_value::Numbers;
 use std::alloc::Global;
 
 /// Appends, by its number in the script, why a line can't be read. Err is Memory: where memory ran out nothing is
@@ -27,26 +28,31 @@ pub fn append_fault(number: u64, fault: LineFault, text: &mut Vec<u8>) -> Result
     Ok(())
 }
 
-/// Plays the line of this number: `execute` does what it asks for, for one of so many clients. A blank line asks for
-/// nothing, and a line that can't be read is answered with why. Err: what `execute` gives, or Memory.
+/// Plays the line of this number: `execute` does what it asks for, for one of so many clients. Numbers that aren't
+/// `taken` make it a bad line. A blank line asks for nothing, and a line that can't be read is answered with why. Err:
+/// what `execute` gives, or Memory.
+#[inline(always)]
 #[tactic(auto, unfolding(crate::specs::Played::turn))]
 pub fn play_line<B: Backend, F: Fn(&mut B, u64, u8, Request, &mut Vec<u8>) -> Result<(), RunFault>>(
     backend: &mut B,
     execute: &F,
     alloc: Global,
     clients: u8,
+    taken: Numbers,
     number: u64,
     line: &[u8],
-    room: &mut ParseArena,
+    arena: &mut ParseArena,
     text: &mut Vec<u8>,
 ) -> Result<(), RunFault>
     requires some { 0 < clients }
     requires sound { B.is_sound clients backend.old }
     requires few { B.change_count backend.old < 2 ^ 63 }
-    requires executes { Executes F.Fn execute.now B.stands (B.is_sound clients) B.follows B.change_count clients }
-    ensures text { OnOk result (AppendsTurn B.stands (line_turn number line.now)
+    requires executes { Executes F.Fn execute.now B.stands (B.is_sound clients) B.follows
+        B.change_count clients }
+    ensures text { OnOk result (AppendsTurn B.stands (line_turn taken number line.now)
         backend.old text.old.items text.new.items) }
-    ensures turn { OnOk result (TakesTurn B.stands (line_turn number line.now) backend.old backend.new) }
+    ensures turn { OnOk result (TakesTurn B.stands (line_turn taken number line.now)
+        backend.old backend.new) }
     ensures count { B.change_count backend.new ≤ B.change_count backend.old + 1 }
     ensures kept { B.is_sound clients backend.new }
     ensures later { B.follows backend.old backend.new }
@@ -55,7 +61,7 @@ pub fn play_line<B: Backend, F: Fn(&mut B, u64, u8, Request, &mut Vec<u8>) -> Re
     if is_blank(line) {
         return Ok(());
     }
-    match parse_line(alloc, line, clients, room) {
+    match parse_line(alloc, line, clients, taken, arena) {
         Ok((client, request)) => execute(backend, number, client, request, text),
         Err(fault) => append_fault(number, fault, text),
     }

@@ -12,6 +12,7 @@ use crate::session::Session;
 use crate::stream::play_script;
 use comm_core::Limits;
 use comm_targets::Target;
+use comm_value::Numbers;
 use std::alloc::Global;
 use std::io::{Read, Write};
 
@@ -21,26 +22,31 @@ use std::io::{Read, Write};
 /// 4,294,967,295 times without ending gives Read, and so does one that fails; a call that was interrupted is made
 /// again. Whatever comes, what was written is the beginning of what the script gives: after Read what the lines give
 /// that were read whole, and after Memory what those give that were whole before the last chunk was read, so that no
-/// answer is cut. Each target that was registered is ended, after its comms, and the rest of the stock is let go.
+/// answer is cut. With `Numbers::Any` a number that isn't whole is a value too, by its text. Each target that was
+/// registered is ended, after its comms, and the rest of the stock is let go.
+///
+/// Its frame holds a chunk: it is kept out of its caller's.
+#[inline(never)]
 pub fn run_with<R: Read, W: Write, T: Target>(
     alloc: Global,
     reader: &mut R,
     writer: &mut W,
     limits: Limits,
+    taken: Numbers,
     stock: Vec<T>,
 ) -> Result<(), RunFault>
     requires idle { AreIdle (map T.means stock.items) }
     ensures played { OnOk result (IfSome (R.remaining reader.old) (λ input.
         Appends (W.contents writer.old) (W.contents writer.new)
-        (played limits (shelved (map T.means stock.items)) input))) }
+        (played taken limits (shelved (map T.means stock.items)) input))) }
     ensures begun { IfSome (R.remaining reader.old) (λ input.
         Begins (W.contents writer.old) (W.contents writer.new)
-        (played limits (shelved (map T.means stock.items)) input)) }
+        (played taken limits (shelved (map T.means stock.items)) input)) }
     ensures read { IsErrOf result RunFault.Read → IfSome (R.remaining reader.old) (λ input.
-        Stops limits (shelved (map T.means stock.items)) input
+        Stops taken limits (shelved (map T.means stock.items)) input
         (R.remaining reader.new) (W.contents writer.old) (W.contents writer.new)) }
     ensures memory { IsErrOf result RunFault.Memory → IfSome (R.remaining reader.old) (λ input.
-        Pauses limits (shelved (map T.means stock.items)) input
+        Pauses taken limits (shelved (map T.means stock.items)) input
         (R.remaining reader.new) (W.contents writer.old) (W.contents writer.new)) }
     ensures bad_limits { IsErrOf result RunFault.BadLimits ↔ ¬ (AreAllowed limits) }
 {
@@ -56,6 +62,7 @@ pub fn run_with<R: Read, W: Write, T: Target>(
                 { session.execute(alloc, number, client, request, text) },
                 alloc,
                 limits.clients,
+                taken,
                 reader,
                 writer,
             );
@@ -66,7 +73,7 @@ pub fn run_with<R: Read, W: Write, T: Target>(
     }
 }
 
-/// Plays a script as [`run_with`] does, over boxed targets, as kernels keep them.
+/// Plays a script as [`run_with`] does, over boxed targets, as kernels keep them, and with whole numbers alone.
 pub fn run<R: Read, W: Write>(
     alloc: Global,
     reader: &mut R,
@@ -77,17 +84,17 @@ pub fn run<R: Read, W: Write>(
     requires idle { AreIdle (map (λ b. means b) stock.items) }
     ensures played { OnOk result (IfSome (R.remaining reader.old) (λ input.
         Appends (W.contents writer.old) (W.contents writer.new)
-        (played limits (shelved (map (λ b. means b) stock.items)) input))) }
+        (played Numbers.Whole limits (shelved (map (λ b. means b) stock.items)) input))) }
     ensures begun { IfSome (R.remaining reader.old) (λ input.
         Begins (W.contents writer.old) (W.contents writer.new)
-        (played limits (shelved (map (λ b. means b) stock.items)) input)) }
+        (played Numbers.Whole limits (shelved (map (λ b. means b) stock.items)) input)) }
     ensures read { IsErrOf result RunFault.Read → IfSome (R.remaining reader.old) (λ input.
-        Stops limits (shelved (map (λ b. means b) stock.items)) input
+        Stops Numbers.Whole limits (shelved (map (λ b. means b) stock.items)) input
         (R.remaining reader.new) (W.contents writer.old) (W.contents writer.new)) }
     ensures memory { IsErrOf result RunFault.Memory → IfSome (R.remaining reader.old) (λ input.
-        Pauses limits (shelved (map (λ b. means b) stock.items)) input
+        Pauses Numbers.Whole limits (shelved (map (λ b. means b) stock.items)) input
         (R.remaining reader.new) (W.contents writer.old) (W.contents writer.new)) }
     ensures bad_limits { IsErrOf result RunFault.BadLimits ↔ ¬ (AreAllowed limits) }
 {
-    run_with(alloc, reader, writer, limits, stock)
+    run_with(alloc, reader, writer, limits, Numbers::Whole, stock)
 }

@@ -8,7 +8,7 @@ ghost use Rattle.comm_core.specs.Limits.{AreAllowed};
 ghost use Rattle.comm_core.specs.Reads.{infos, state_of};
 ghost use Rattle.comm_core.specs.Ready.{HandsNothingIn, machine};
 ghost use Rattle.comm_script.specs.Command.{HandsNothing};
-ghost use Rattle.comm_script.specs.Played.{Standing, called, registered, obeyed};
+ghost use Rattle.comm_script.specs.Played.{Standing, called, registered, executed};
 ghost use Rattle.comm_script.specs.Stock.{first_of, shelved, AreIdle};
 ghost use Rattle.comm_script.specs.Words.{reply_line, out_line, out_lines, state_line};
 
@@ -74,7 +74,8 @@ impl<T: Target> Session<T> {
         requires made { (c : ℕ) → slice_index self.old.made c ≤ self.old.changes }
         ensures text { OnOk result (text.new.items ≡ text.old.items
             ++ (reply_line (self.old.changes + 1) reply.now
-            ++ out_lines outgoing.now (parent.Call client (slice_index self.old.made client + 1)))) }
+            ++ out_lines outgoing.now
+            (parent.Call client (slice_index self.old.made client + 1)))) }
         ensures counted { self.new ≡ record self.old {
           changes = self.old.changes + 1;
           made = slice_set self.old.made client (slice_index self.old.made client + 1);
@@ -119,9 +120,11 @@ impl<T: Target> Session<T> {
         requires few { self.old.changes < 2 ^ 63 }
         requires sound { IsSound self.old }
         requires call { HandsNothingIn call }
-        ensures text { OnOk result ((limits : Limits) (now : Standing) → Stands limits now self.old
+        ensures text { OnOk result ((limits : Limits) (now : Standing)
+            → Stands limits now self.old
             → text.new.items ≡ text.old.items ++ (called limits now client call now.stock).text) }
-        ensures stands { OnOk result ((limits : Limits) (now : Standing) → Stands limits now self.old
+        ensures stands { OnOk result ((limits : Limits) (now : Standing)
+            → Stands limits now self.old
             → Stands limits (called limits now client call now.stock).after self.new) }
         ensures count { self.new.changes ≤ self.old.changes + 1 }
         ensures kept { IsSound self.new }
@@ -149,11 +152,14 @@ impl<T: Target> Session<T> {
         requires client { client < 4 }
         requires few { self.old.changes < 2 ^ 63 }
         requires sound { IsSound self.old }
-        ensures text { OnOk result ((limits : Limits) (now : Standing) → Stands limits now self.old
-            → text.new.items
-            ≡ text.old.items ++ (registered limits now number client kind name (first_of kind now.stock)).text) }
-        ensures stands { OnOk result ((limits : Limits) (now : Standing) → Stands limits now self.old
-            → Stands limits (registered limits now number client kind name (first_of kind now.stock)).after self.new) }
+        ensures text { OnOk result ((limits : Limits) (now : Standing)
+            → Stands limits now self.old
+            → text.new.items ≡ text.old.items
+            ++ (registered limits now number client kind name (first_of kind now.stock)).text) }
+        ensures stands { OnOk result ((limits : Limits) (now : Standing)
+            → Stands limits now self.old
+            → Stands limits (registered limits now number client kind name
+            (first_of kind now.stock)).after self.new) }
         ensures count { self.new.changes ≤ self.old.changes + 1 }
         ensures kept { IsSound self.new }
         ensures limits { self.new.limits ≡ self.old.limits }
@@ -186,7 +192,8 @@ impl<T: Target> Session<T> {
         text: &mut Vec<u8>,
     ) -> Result<(), RunFault>
         ensures text { OnOk result (text.new.items ≡ text.old.items
-            ++ out_line (out.InfoReply (infos (machine self.old.core) (option_map (λ t. t.now) target.entry)))
+            ++ out_line
+            (out.InfoReply (infos (machine self.old.core) (option_map (λ t. t.now) target.entry)))
             (parent.Read client self.old.changes)) }
         ensures same { self.new ≡ self.old }
         ensures fault { IfErr result (λ e. e ≡ RunFault.Memory) }
@@ -198,8 +205,8 @@ impl<T: Target> Session<T> {
 
     // Says which state a comm has.
     fn state(&self, alloc: Global, id: &Text, text: &mut Vec<u8>) -> Result<(), RunFault>
-        ensures text { OnOk result (text.new.items
-            ≡ text.old.items ++ state_line self.now.changes (state_of (machine self.now.core) id.now)) }
+        ensures text { OnOk result (text.new.items ≡ text.old.items
+            ++ state_line self.now.changes (state_of (machine self.now.core) id.now)) }
         ensures fault { IfErr result (λ e. e ≡ RunFault.Memory) }
     {
         let answer = self.core.state(id)?;
@@ -222,10 +229,12 @@ impl<T: Target> Session<T> {
         requires few { self.old.changes < 2 ^ 63 }
         requires sound { IsSound self.old }
         requires handless { HandsNothing request }
-        ensures text { OnOk result ((limits : Limits) (now : Standing) → Stands limits now self.old
-            → text.new.items ≡ text.old.items ++ (obeyed limits now number client request).text) }
-        ensures stands { OnOk result ((limits : Limits) (now : Standing) → Stands limits now self.old
-            → Stands limits (obeyed limits now number client request).after self.new) }
+        ensures text { OnOk result ((limits : Limits) (now : Standing)
+            → Stands limits now self.old
+            → text.new.items ≡ text.old.items ++ (executed limits now number client request).text) }
+        ensures stands { OnOk result ((limits : Limits) (now : Standing)
+            → Stands limits now self.old
+            → Stands limits (executed limits now number client request).after self.new) }
         ensures count { self.new.changes ≤ self.old.changes + 1 }
         ensures kept { IsSound self.new }
         ensures limits { self.new.limits ≡ self.old.limits }

@@ -77,7 +77,8 @@ impl<T: Target> Stock<T> {
 
     /// Takes out the first target of the kind, so that there is room to put it back; None where none is left.
     pub fn take(&mut self, kind: StockKind) -> Option<T>
-        ensures taken { option_map (λ t. registered_of (T.means t)) result ≡ first_of kind self.old.targets }
+        ensures taken { option_map (λ t. registered_of (T.means t)) result
+            ≡ first_of kind self.old.targets }
         ensures targets { self.new.targets ≡ rest_of kind self.old.targets }
         ensures idle { IfSome result (λ t. IsIdle (T.means t)) }
         ensures room { OnSome result (0 < self.new.room) }
@@ -102,7 +103,8 @@ impl<T: Target> Stock<T> {
 pub fn push_target<T: Target>(stock: &mut Vec<T>, target: T) -> Result<(), AllocFailed<T>>
     requires { IsIdle (T.means target) }
     ensures added { OnOk result (stock.new.items ≡ stock.old.items ++ target ∷ []) }
-    ensures idle { AreIdle (map T.means stock.old.items) → OnOk result (AreIdle (map T.means stock.new.items)) }
+    ensures idle { AreIdle (map T.means stock.old.items)
+        → OnOk result (AreIdle (map T.means stock.new.items)) }
     ensures unchanged { OnErr result (stock.new.items ≡ stock.old.items) }
     ensures back { IfErr result (λ refused. refused.value ≡ target) }
 {

@@ -14,6 +14,7 @@ use crate::fault::RunFault;
 use crate::lines::split_line;
 use crate::player::play_line;
 use comm_json::ParseArena;
+use comm_value::Numbers;
 use std::alloc::Global;
 use std::io::{ErrorKind, Read, Write};
 
@@ -26,7 +27,8 @@ fn play_chunk<B: Backend, F: Fn(&mut B, u64, u8, Request, &mut Vec<u8>) -> Resul
     execute: &F,
     alloc: Global,
     clients: u8,
-    room: &mut ParseArena,
+    taken: Numbers,
+    arena: &mut ParseArena,
     number: &mut u64,
     pending: &mut Vec<u8>,
     chunk: &[u8],
@@ -34,12 +36,14 @@ fn play_chunk<B: Backend, F: Fn(&mut B, u64, u8, Request, &mut Vec<u8>) -> Resul
 ) -> Result<(), RunFault>
     requires some { 0 < clients }
     requires sound { B.is_sound clients backend.old }
-    requires executes { Executes F.Fn execute.now B.stands (B.is_sound clients) B.follows B.change_count clients }
+    requires executes { Executes F.Fn execute.now B.stands (B.is_sound clients) B.follows
+        B.change_count clients }
     requires within { B.change_count backend.old ≤ number.old }
     requires few { number.old + length chunk.now < 2 ^ 62 }
     requires small { length chunk.now ≤ CHUNK }
     requires one_line { has_line_feed pending.old.items ≡ false }
-    ensures says { OnOk result (Cuts B.stands backend.old number.old pending.old.items chunk.now text.old.items
+    ensures says { OnOk result (Cuts taken B.stands
+        backend.old number.old pending.old.items chunk.now text.old.items
         backend.new number.new pending.new.items text.new.items) }
     ensures few { OnOk result (number.new ≤ number.old + CHUNK) }
     ensures within { OnOk result (B.change_count backend.new ≤ number.new) }
@@ -52,7 +56,9 @@ fn play_chunk<B: Backend, F: Fn(&mut B, u64, u8, Request, &mut Vec<u8>) -> Resul
     while let Some((line, more)) = split_line(rest) {
         pending.extend_from_slice(line)?;
         n += 1;
-        play_line(backend, execute, alloc, clients, n, pending, room, text)?;
+        play_line(
+            backend, execute, alloc, clients, taken, n, pending, arena, text,
+        )?;
         pending.clear();
         rest = more;
     }
@@ -67,20 +73,23 @@ fn play_last<B: Backend, F: Fn(&mut B, u64, u8, Request, &mut Vec<u8>) -> Result
     execute: &F,
     alloc: Global,
     clients: u8,
-    room: &mut ParseArena,
+    taken: Numbers,
+    arena: &mut ParseArena,
     number: u64,
     pending: &[u8],
     text: &mut Vec<u8>,
 ) -> Result<(), RunFault>
     requires some { 0 < clients }
     requires sound { B.is_sound clients backend.old }
-    requires executes { Executes F.Fn execute.now B.stands (B.is_sound clients) B.follows B.change_count clients }
+    requires executes { Executes F.Fn execute.now B.stands (B.is_sound clients) B.follows
+        B.change_count clients }
     requires within { B.change_count backend.old ≤ number }
     requires few { number < 2 ^ 62 }
     requires one_line { has_line_feed pending.now ≡ false }
     ensures says { OnOk result ((limits : Limits) (stock : List Registered) (input written : List ℕ)
-        → Says B.stands limits stock input backend.old number pending.now (written ++ text.old.items)
-        → written ++ text.new.items ≡ played limits stock input) }
+        → Says taken B.stands limits stock input backend.old number pending.now
+        (written ++ text.old.items)
+        → written ++ text.new.items ≡ played taken limits stock input) }
     ensures kept { B.is_sound clients backend.new }
     ensures fault { IfErr result IsBackendFault }
 {
@@ -92,9 +101,10 @@ fn play_last<B: Backend, F: Fn(&mut B, u64, u8, Request, &mut Vec<u8>) -> Result
         execute,
         alloc,
         clients,
+        taken,
         number + 1,
         pending,
-        room,
+        arena,
         text,
     )?;
     Ok(())
@@ -116,33 +126,38 @@ pub fn play_script<
     execute: &F,
     alloc: Global,
     clients: u8,
+    taken: Numbers,
     reader: &mut R,
     writer: &mut W,
 ) -> Result<(), RunFault>
     requires some { 0 < clients }
     requires sound { B.is_sound clients backend.old }
-    requires executes { Executes F.Fn execute.now B.stands (B.is_sound clients) B.follows B.change_count clients }
+    requires executes { Executes F.Fn execute.now B.stands (B.is_sound clients) B.follows
+        B.change_count clients }
     requires fresh { B.change_count backend.old ≡ 0 }
     ensures played { OnOk result ((limits : Limits) (stock : List Registered)
         → B.stands limits (record { history = []; stock = stock }) backend.old
         → IfSome (R.remaining reader.old) (λ input.
-        Appends (W.contents writer.old) (W.contents writer.new) (played limits stock input))) }
+        Appends (W.contents writer.old) (W.contents writer.new)
+        (played taken limits stock input))) }
     ensures begun { (limits : Limits) (stock : List Registered)
         → B.stands limits (record { history = []; stock = stock }) backend.old
         → IfSome (R.remaining reader.old) (λ input.
-        Begins (W.contents writer.old) (W.contents writer.new) (played limits stock input)) }
+        Begins (W.contents writer.old) (W.contents writer.new) (played taken limits stock input)) }
     ensures read { IsErrOf result RunFault.Read → (limits : Limits) (stock : List Registered)
         → B.stands limits (record { history = []; stock = stock }) backend.old
         → IfSome (R.remaining reader.old) (λ input.
-        Stops limits stock input (R.remaining reader.new) (W.contents writer.old) (W.contents writer.new)) }
+        Stops taken limits stock input (R.remaining reader.new)
+        (W.contents writer.old) (W.contents writer.new)) }
     ensures memory { IsErrOf result RunFault.Memory → (limits : Limits) (stock : List Registered)
         → B.stands limits (record { history = []; stock = stock }) backend.old
         → IfSome (R.remaining reader.old) (λ input.
-        Pauses limits stock input (R.remaining reader.new) (W.contents writer.old) (W.contents writer.new)) }
+        Pauses taken limits stock input (R.remaining reader.new)
+        (W.contents writer.old) (W.contents writer.new)) }
     ensures kept { B.is_sound clients backend.new }
     ensures fault { IfErr result (λ e. e ≢ RunFault.BadLimits) }
 {
-    let mut room = ParseArena::new(alloc);
+    let mut arena = ParseArena::new(alloc);
     let mut number = 0u64;
     let mut pending = Vec::new(alloc);
     let mut text = Vec::new(alloc);
@@ -151,7 +166,8 @@ pub fn play_script<
         match reader.read(&mut chunk) {
             Ok(0) => {
                 play_last(
-                    backend, execute, alloc, clients, &mut room, number, &pending, &mut text,
+                    backend, execute, alloc, clients, taken, &mut arena, number, &pending,
+                    &mut text,
                 )?;
                 write_all_and_flush(writer, &mut text)?;
                 return Ok(());
@@ -162,7 +178,8 @@ pub fn play_script<
                     execute,
                     alloc,
                     clients,
-                    &mut room,
+                    taken,
+                    &mut arena,
                     &mut number,
                     &mut pending,
                     &chunk[..n],
@@ -181,7 +198,8 @@ pub fn play_script<
 /// Writes the whole text, flushes the writer, and empties the text. Nothing is done where the text is empty. Err is
 /// Write: then the writer took a beginning of the text.
 pub fn write_all_and_flush<W: Write>(writer: &mut W, text: &mut Vec<u8>) -> Result<(), RunFault>
-    ensures sent { OnOk result (Appends (W.contents writer.old) (W.contents writer.new) text.old.items) }
+    ensures sent { OnOk result (Appends (W.contents writer.old) (W.contents writer.new)
+        text.old.items) }
     ensures begun { Begins (W.contents writer.old) (W.contents writer.new) text.old.items }
     ensures empty { OnOk result (text.new.items ≡ []) }
     ensures fault { IfErr result (λ e. e ≡ RunFault.Write) }

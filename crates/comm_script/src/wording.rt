@@ -1,26 +1,23 @@
 //! The lines that are written (`docs/FORMATS.md`).
 ghost use Rattle.std.specs.Prelude.{◌≡◌, ◌++◌, ◌∷◌, [], true, OnOk, codes, decimal};
 ghost use Rattle.json.specs.Print.{quoted};
-ghost use Rattle.serde_json.specs.Data.{array, object, member, no_members};
-ghost use Rattle.serde_json.specs.Written.{compact_text, members_text};
+ghost use Rattle.json.specs.Json.{array, object, member, no_members};
+ghost use Rattle.comm_json.specs.Text.{compact_text, members_text};
 ghost use Rattle.comm_value.specs.ToJson.{json_of};
 ghost use Rattle.comm_value.specs.View.{tree};
 ghost use Rattle.comm_value.specs.Paths.{paths_tree};
-ghost use Rattle.comm_messages.specs.Text.{texts, buffer_texts};
+ghost use Rattle.comm_messages.specs.Text.{buffer_texts};
 ghost use Rattle.comm_messages.specs.declared.outgoing.Outgoing.TheVariants as outgoing;
 ghost use Rattle.comm_messages.specs.declared.outgoing.Parent.TheVariants as parent;
-ghost use Rattle.comm_script.specs.Words.{target_words, field_words, message_words, value_words, key_words};
-ghost use Rattle.comm_script.specs.Words.{fault_words, custom_json, refusal_words, delivered_words, reply_words};
-ghost use Rattle.comm_script.specs.Words.{state_json, state_words, reply_line, bad_line, state_line, out_line};
-ghost use Rattle.comm_script.specs.Words.{out_lines};
+ghost use Rattle.comm_script.specs.Words.{custom_json, delivered_words, reply_words, state_json, state_words};
+ghost use Rattle.comm_script.specs.Words.{reply_line, bad_line, state_line, out_line, out_lines};
 
-use crate::asked::{Key, LineFault};
-use comm_core::{Ids, Refusal, Reply, StateAnswer};
-use comm_messages::{Field, Infos, MessageFault, Outgoing, Parent, append_buffers, append_message};
-use comm_targets::{Custom, TargetFault};
-use comm_value::{
-    Buffers, Dict, Path, Separated, Text, Val, ValueFault, paths_val, separate, write_text,
-};
+use crate::asked::LineFault;
+use crate::fault_words::{append_fault_words, append_refusal_words, append_target_words};
+use comm_core::{Ids, Reply, StateAnswer};
+use comm_messages::{Infos, Outgoing, Parent, append_buffers, append_ids, append_message};
+use comm_targets::Custom;
+use comm_value::{Buffers, Dict, Path, Separated, Text, Val, paths_val, separate, write_text};
 use std::alloc::{AllocError, Global};
 
 /// Appends these bytes. Err: memory; this is true of each function here, and a part may have been appended then.
@@ -47,109 +44,7 @@ pub fn append_counted(words: &[u8], number: u64, out: &mut Vec<u8>) -> Result<()
     Ok(())
 }
 
-// ---- faults
-
-fn append_target_words(fault: TargetFault, out: &mut Vec<u8>) -> Result<(), AllocError>
-    ensures { OnOk result (out.new.items ≡ out.old.items ++ target_words fault) }
-{
-    match fault {
-        TargetFault::WrongVersion => append(b"wrong_version", out),
-        TargetFault::NoState => append(b"no_state", out),
-        TargetFault::BadState => append(b"bad_state", out),
-        TargetFault::BadPath(n) => append_counted(b"bad_path ", n as u64, out),
-        TargetFault::BufferMissing(n) => append_counted(b"buffer_missing ", n as u64, out),
-        TargetFault::NoMethod => append(b"no_method", out),
-        TargetFault::UnknownMethod => append(b"unknown_method", out),
-        TargetFault::Other(code) => append_counted(b"other ", code as u64, out),
-        TargetFault::Memory => Ok(()),
-    }
-}
-
-fn field_words(field: Field) -> &'static str
-    ensures { result.now ≡ field_words field }
-{
-    match field {
-        Field::Content => "content",
-        Field::CommId => "comm_id",
-        Field::TargetName => "target_name",
-        Field::Body => "data",
-        Field::Metadata => "metadata",
-        Field::Buffers => "buffers",
-    }
-}
-
-fn append_message_words(fault: MessageFault, out: &mut Vec<u8>) -> Result<(), AllocError>
-    ensures { OnOk result (out.new.items ≡ out.old.items ++ message_words fault) }
-{
-    match fault {
-        MessageFault::NotJson => append(b"not_json", out),
-        MessageFault::NoType => append(b"no_type", out),
-        MessageFault::UnknownType => append(b"unknown_type", out),
-        MessageFault::BadContent(field) => append_named(b"bad_content ", field_words(field), out),
-        MessageFault::NotWhole => append(b"not_whole", out),
-        MessageFault::BadBuffer(n) => append_counted(b"bad_buffer ", n as u64, out),
-        MessageFault::BadClient => append(b"bad_client", out),
-        MessageFault::Memory => Ok(()),
-    }
-}
-
-fn append_named(words: &[u8], name: &str, out: &mut Vec<u8>) -> Result<(), AllocError>
-    ensures { OnOk result (out.new.items ≡ out.old.items ++ (words.now ++ name.now)) }
-{
-    append(words, out)?;
-    append(name.as_bytes(), out)?;
-    Ok(())
-}
-
-fn append_value_words(fault: ValueFault, out: &mut Vec<u8>) -> Result<(), AllocError>
-    ensures { OnOk result (out.new.items ≡ out.old.items ++ value_words fault) }
-{
-    match fault {
-        ValueFault::NotWhole => append(b"not_whole", out),
-        ValueFault::BadPath(n) => append_counted(b"bad_path ", n as u64, out),
-        ValueFault::BufferMissing(n) => append_counted(b"buffer_missing ", n as u64, out),
-        ValueFault::Memory => Ok(()),
-    }
-}
-
-fn key_words(key: Key) -> &'static str
-    ensures { result.now ≡ key_words key }
-{
-    match key {
-        Key::Kind => "kind",
-        Key::Name => "name",
-        Key::Uuid => "uuid",
-        Key::State => "state",
-        Key::Id => "id",
-        Key::Data => "data",
-        Key::Buffers => "buffers",
-    }
-}
-
-fn append_fault_words(fault: LineFault, out: &mut Vec<u8>) -> Result<(), AllocError>
-    ensures { OnOk result (out.new.items ≡ out.old.items ++ fault_words fault) }
-{
-    match fault {
-        LineFault::Message(fault) => append_message_words(fault, out),
-        LineFault::UnknownCall => append(b"unknown_call", out),
-        LineFault::BadField(key) => append_named(b"bad_field ", key_words(key), out),
-        LineFault::Value(fault) => append_value_words(fault, out),
-        LineFault::BadUuid => append(b"bad_uuid", out),
-        LineFault::NoStock => append(b"no_stock", out),
-    }
-}
-
 // ---- replies
-
-fn append_refusal_words(why: &Refusal, out: &mut Vec<u8>) -> Result<(), AllocError>
-    ensures { OnOk result (out.new.items ≡ out.old.items ++ refusal_words why.now) }
-{
-    match why {
-        Refusal::NoTarget => append(b"no_target", out),
-        Refusal::TooManyComms => append(b"too_many_comms", out),
-        Refusal::Fault(fault) => append_target_words(*fault, out),
-    }
-}
 
 // The key of a member, with its colon.
 fn append_key(key: &str, out: &mut Vec<u8>) -> Result<(), AllocError>
@@ -191,22 +86,6 @@ fn append_custom(alloc: Global, custom: &Custom, out: &mut Vec<u8>) -> Result<()
     append(b"[", out)?;
     append_buffers(alloc, &custom.buffers, out)?;
     append_last("content", &custom.content, out)?;
-    Ok(())
-}
-
-fn append_ids(ids: &[Text], out: &mut Vec<u8>) -> Result<(), AllocError>
-    ensures { OnOk result (out.new.items ≡ out.old.items ++ compact_text (array (texts ids.now))) }
-{
-    append(b"[", out)?;
-    let mut later = false;
-    for id in ids {
-        if later {
-            out.push(b',')?;
-        }
-        write_text(id.as_str(), out)?;
-        later = true;
-    }
-    append(b"]", out)?;
     Ok(())
 }
 
@@ -284,7 +163,8 @@ fn append_parts(
 
 fn append_paths(alloc: Global, paths: &[Path], out: &mut Vec<u8>) -> Result<(), AllocError>
     ensures { OnOk result (out.new.items ≡ out.old.items
-        ++ (123 ∷ ((quoted (codes "buffer_paths") ++ 58 ∷ []) ++ compact_text (json_of (paths_tree paths.now))))) }
+        ++ (123 ∷ ((quoted (codes "buffer_paths") ++ 58 ∷ [])
+        ++ compact_text (json_of (paths_tree paths.now))))) }
 {
     let paths = paths_val(alloc, paths)?;
     let written = append_first("buffer_paths", &paths, out);

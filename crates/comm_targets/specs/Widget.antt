@@ -6,7 +6,8 @@ use Rattle.std.specs.Result.{result_map_both}
 use Rattle.std.specs.List.{before_first}
 use Rattle.std.specs.Str.{bytes_eq}
 use Rattle.comm_messages.specs.Content.{Content}
-use Rattle.comm_value.specs.Tree.{Tree, null, boolean, whole, text, bytes, list, dict, Members, no_members, member}
+use Rattle.comm_value.specs.Tree.{Tree, null, boolean, whole, decimal, text, bytes, list, dict}
+use Rattle.comm_value.specs.Tree.{Members, no_members, member}
 use Rattle.comm_value.specs.Node.{Path, get}
 use Rattle.comm_value.specs.Places.{member_paths, member_buffers, plain_members}
 use Rattle.comm_value.specs.Put.{placed_in}
@@ -30,6 +31,7 @@ abbrev pub val_of : Tree → Val
 val_of null = val.Null
 val_of (boolean b) = val.Bool b
 val_of (whole z) = val.Whole z
+val_of (decimal s) = val.Decimal s
 val_of (text s) = val.Text s
 val_of (bytes b) = val.Bytes b
 val_of (list ts) = val.List ts

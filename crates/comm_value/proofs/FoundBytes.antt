@@ -4,7 +4,7 @@ use Rattle.std.specs.Prelude.{◌||◌}
 use Rattle.std.specs.List.{Contains}
 use Rattle.comm_value.specs.declared.path.Step.{Step}
 use Rattle.comm_value.specs.declared.path.Step.TheVariants.{Key, Index}
-use Rattle.comm_value.specs.Tree.{Tree, null, boolean, whole, text, bytes, list, dict, Items, no_items, item, Members, no_members, member}
+use Rattle.comm_value.specs.Tree.{Tree, null, boolean, whole, decimal, text, bytes, list, dict, Items, no_items, item, Members, no_members, member}
 use Rattle.comm_value.specs.Node.{Path}
 use Rattle.comm_value.specs.Order.{is_ordered}
 use Rattle.comm_value.specs.Places.{IsPlace, has_bytes, items_have_bytes, members_have_bytes, paths, item_paths, member_paths}
@@ -23,6 +23,7 @@ mutual
   some_listed null = refl
   some_listed (boolean b) = refl
   some_listed (whole z) = refl
+  some_listed (decimal s) = refl
   some_listed (text s) = refl
   some_listed (bytes b) = refl
   some_listed (list ts) = some_in_list 0 ts

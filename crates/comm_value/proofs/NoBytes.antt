@@ -1,14 +1,17 @@
 -- Values in which no bytes stand.
-use Rattle.std.proofs.Common.{◌≡◌, ℕ, List, [], ◌∷◌, map, Bool, true, false, cond, Ordering, Less, Equal, Greater, refl, sym, ap, ◌∙◌}
+use Rattle.std.proofs.Common.{◌≡◌, ℕ, ℤ, List, [], ◌∷◌, map, Bool, true, false, cond, Ordering, Less, Equal, Greater, refl, sym, ap, ◌∙◌}
 use Rattle.std.specs.Prelude.{◌||◌, Option, Some, None, option_map, option_and_then}
 use Rattle.std.specs.Ordering.{is_eq, match_ordering}
-use Rattle.serde_json.specs.Data as json
+use Rattle.json.specs.Json as json
+use Rattle.comm_json.specs.Behind.{whole_of, is_decimal}
+use Rattle.comm_value.specs.declared.from_json.Numbers.{Numbers}
+use Rattle.comm_value.specs.declared.from_json.Numbers.TheVariants.{Whole, Any}
 use Rattle.comm_value.specs.declared.path.Step.TheVariants.{Key, Index}
-use Rattle.comm_value.specs.Tree.{Tree, null, boolean, whole, text, bytes, list, dict, Items, no_items, item, Members, no_members, member}
+use Rattle.comm_value.specs.Tree.{Tree, null, boolean, whole, decimal, text, bytes, list, dict, Items, no_items, item, Members, no_members, member}
 use Rattle.comm_value.specs.Node.{Path, get}
 use Rattle.comm_value.specs.Order.{key_cmp}
 use Rattle.comm_value.specs.Put.{insert}
-use Rattle.comm_value.specs.FromJson.{tree_of, items_of, members_of, whole_of}
+use Rattle.comm_value.specs.FromJson.{tree_of, items_of, members_of, number_of, other_number}
 use Rattle.comm_value.specs.Paths.{items_from, step_tree, path_tree, paths_tree}
 use Rattle.comm_value.specs.Places.{has_bytes, items_have_bytes, members_have_bytes, plain, plain_item, plain_items, plain_members, is_buffer}
 use Rattle.comm_value.proofs.BytesLemmas.{neither}
@@ -32,16 +35,17 @@ free_map test of f (Some x) h g = h x g
 
 -- ---- what was read as JSON
 
-leaf_free : (o : Option Tree) → ((t : Tree) → o ≡ Some t → has_bytes t ≡ false) → Free has_bytes o
-leaf_free None f = tt
-leaf_free (Some t) f = f t refl
+if_free : (b : Bool) (s : List ℕ) → Free has_bytes (cond b (Some (decimal s)) None)
+if_free true s = refl
+if_free false s = tt
 
-number_free : (n : json.Num) → Free has_bytes (option_map whole (whole_of n))
-number_free n = free_map has_bytes (λ z. false) whole (whole_of n) (λ z h. refl) (no_test (whole_of n))
-  where
-    no_test : {A : Type 0} (o : Option A) → Free (λ x. false) o
-    no_test None = tt
-    no_test (Some x) = refl
+other_free : (taken : Numbers) (s : List ℕ) → Free has_bytes (other_number taken s)
+other_free Whole s = tt
+other_free Any s = if_free (is_decimal s) s
+
+number_free : (taken : Numbers) (s : List ℕ) (o : Option ℤ) → Free has_bytes (number_of taken s o)
+number_free taken s (Some z) = refl
+number_free taken s None = other_free taken s
 
 item_free : (o : Option Tree) (rest : Option Items) → Free has_bytes o → Free items_have_bytes rest → Free items_have_bytes (option_and_then (λ t. option_map (item t) rest) o)
 item_free None rest f g = tt
@@ -54,27 +58,27 @@ member_free k (Some t) None f g = tt
 member_free k (Some t) (Some ms) f g = both_none (has_bytes t) (members_have_bytes ms) f g
 
 mutual
-  tree_free : (d : json.Data) → Free has_bytes (tree_of d)
-  tree_free json.null = refl
-  tree_free (json.boolean b) = refl
-  tree_free (json.number n) = number_free n
-  tree_free (json.string s) = refl
-  tree_free (json.array ds) = free_map has_bytes items_have_bytes list (items_of ds) (λ x h. h) (items_free ds)
-  tree_free (json.object ms) = free_map has_bytes members_have_bytes dict (members_of ms) (λ x h. h) (members_free ms)
+  tree_free : (taken : Numbers) (d : json.Json) → Free has_bytes (tree_of taken d)
+  tree_free taken json.null = refl
+  tree_free taken (json.boolean b) = refl
+  tree_free taken (json.number n) = number_free taken n (whole_of n)
+  tree_free taken (json.string s) = refl
+  tree_free taken (json.array ds) = free_map has_bytes items_have_bytes list (items_of taken ds) (λ x h. h) (items_free taken ds)
+  tree_free taken (json.object ms) = free_map has_bytes members_have_bytes dict (members_of taken ms) (λ x h. h) (members_free taken ms)
 
-  items_free : (ds : json.Items) → Free items_have_bytes (items_of ds)
-  items_free json.no_items = refl
-  items_free (json.item d ds) = item_free (tree_of d) (items_of ds) (tree_free d) (items_free ds)
+  items_free : (taken : Numbers) (ds : json.Items) → Free items_have_bytes (items_of taken ds)
+  items_free taken json.no_items = refl
+  items_free taken (json.item d ds) = item_free (tree_of taken d) (items_of taken ds) (tree_free taken d) (items_free taken ds)
 
-  members_free : (ms : json.Members) → Free members_have_bytes (members_of ms)
-  members_free json.no_members = refl
-  members_free (json.member k d ms) = member_free k (tree_of d) (members_of ms) (tree_free d) (members_free ms)
+  members_free : (taken : Numbers) (ms : json.Members) → Free members_have_bytes (members_of taken ms)
+  members_free taken json.no_members = refl
+  members_free taken (json.member k d ms) = member_free k (tree_of taken d) (members_of taken ms) (tree_free taken d) (members_free taken ms)
 
-pub read_value : (d : json.Data) (t : Tree) → tree_of d ≡ Some t → has_bytes t ≡ false
-read_value d t h = free_some has_bytes (tree_of d) t h (tree_free d)
+pub read_value : (taken : Numbers) (d : json.Json) (t : Tree) → tree_of taken d ≡ Some t → has_bytes t ≡ false
+read_value taken d t h = free_some has_bytes (tree_of taken d) t h (tree_free taken d)
 
-pub read_members : (ds : json.Members) (ms : Members) → members_of ds ≡ Some ms → members_have_bytes ms ≡ false
-read_members ds ms h = free_some members_have_bytes (members_of ds) ms h (members_free ds)
+pub read_members : (taken : Numbers) (ds : json.Members) (ms : Members) → members_of taken ds ≡ Some ms → members_have_bytes ms ≡ false
+read_members taken ds ms h = free_some members_have_bytes (members_of taken ds) ms h (members_free taken ds)
 
 -- ---- without its bytes
 
@@ -87,6 +91,7 @@ item_case : (t : Tree) → (is_buffer t ≡ false → has_bytes (plain t) ≡ fa
 item_case null f = refl
 item_case (boolean b) f = refl
 item_case (whole z) f = refl
+item_case (decimal s) f = refl
 item_case (text s) f = refl
 item_case (bytes b) f = refl
 item_case (list ts) f = f refl
@@ -97,6 +102,7 @@ mutual
   plain_free null h = refl
   plain_free (boolean b) h = refl
   plain_free (whole z) h = refl
+  plain_free (decimal s) h = refl
   plain_free (text s) h = refl
   plain_free (bytes b) h = cc
   plain_free (list ts) h = plain_items_free ts

@@ -7,7 +7,7 @@ use Rattle.std.proofs.lemmas.Cmp.{nat_cmp_total, tied_itself}
 use Rattle.std.specs.Cmp.{nat_cmp_is}
 use Rattle.comm_value.specs.declared.path.Step.{Step}
 use Rattle.comm_value.specs.declared.path.Step.TheVariants.{Key, Index}
-use Rattle.comm_value.specs.Tree.{Tree, null, boolean, whole, text, bytes, list, dict, Items, no_items, item, Members, no_members, member}
+use Rattle.comm_value.specs.Tree.{Tree, null, boolean, whole, decimal, text, bytes, list, dict, Items, no_items, item, Members, no_members, member}
 use Rattle.comm_value.specs.Node.{Path}
 use Rattle.comm_value.specs.Order.{key_cmp, is_first, is_ordered, items_ordered, members_ordered}
 use Rattle.comm_value.specs.Part.{step_cmp, path_cmp}
@@ -92,6 +92,7 @@ mutual
   paths_in_order null o = none_sorted
   paths_in_order (boolean b) o = none_sorted
   paths_in_order (whole z) o = none_sorted
+  paths_in_order (decimal s) o = none_sorted
   paths_in_order (text s) o = none_sorted
   paths_in_order (bytes b) o = one_sorted []
   paths_in_order (list ts) o = items_in_order 0 ts o

@@ -9,7 +9,7 @@ use Rattle.std.specs.Prelude.{Option, Some, None, option_map, option_and_then}
 use Rattle.std.specs.Ordering.{is_eq}
 use Rattle.comm_value.specs.declared.path.Step.{Step}
 use Rattle.comm_value.specs.declared.path.Step.TheVariants.{Key, Index}
-use Rattle.comm_value.specs.Tree.{Tree, null, boolean, whole, text, bytes, list, dict, Items, no_items, item, Members, no_members, member}
+use Rattle.comm_value.specs.Tree.{Tree, null, boolean, whole, decimal, text, bytes, list, dict, Items, no_items, item, Members, no_members, member}
 use Rattle.comm_value.specs.Node.{Path, Shape, of_bytes, shape, node, at, child, get, get_item}
 use Rattle.comm_value.specs.Order.{key_cmp, is_first, is_ordered, items_ordered, members_ordered}
 use Rattle.comm_value.specs.Places.{IsPlace, paths, item_paths, member_paths, buffers, item_buffers, member_buffers}
@@ -67,6 +67,7 @@ mutual
   nodes null o = refl
   nodes (boolean b) o = refl
   nodes (whole z) o = refl
+  nodes (decimal s) o = refl
   nodes (text s) o = refl
   nodes (bytes b) o = refl
   nodes (list ts) o = nodes_in_list ts 0 ts (all_at ts) o
@@ -105,6 +106,7 @@ bytes_shape None b h = cc
 bytes_shape (Some null) b h = cc
 bytes_shape (Some (boolean c)) b h = cc
 bytes_shape (Some (whole z)) b h = cc
+bytes_shape (Some (decimal s)) b h = cc
 bytes_shape (Some (text s)) b h = cc
 bytes_shape (Some (bytes c)) b h = let same : c ≡ b = cc in ap (λ d. Some (bytes d)) same
 bytes_shape (Some (list ts)) b h = cc
@@ -138,8 +140,11 @@ mutual
   listed (boolean c) (Key k ∷ p) b h = absurd (none_some h)
   listed (boolean c) (Index n ∷ p) b h = absurd (none_some h)
   listed (whole z) [] b h = cc
+  listed (decimal s) [] b h = cc
   listed (whole z) (Key k ∷ p) b h = absurd (none_some h)
+  listed (decimal s) (Key k ∷ p) b h = absurd (none_some h)
   listed (whole z) (Index n ∷ p) b h = absurd (none_some h)
+  listed (decimal s) (Index n ∷ p) b h = absurd (none_some h)
   listed (text s) [] b h = cc
   listed (text s) (Key k ∷ p) b h = absurd (none_some h)
   listed (text s) (Index n ∷ p) b h = absurd (none_some h)

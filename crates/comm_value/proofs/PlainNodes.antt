@@ -5,7 +5,7 @@ use Rattle.std.specs.Prelude.{Option, Some, None, option_map, option_and_then}
 use Rattle.std.specs.Ordering.{is_eq}
 use Rattle.comm_value.specs.declared.path.Step.{Step}
 use Rattle.comm_value.specs.declared.path.Step.TheVariants.{Key, Index}
-use Rattle.comm_value.specs.Tree.{Tree, null, boolean, whole, text, bytes, list, dict, Items, no_items, item, Members, no_members, member}
+use Rattle.comm_value.specs.Tree.{Tree, null, boolean, whole, decimal, text, bytes, list, dict, Items, no_items, item, Members, no_members, member}
 use Rattle.comm_value.specs.Node.{Path, Shape, list_of, dict_with, shape, node, at, child, get, get_item, keys, count}
 use Rattle.comm_value.specs.Order.{key_cmp, is_ordered, items_ordered, members_ordered}
 use Rattle.comm_value.specs.Places.{plain, plain_item, plain_items, plain_members, is_buffer}
@@ -52,12 +52,14 @@ child_plain (Index n) (list ts) o = item_at n ts
 child_plain (Key k) null o = refl
 child_plain (Key k) (boolean b) o = refl
 child_plain (Key k) (whole z) o = refl
+child_plain (Key k) (decimal s) o = refl
 child_plain (Key k) (text s) o = refl
 child_plain (Key k) (bytes b) o = refl
 child_plain (Key k) (list ts) o = refl
 child_plain (Index n) null o = refl
 child_plain (Index n) (boolean b) o = refl
 child_plain (Index n) (whole z) o = refl
+child_plain (Index n) (decimal s) o = refl
 child_plain (Index n) (text s) o = refl
 child_plain (Index n) (bytes b) o = refl
 child_plain (Index n) (dict ms) o = refl
@@ -96,6 +98,7 @@ shape_buffer : (t : Tree) → are_bytes (Some (shape t)) ≡ is_buffer t
 shape_buffer null = refl
 shape_buffer (boolean b) = refl
 shape_buffer (whole z) = refl
+shape_buffer (decimal s) = refl
 shape_buffer (text s) = refl
 shape_buffer (bytes b) = refl
 shape_buffer (list ts) = refl
@@ -125,6 +128,7 @@ here : (t : Tree) → is_ordered t ≡ true → is_place t [] ≡ false → node
 here null o h = refl
 here (boolean b) o h = refl
 here (whole z) o h = refl
+here (decimal s) o h = refl
 here (text s) o h = refl
 here (bytes b) o h = cc
 here (list ts) o h = ap (λ n. Some (list_of n)) (count_plain ts)
@@ -157,6 +161,7 @@ last_at (Index n) (Some (bytes b)) h = refl
 last_at s (Some null) h = cc
 last_at s (Some (boolean b)) h = cc
 last_at s (Some (whole z)) h = cc
+last_at s (Some (decimal n)) h = cc
 last_at s (Some (text x)) h = cc
 last_at s (Some (list ts)) h = cc
 last_at s (Some (dict ms)) h = cc

@@ -1,9 +1,9 @@
 -- A child that was taken out leaves a place in which another can be put.
-use Rattle.std.proofs.Common.{◌≡◌, ℕ, zero, suc, List, [], ◌∷◌, set, Ordering, Less, Equal, Greater, refl, sym, ap, ◌∙◌}
+use Rattle.std.proofs.Common.{◌≡◌, ℕ, zero, suc, List, [], ◌∷◌, set, Ordering, Less, Equal, Greater, refl, ap}
 use Rattle.std.specs.Prelude.{option_map}
 use Rattle.std.specs.Ordering.{match_ordering}
 use Rattle.comm_value.specs.declared.val.Val.{Val}
-use Rattle.comm_value.specs.Tree.{Tree, Items, item, Members, no_members, member}
+use Rattle.comm_value.specs.Tree.{Tree, item, Members, no_members, member}
 use Rattle.comm_value.specs.View.{tree, items_of}
 use Rattle.comm_value.specs.Order.{key_cmp}
 use Rattle.comm_value.specs.Put.{insert, replace}

@@ -1,8 +1,9 @@
 // Values as JSON text.
 ghost use Rattle.std.specs.Prelude.{◌≡◌, [], ◌∷◌, ◌++◌, false, OnOk};
-ghost use Rattle.serde_json.specs.Data.{object};
+ghost use Rattle.json.specs.Json.{object};
 ghost use Rattle.serde_json.specs.Find.{of_integer};
-ghost use Rattle.serde_json.specs.Written.{compact_text, items_text, members_text, comma_if, number_text};
+ghost use Rattle.serde_json.specs.Written.{comma_if, number_text};
+ghost use Rattle.comm_json.specs.Text.{compact_text, items_text, members_text};
 ghost use Rattle.comm_value.specs.ToJson.{json_of, json_items, json_members};
 ghost use Rattle.comm_value.specs.View.{tree};
 
@@ -65,6 +66,7 @@ fn write_value(value: &Val, out: &mut Vec<u8>) -> Result<(), AllocError>
         Val::Bool(true) => out.extend_from_slice(b"true"),
         Val::Bool(false) => out.extend_from_slice(b"false"),
         Val::Whole(whole) => write_whole(*whole, out),
+        Val::Decimal(number) => out.extend_from_slice(number.as_str().as_bytes()),
         Val::Text(text) => write_text(text.as_str(), out),
         Val::Bytes(_) => out.extend_from_slice(b"null"),
         Val::List(items) => write_items(items, out),

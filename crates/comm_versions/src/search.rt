@@ -1,6 +1,7 @@
 //! Binary searches for an id among comms in order.
 ghost use Rattle.std.specs.Prelude.{◌≡◌, ◌<◌, ◌≤◌, ◌+◌, IfOk, IfErr, length, take, drop};
-ghost use Rattle.comm_versions.specs.Chunks.{AllIdsBelow, AllChunksFilled, IsBelowFirst, StartsWithId, IsInOrder, comms_in};
+ghost use Rattle.comm_versions.specs.Chunks.{AllIdsBelow, AllChunksFilled, IsBelowFirst, StartsWithId, IsInOrder};
+ghost use Rattle.comm_versions.specs.Chunks.{comms_in};
 
 use crate::prefixed_comm::{PrefixedComm, id_prefix};
 use comm_value::Text;

@@ -13,7 +13,7 @@ use comm_script::{
     LineFault, Request, RunFault, StockKind, append_bad, append_fault, append_reply, parse_line,
 };
 use comm_targets::Target;
-use comm_value::Text;
+use comm_value::{Numbers, Text};
 use shared_script::{
     Full, append_full, append_infos_seen, append_state_seen, full_of, register_from_stock,
 };
@@ -140,11 +140,11 @@ fn answer<M: ManagerId, T: Target, R: Wait>(
     shared: &SharedState<M, T>,
     client: &mut Client<M>,
     line: &ScriptLine,
-    room: &mut ParseArena,
+    arena: &mut ParseArena,
     said: &mut Vec<u8>,
 ) -> Result<(u64, bool), RunFault> {
-    let other = heard(&line.text, room)?;
-    match parse_line(shared.alloc, &line.text, CLIENTS, room) {
+    let other = heard(&line.text, arena)?;
+    match parse_line(shared.alloc, &line.text, CLIENTS, Numbers::Whole, arena) {
         Ok((_client, request)) => {
             shared.hear(rt, client, other);
             let before = client.seen();
@@ -166,11 +166,11 @@ fn play<M: ManagerId, T: Target, R: Wait>(
     shared: &SharedState<M, T>,
     client: &mut Client<M>,
     line: &ScriptLine,
-    room: &mut ParseArena,
+    arena: &mut ParseArena,
     transcript: &mut Transcript,
 ) -> Result<(), RunFault> {
     let mut said = Vec::new(shared.alloc);
-    let (before, changed) = answer(rt, manager, shared, client, line, room, &mut said)?;
+    let (before, changed) = answer(rt, manager, shared, client, line, arena, &mut said)?;
     transcript.note(
         shared.alloc,
         line.number,
@@ -193,9 +193,9 @@ fn play_all<M: ManagerId, T: Target, R: Wait>(
     lines: &[ScriptLine],
     transcript: &mut Transcript,
 ) -> Result<(), RunFault> {
-    let mut room = ParseArena::new(shared.alloc);
+    let mut arena = ParseArena::new(shared.alloc);
     for line in lines {
-        play(rt, manager, shared, client, line, &mut room, transcript)?;
+        play(rt, manager, shared, client, line, &mut arena, transcript)?;
         yield_now();
     }
     Ok(())

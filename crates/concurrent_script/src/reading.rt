@@ -5,8 +5,8 @@ use comm_messages::{MessageFault, client_of, fields_of, member, object_in};
 use comm_script::RunFault;
 
 /// The client that a line names by its key `hear`. What isn't the number of a client names none.
-pub(crate) fn heard(text: &[u8], room: &mut ParseArena) -> Result<Option<u8>, RunFault> {
-    let object = match object_in(text, room) {
+pub(crate) fn heard(text: &[u8], arena: &mut ParseArena) -> Result<Option<u8>, RunFault> {
+    let object = match object_in(text, arena) {
         Ok(object) => object,
         Err(MessageFault::Memory) => return Err(RunFault::Memory),
         Err(_) => return Ok(None),

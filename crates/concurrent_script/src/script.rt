@@ -3,6 +3,7 @@ use crate::limits::CLIENTS;
 use crate::transcript::Transcript;
 use comm_json::ParseArena;
 use comm_script::{RunFault, is_blank, parse_line, split_line};
+use comm_value::Numbers;
 use std::alloc::{AllocError, Global};
 use std::io::{ErrorKind, Read};
 use std::sync::Mutex;
@@ -25,7 +26,7 @@ pub struct ClientScript {
 #[derive(Drop)]
 pub struct Script {
     alloc: Global,
-    room: ParseArena,
+    arena: ParseArena,
     count: u64,
     parts: Vec<ClientScript>,
 }
@@ -41,7 +42,7 @@ impl Script {
         }
         Ok(Script {
             alloc,
-            room: ParseArena::new(alloc),
+            arena: ParseArena::new(alloc),
             count: 0,
             parts,
         })
@@ -49,7 +50,7 @@ impl Script {
 
     // The client of a line. One that can't be read is client 0's.
     fn client_of_line(&mut self, text: &[u8]) -> Result<u8, RunFault> {
-        match parse_line(self.alloc, text, CLIENTS, &mut self.room) {
+        match parse_line(self.alloc, text, CLIENTS, Numbers::Whole, &mut self.arena) {
             Ok((client, _asked)) => Ok(client),
             Err(fault) if fault.is_memory() => Err(RunFault::Memory),
             Err(_) => Ok(0),

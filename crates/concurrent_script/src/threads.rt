@@ -2,7 +2,7 @@
 use crate::player::played;
 use crate::script::ClientScript;
 use crate::shared_state::SharedState;
-use client_threads::at_work;
+use client_threads::run_workers;
 use comm_manager::{Client, Manager, ManagerId, Publisher};
 use comm_targets::Target;
 use std::sync::Wait;
@@ -31,7 +31,7 @@ pub(crate) fn play_at_once<M: ManagerId + Send + Sync, T: Target, R: Threads + W
     publisher: &mut Publisher<M>,
     clients: &mut [Client<M>],
 ) {
-    at_work(
+    run_workers(
         rt,
         publisher,
         &|place, client| played_at(rt, manager, shared, parts, place, client),

@@ -15,6 +15,7 @@ pub struct Transcript {
 }
 
 impl Transcript {
+    /// A transcript with no answer.
     pub(crate) fn new(alloc: Global) -> Transcript {
         Transcript {
             text: Vec::new(alloc),

@@ -3,7 +3,7 @@
 
 mod fixtures;
 mod load;
-mod load_error;
+mod load_fault;
 mod open_comms;
 mod report;
 mod running;

@@ -3,7 +3,7 @@ ghost use Rattle.comm_targets.specs.Meaning.{IsIdle};
 
 use crate::fixtures::{ids, keys, state};
 use crate::load::Load;
-use crate::load_error::LoadError;
+use crate::load_fault::LoadFault;
 use comm_core::Reply;
 use comm_manager::{Client, Manager, ManagerId};
 use comm_messages::Body;
@@ -15,11 +15,11 @@ use std::sync::Wait;
 const TARGET: &str = "jupyter.widget";
 
 // The data of an opening: `{"state":{..}}`.
-fn opening_data(alloc: Global, keys: &[Text]) -> Result<Body, LoadError> {
+fn opening_data(alloc: Global, keys: &[Text]) -> Result<Body, LoadFault> {
     let members = Val::Dict(state(alloc, keys)?);
     let data = Dict::new().insert(alloc, Text::copy_of(alloc, "state")?, members)?;
     if data.has_bytes() {
-        return Err(LoadError::WrongAnswer);
+        return Err(LoadFault::WrongAnswer);
     }
     Ok(Body::new(data, Buffers::none(alloc)))
 }
@@ -40,7 +40,7 @@ fn open<M: ManagerId, T: Target, R: Wait>(
     client: &mut Client<M>,
     id: &Text,
     keys: &[Text],
-) -> Result<(), LoadError> {
+) -> Result<(), LoadFault> {
     let (id, name, version) = names_of(alloc, id)?;
     let body = opening_data(alloc, keys)?;
     let answered = client.open_comm(rt, manager, id, name, Some(version), body);
@@ -52,7 +52,7 @@ fn open<M: ManagerId, T: Target, R: Wait>(
     if is_open {
         Ok(())
     } else {
-        Err(LoadError::WrongAnswer)
+        Err(LoadFault::WrongAnswer)
     }
 }
 
@@ -64,7 +64,7 @@ fn open_each<M: ManagerId, T: Target, R: Wait>(
     client: &mut Client<M>,
     ids: &[Text],
     keys: &[Text],
-) -> Result<(), LoadError> {
+) -> Result<(), LoadFault> {
     for id in ids {
         open(rt, alloc, manager, client, id, keys)?;
     }
@@ -78,14 +78,14 @@ fn register<M: ManagerId, T: Target, R: Wait>(
     manager: &Manager<M, T>,
     client: &mut Client<M>,
     target: T,
-) -> Result<(), LoadError>
+) -> Result<(), LoadFault>
     requires { IsIdle (T.means target) }
 {
     let name = Text::copy_of(alloc, TARGET)?;
     if client.register(rt, manager, name, target).is_ok() {
         Ok(())
     } else {
-        Err(LoadError::WrongAnswer)
+        Err(LoadFault::WrongAnswer)
     }
 }
 
@@ -97,7 +97,7 @@ pub(crate) fn open_comms<M: ManagerId, T: Target, R: Wait>(
     client: &mut Client<M>,
     load: &Load,
     target: T,
-) -> Result<(), LoadError>
+) -> Result<(), LoadFault>
     requires { IsIdle (T.means target) }
 {
     register(rt, alloc, manager, client, target)?;

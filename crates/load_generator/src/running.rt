@@ -3,7 +3,7 @@ ghost use Rattle.comm_manager.specs.Names.{Named};
 ghost use Rattle.comm_targets.specs.Meaning.{IsIdle};
 
 use crate::load::Load;
-use crate::load_error::LoadError;
+use crate::load_fault::LoadFault;
 use crate::open_comms::open_comms;
 use crate::report::LoadReport;
 use crate::threads::work_at_once;
@@ -47,15 +47,15 @@ fn jobs_of(alloc: Global, load: &Load) -> Result<Vec<Job>, AllocError> {
 
 // What two counted together, where neither failed.
 fn add_counts(
-    all: Result<WorkCount, LoadError>,
-    one: Result<WorkCount, LoadError>,
-) -> Result<WorkCount, LoadError> {
+    all: Result<WorkCount, LoadFault>,
+    one: Result<WorkCount, LoadFault>,
+) -> Result<WorkCount, LoadFault> {
     let all = all?;
     Ok(all.plus(one?))
 }
 
 // What all counted together; the time is the longest.
-fn count_of(jobs: Vec<Job>) -> Result<WorkCount, LoadError> {
+fn count_of(jobs: Vec<Job>) -> Result<WorkCount, LoadFault> {
     let mut all = Ok(WorkCount::NONE);
     for job in jobs {
         all = add_counts(all, job.counted.into_inner());
@@ -72,10 +72,10 @@ fn run_clients<M: ManagerId + Send + Sync, T: Target, R: Threads + Wait + Clock 
     publisher: &mut Publisher<M>,
     load: &Load,
     target: T,
-) -> Result<WorkCount, LoadError>
+) -> Result<WorkCount, LoadFault>
     requires { IsIdle (T.means target) }
 {
-    let first = clients.first_mut().ok_or(LoadError::WrongAnswer)?;
+    let first = clients.first_mut().ok_or(LoadFault::WrongAnswer)?;
     open_comms(rt, alloc, manager, first, load, target)?;
     let jobs = jobs_of(alloc, load)?;
     let signals = Signals {
@@ -88,9 +88,9 @@ fn run_clients<M: ManagerId + Send + Sync, T: Target, R: Threads + Wait + Clock 
 
 // What a load came to whose manager has ended.
 fn report_of(
-    counted: Result<WorkCount, LoadError>,
+    counted: Result<WorkCount, LoadFault>,
     ended: Result<Ended, Cause>,
-) -> Result<LoadReport, LoadError> {
+) -> Result<LoadReport, LoadFault> {
     let (history, taken, untaken) = match &ended {
         Ok(ended) => (
             ended.farewell.history.len(),
@@ -103,7 +103,7 @@ fn report_of(
     drop(ended);
     let count = counted?;
     if !is_ended {
-        return Err(LoadError::WrongAnswer);
+        return Err(LoadFault::WrongAnswer);
     }
     Ok(LoadReport {
         changes: count.changes,
@@ -122,7 +122,7 @@ fn run_over_manager<M: ManagerId + Send + Sync, T: Target, R: Threads + Wait + C
     builder: ManagerBuilder,
     load: &Load,
     target: T,
-) -> Result<LoadReport, LoadError>
+) -> Result<LoadReport, LoadFault>
     requires named { Named builder M.book M.ledgers M.queue M.limits }
     requires target { IsIdle (T.means target) }
 {
@@ -133,7 +133,7 @@ fn run_over_manager<M: ManagerId + Send + Sync, T: Target, R: Threads + Wait + C
             let counted = run_clients(rt, alloc, &manager, all, &mut publisher, load, target);
             report_of(counted, shut_down(rt, manager, clients, publisher))
         }
-        Err(fault) => Err(LoadError::from(fault)),
+        Err(fault) => Err(LoadFault::from(fault)),
     }
 }
 
@@ -143,7 +143,7 @@ pub(crate) fn run<T: Target, R: Threads + Wait + Clock + Sync>(
     alloc: Global,
     load: &Load,
     target: T,
-) -> Result<LoadReport, LoadError>
+) -> Result<LoadReport, LoadFault>
     requires { IsIdle (T.means target) }
 {
     let limits = Limits {

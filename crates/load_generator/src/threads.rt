@@ -1,6 +1,6 @@
 //! All clients at work at once.
 use crate::worker::{Job, Signals, work};
-use client_threads::at_work;
+use client_threads::run_workers;
 use comm_manager::{Client, Manager, ManagerId, Publisher};
 use comm_targets::Target;
 use std::alloc::Global;
@@ -33,7 +33,7 @@ pub(crate) fn work_at_once<M: ManagerId + Send + Sync, T: Target, R: Threads + W
     publisher: &mut Publisher<M>,
     clients: &mut [Client<M>],
 ) {
-    at_work(
+    run_workers(
         rt,
         publisher,
         &|place, client| work_at(rt, alloc, manager, jobs, signals, place, client),

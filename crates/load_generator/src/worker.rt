@@ -1,7 +1,7 @@
 //! What a thread of a client does.
 use crate::fixtures::{ids, integer, keys};
 use crate::load::{Load, ReadKind};
-use crate::load_error::LoadError;
+use crate::load_fault::LoadFault;
 use comm_core::{Reply, StateAnswer, Unavailable};
 use comm_manager::{Client, Manager, ManagerId};
 use comm_targets::Target;
@@ -37,7 +37,7 @@ pub struct Job {
     pub each: u64,
     pub ids: Vec<Text>,
     pub keys: Vec<Text>,
-    pub counted: Mutex<Result<WorkCount, LoadError>>,
+    pub counted: Mutex<Result<WorkCount, LoadFault>>,
 }
 
 /// What came of a job.
@@ -90,10 +90,10 @@ impl Job {
     }
 
     // The comm and the key of a round.
-    fn texts_at(&self, round: usize) -> Result<(&Text, &Text), LoadError> {
-        let id = self.ids.get(round).ok_or(LoadError::WrongAnswer)?;
+    fn texts_at(&self, round: usize) -> Result<(&Text, &Text), LoadFault> {
+        let id = self.ids.get(round).ok_or(LoadFault::WrongAnswer)?;
         let key = self.keys.get(round % self.keys.len().max(1));
-        Ok((id, key.ok_or(LoadError::WrongAnswer)?))
+        Ok((id, key.ok_or(LoadFault::WrongAnswer)?))
     }
 
     // The round after this one.
@@ -112,7 +112,7 @@ fn push<M: ManagerId, T: Target, R: Wait>(
     id: &Text,
     key: &Text,
     number: u64,
-) -> Result<(), LoadError> {
+) -> Result<(), LoadFault> {
     for _ in rt.forever() {
         let id = id.copy()?;
         let change = Dict::new().insert(alloc, key.copy()?, integer(number))?;
@@ -120,7 +120,7 @@ fn push<M: ManagerId, T: Target, R: Wait>(
         let is_made = match &answered {
             Ok(answered) if matches!(answered.reply, Reply::Delivered(None)) => Ok(true),
             Err(Unavailable::OutboxFull(_)) => Ok(false),
-            _ => Err(LoadError::WrongAnswer),
+            _ => Err(LoadFault::WrongAnswer),
         };
         drop(answered);
         if is_made? {
@@ -138,7 +138,7 @@ fn write<M: ManagerId, T: Target, R: Wait>(
     manager: &Manager<M, T>,
     client: &mut Client<M>,
     job: &Job,
-) -> Result<u64, LoadError> {
+) -> Result<u64, LoadFault> {
     let mut round = job.first;
     for n in 0..job.each {
         let (id, key) = job.texts_at(round)?;
@@ -160,18 +160,18 @@ fn read_state<M: ManagerId>(
     client: &mut Client<M>,
     id: &Text,
     key: &Text,
-) -> Result<u64, LoadError> {
+) -> Result<u64, LoadFault> {
     let read = client.state(id)?;
     let number = match &read.answer {
         StateAnswer::State(state) => number_in(state, key),
         StateAnswer::NoComm | StateAnswer::NoState => None,
     };
     drop(read);
-    number.ok_or(LoadError::WrongAnswer)
+    number.ok_or(LoadFault::WrongAnswer)
 }
 
 // The length of all ids.
-fn read_infos<M: ManagerId>(alloc: Global, client: &mut Client<M>) -> Result<u64, LoadError> {
+fn read_infos<M: ManagerId>(alloc: Global, client: &mut Client<M>) -> Result<u64, LoadFault> {
     let read = client.comm_info(alloc, None)?;
     let mut sum = 0u64;
     for info in read.comms.as_slice() {
@@ -187,7 +187,7 @@ fn read<M: ManagerId>(
     job: &Job,
     read: ReadKind,
     writing: &AtomicU64,
-) -> Result<WorkCount, LoadError> {
+) -> Result<WorkCount, LoadFault> {
     let mut count = WorkCount::NONE;
     let mut round = job.first;
     for _ in 0..u64::MAX {
@@ -214,7 +214,7 @@ fn write_timed<M: ManagerId, T: Target, R: Wait + Clock>(
     client: &mut Client<M>,
     job: &Job,
     signals: &Signals,
-) -> Result<WorkCount, LoadError> {
+) -> Result<WorkCount, LoadFault> {
     let done = write(rt, alloc, manager, client, job);
     let spent = signals.begun.elapsed(rt);
     let _left = signals.writing.fetch_sub(1, Ordering::AcqRel);

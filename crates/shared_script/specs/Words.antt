@@ -17,5 +17,6 @@ unavailable_line n full = numbered (codes "unavailable ") n (full_words full)
 
 -- of the entry that stands at a place of the history: its reply, and what it sends
 abbrev pub entry_lines : ℕ → Entry → List ℕ
-entry_lines place (Change client number call outcome reply outgoing) = reply_line place reply ++ out_lines outgoing (parent.Call client number)
+entry_lines place (Change client number call outcome reply outgoing) =
+    reply_line place reply ++ out_lines outgoing (parent.Call client number)
 entry_lines place End = []

@@ -11,6 +11,7 @@ use comm_core::{Limits, NewFault};
 use comm_manager::{Manager, ManagerBuilder, ManagerId, OpeningFault};
 use comm_script::{RunFault, Stock, play_script};
 use comm_targets::Target;
+use comm_value::Numbers;
 use std::alloc::Global;
 use std::io::{Read, Write};
 use std::marker::Brand;
@@ -20,27 +21,35 @@ use std::sync::Wait;
 ///
 /// What the lines of a chunk of 64 KiB say is written before the next chunk is read. A reader that was called
 /// 4,294,967,295 times without ending gives Read, and so does one that fails; a call that was interrupted is made
-/// again. NoReader comes where a client has no version to read. Whatever comes, each target that was registered is
-/// ended, after its comms, and the rest of the stock is let go.
+/// again. With `Numbers::Any` a number that isn't whole is a value too, by its text. NoReader comes where a client has
+/// no version to read. Whatever comes, each target that was registered is ended, after its comms, and the rest of the
+/// stock is let go.
+///
+/// Its frame holds a chunk: it is kept out of its caller's.
+#[inline(never)]
 pub fn run_shared_with<I: Read, O: Write, T: Target, R: Wait>(
     rt: &R,
     alloc: Global,
     reader: &mut I,
     writer: &mut O,
     limits: Limits,
+    taken: Numbers,
     stock: Vec<T>,
 ) -> Result<(), RunFault>
     requires idle { AreIdle (map T.means stock.items) }
     ensures bad_limits { IsErrOf result RunFault.BadLimits ↔ ¬ (AreAllowed limits) }
 {
     match ManagerBuilder::new(alloc, limits) {
-        Ok(builder) => run_named::<Brand, I, O, T, R>(rt, alloc, reader, writer, builder, stock),
+        Ok(builder) => run_named::<Brand, I, O, T, R>(
+            rt, alloc, reader, writer, builder, taken, stock,
+        ),
         Err(NewFault::BadLimits) => Err(RunFault::BadLimits),
         Err(NewFault::Memory) => Err(RunFault::Memory),
     }
 }
 
-/// Plays a script as [`run_shared_with`] does, over boxed targets, as kernels keep them.
+/// Plays a script as [`run_shared_with`] does, over boxed targets, as kernels keep them, and with whole numbers
+/// alone.
 pub fn run_shared<I: Read, O: Write, R: Wait>(
     rt: &R,
     alloc: Global,
@@ -52,7 +61,7 @@ pub fn run_shared<I: Read, O: Write, R: Wait>(
     requires idle { AreIdle (map (λ b. means b) stock.items) }
     ensures bad_limits { IsErrOf result RunFault.BadLimits ↔ ¬ (AreAllowed limits) }
 {
-    run_shared_with(rt, alloc, reader, writer, limits, stock)
+    run_shared_with(rt, alloc, reader, writer, limits, Numbers::Whole, stock)
 }
 
 // Plays the script over a manager that goes by these names.
@@ -62,6 +71,7 @@ fn run_named<M: ManagerId, I: Read, O: Write, T: Target, R: Wait>(
     reader: &mut I,
     writer: &mut O,
     builder: ManagerBuilder,
+    taken: Numbers,
     stock: Vec<T>,
 ) -> Result<(), RunFault>
     requires named { Named builder M.book M.ledgers M.queue M.limits }
@@ -80,7 +90,7 @@ fn run_named<M: ManagerId, I: Read, O: Write, T: Target, R: Wait>(
                 publisher,
                 sequencer,
             };
-            let played = play_over(rt, alloc, &manager, &mut session, reader, writer);
+            let played = play_over(rt, alloc, &manager, &mut session, taken, reader, writer);
             drop(session);
             manager.discard(rt);
             played
@@ -96,6 +106,7 @@ fn play_over<M: ManagerId, I: Read, O: Write, T: Target, R: Wait>(
     alloc: Global,
     manager: &Manager<M, T>,
     session: &mut SharedSession<M, T>,
+    taken: Numbers,
     reader: &mut I,
     writer: &mut O,
 ) -> Result<(), RunFault>
@@ -111,6 +122,7 @@ fn play_over<M: ManagerId, I: Read, O: Write, T: Target, R: Wait>(
         { session.execute(rt, manager, alloc, number, client, request, text) },
         alloc,
         clients,
+        taken,
         reader,
         writer,
     )

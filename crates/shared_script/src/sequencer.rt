@@ -79,7 +79,8 @@ pub fn append_state_seen<M: ManagerId>(
 ) -> Result<(), RunFault>
     ensures seen { IsPrefix client.old.seen client.new.seen }
     ensures text { OnOk result (text.new.items ≡ text.old.items
-        ++ state_line (length client.new.seen) (state_of (replay M.limits.comms client.new.seen) id.now)) }
+        ++ state_line (length client.new.seen)
+        (state_of (replay M.limits.comms client.new.seen) id.now)) }
     ensures fault { IfErr result IsBackendFault }
 {
     match client.state(id) {
@@ -117,8 +118,10 @@ impl<M: ManagerId, T: Target> Sequencer<M, T> {
         made: Result<Answered<M>, Unavailable<Stamp<M>>>,
         text: &mut Vec<u8>,
     ) -> Result<(), RunFault>
-        ensures last { MatchResult made (λ a. self.new.last ≡ Some a.stamp) (λ _. self.new.last ≡ self.old.last) }
-        ensures said { IfErr made (λ why. OnOk result (IsSaid number (full_of why) text.old.items text.new.items)) }
+        ensures last { MatchResult made (λ a. self.new.last ≡ Some a.stamp)
+            (λ _. self.new.last ≡ self.old.last) }
+        ensures said { IfErr made (λ why. OnOk result
+            (IsSaid number (full_of why) text.old.items text.new.items)) }
         ensures fault { IfErr result (λ e. e ≡ RunFault.Memory) }
     {
         match made {
@@ -147,7 +150,8 @@ impl<M: ManagerId, T: Target> Sequencer<M, T> {
     ) -> Result<(), RunFault>
         requires { HandsNothingIn call }
         ensures seen { IsPrefix client.old.seen client.new.seen }
-        ensures later { HasHeard self.old.last client.old.seen → IsLater self.old.last self.new.last }
+        ensures later { HasHeard self.old.last client.old.seen
+            → IsLater self.old.last self.new.last }
         ensures fault { IfErr result (λ e. e ≡ RunFault.Memory) }
     {
         let made = client.ask(rt, manager, call);
@@ -167,7 +171,8 @@ impl<M: ManagerId, T: Target> Sequencer<M, T> {
         text: &mut Vec<u8>,
     ) -> Result<(), RunFault>
         ensures seen { IsPrefix client.old.seen client.new.seen }
-        ensures later { HasHeard self.old.last client.old.seen → IsLater self.old.last self.new.last }
+        ensures later { HasHeard self.old.last client.old.seen
+            → IsLater self.old.last self.new.last }
         ensures fault { IfErr result (λ e. e ≡ RunFault.Memory) }
     {
         match register_from_stock(rt, manager, client, &mut self.stock, kind, name) {

@@ -3,7 +3,7 @@ ghost use Rattle.std.specs.Prelude.{IfOk};
 ghost use Rattle.comm_core.specs.Ready.{HandsNothingIn};
 
 use crate::body_words::{body_of, dict_of};
-use crate::test_error::TestError;
+use crate::test_fault::TestFault;
 use comm_core::Call;
 use comm_messages::Body;
 use comm_value::Text;
@@ -35,7 +35,7 @@ fn names_of(
     Ok((id, target, version))
 }
 
-fn open_of(alloc: Global, words: &str) -> Result<Call, TestError>
+fn open_of(alloc: Global, words: &str) -> Result<Call, TestFault>
     ensures { IfOk result HandsNothingIn }
 {
     let (id, words) = split_word(words);
@@ -57,27 +57,27 @@ fn open_of(alloc: Global, words: &str) -> Result<Call, TestError>
 }
 
 // A comm's id, and a body.
-fn id_and_body_of(alloc: Global, words: &str) -> Result<(Text, Body), TestError> {
+fn id_and_body_of(alloc: Global, words: &str) -> Result<(Text, Body), TestFault> {
     let (id, words) = split_word(words);
     let id = Text::copy_of(alloc, id)?;
     let body = body_of(alloc, words)?;
     Ok((id, body))
 }
 
-fn launch_of(alloc: Global, words: &str) -> Result<Call, TestError>
+fn launch_of(alloc: Global, words: &str) -> Result<Call, TestFault>
     ensures { IfOk result HandsNothingIn }
 {
     let (uuid, words) = split_word(words);
     let (target, json) = split_word(words);
     let Ok(id) = Uuid::parse_str(uuid) else {
-        return Err(TestError("no UUID"));
+        return Err(TestFault("no UUID"));
     };
     let target = Text::copy_of(alloc, target)?;
     let state = dict_of(alloc, json)?;
     Ok(Call::Launch { id, target, state })
 }
 
-fn push_of(alloc: Global, words: &str) -> Result<Call, TestError>
+fn push_of(alloc: Global, words: &str) -> Result<Call, TestFault>
     ensures { IfOk result HandsNothingIn }
 {
     let (id, json) = split_word(words);
@@ -87,7 +87,7 @@ fn push_of(alloc: Global, words: &str) -> Result<Call, TestError>
 }
 
 // A call that has a body or a state.
-fn full_call(alloc: Global, kind: &str, words: &str) -> Result<Call, TestError>
+fn full_call(alloc: Global, kind: &str, words: &str) -> Result<Call, TestFault>
     ensures { IfOk result HandsNothingIn }
 {
     if kind == "open" {
@@ -103,7 +103,7 @@ fn full_call(alloc: Global, kind: &str, words: &str) -> Result<Call, TestError>
     } else if kind == "push" {
         push_of(alloc, words)
     } else {
-        Err(TestError("no call"))
+        Err(TestFault("no call"))
     }
 }
 
@@ -112,7 +112,7 @@ fn full_call(alloc: Global, kind: &str, words: &str) -> Result<Call, TestError>
 ///
 /// `open ID TARGET VERSION DATA BUFFER..`, `msg ID DATA BUFFER..`, `send ID DATA BUFFER..`, `close ID`, `hang_up ID`,
 /// `unregister NAME`, `launch UUID NAME STATE`, `push ID STATE`
-pub fn call_of(alloc: Global, line: &str) -> Result<Call, TestError>
+pub fn call_of(alloc: Global, line: &str) -> Result<Call, TestFault>
     ensures { IfOk result HandsNothingIn }
 {
     let (kind, words) = split_word(line);

@@ -1,6 +1,6 @@
 //! Tables of texts.
 use crate::comparison::expect_text;
-use crate::test_error::TestError;
+use crate::test_fault::TestFault;
 use std::alloc::Global;
 use std::io::Eprint;
 
@@ -15,10 +15,10 @@ pub struct Case {
 /// What the lines of a table are tried on, each by itself.
 pub trait Subject {
     /// Appends what comes of a line.
-    fn answer(&self, alloc: Global, line: &str, text: &mut Vec<u8>) -> Result<(), TestError>;
+    fn answer(&self, alloc: Global, line: &str, text: &mut Vec<u8>) -> Result<(), TestFault>;
 }
 
-fn answers_to<S: Subject>(alloc: Global, subject: &S, lines: &str) -> Result<Vec<u8>, TestError> {
+fn answers_to<S: Subject>(alloc: Global, subject: &S, lines: &str) -> Result<Vec<u8>, TestFault> {
     let mut text = Vec::new(alloc);
     for line in lines.lines() {
         subject.answer(alloc, line, &mut text)?;
@@ -28,10 +28,10 @@ fn answers_to<S: Subject>(alloc: Global, subject: &S, lines: &str) -> Result<Vec
 
 /// Whether a case came to the text that is wanted. Another text, or why there is none, is printed to standard error
 /// behind the case's name.
-pub fn is_expected<E: Eprint>(rt: &E, case: &Case, came: Result<Vec<u8>, TestError>) -> bool {
+pub fn is_expected<E: Eprint>(rt: &E, case: &Case, came: Result<Vec<u8>, TestFault>) -> bool {
     match came {
         Ok(text) => expect_text(rt, case.name, &text, case.want.as_bytes()).is_ok(),
-        Err(TestError(what)) => {
+        Err(TestFault(what)) => {
             let name = case.name;
             let _is_printed = eprintln!(rt; "{name}: {what}");
             false
@@ -45,7 +45,7 @@ pub fn run_cases<E: Eprint, S: Subject>(
     alloc: Global,
     subject: &S,
     cases: &[Case],
-) -> Result<(), TestError> {
+) -> Result<(), TestFault> {
     let mut all = true;
     for case in cases {
         let is = is_expected(rt, case, answers_to(alloc, subject, case.lines));
@@ -54,6 +54,6 @@ pub fn run_cases<E: Eprint, S: Subject>(
     if all {
         Ok(())
     } else {
-        Err(TestError("a case differs"))
+        Err(TestFault("a case differs"))
     }
 }

@@ -1,5 +1,5 @@
 //! How a case of a table fails.
-use crate::test_error::TestError;
+use crate::test_fault::TestFault;
 use std::io::Eprint;
 
 fn print_difference<R: Eprint>(rt: &R, name: &str, line: usize, came: &str, wanted: &str) {
@@ -38,7 +38,7 @@ pub fn expect_text<R: Eprint>(
     name: &str,
     got: &[u8],
     want: &[u8],
-) -> Result<(), TestError> {
+) -> Result<(), TestFault> {
     if got == want {
         return Ok(());
     }
@@ -52,5 +52,5 @@ pub fn expect_text<R: Eprint>(
             "a text, or the other way round",
         ),
     }
-    Err(TestError("a text differs"))
+    Err(TestFault("a text differs"))
 }

@@ -8,7 +8,7 @@ use crate::call_log::CallLog;
 use crate::call_words::{call_of, split_word};
 use crate::entry_text::{append_entry, append_row};
 use crate::reply_text::append_answer;
-use crate::test_error::{TestError, holds};
+use crate::test_fault::{TestFault, holds};
 use crate::value_text::append_words;
 use comm_core::{Core, Entry, Finished, Limits, Outgoings, Ready, Reply, Row};
 use comm_messages::{Outgoing, Parent};
@@ -30,17 +30,17 @@ pub struct CorePlayer<T: Target> {
 }
 
 impl<T: Target> CorePlayer<T> {
-    fn next_target(&mut self) -> Result<T, TestError>
+    fn next_target(&mut self) -> Result<T, TestFault>
         ensures { IfOk result (λ t. IsIdle (T.means t)) }
     {
         if self.stock.is_empty() {
-            return Err(TestError("no target is left"));
+            return Err(TestFault("no target is left"));
         }
         let target = self.stock.remove(0);
         if target.idle() {
             Ok(target)
         } else {
-            Err(TestError("a target isn't idle"))
+            Err(TestFault("a target isn't idle"))
         }
     }
 
@@ -51,7 +51,7 @@ impl<T: Target> CorePlayer<T> {
         reply: &Reply,
         outgoing: &[Outgoing],
         text: &mut Vec<u8>,
-    ) -> Result<(), TestError> {
+    ) -> Result<(), TestFault> {
         self.answered = self.answered.saturating_add(1);
         let parent = Parent::Call {
             client: 0,
@@ -81,7 +81,7 @@ fn prepare_change<T: Target>(
     core: &mut Core<T>,
     player: &mut CorePlayer<T>,
     line: &str,
-) -> Result<Ready<T>, TestError>
+) -> Result<Ready<T>, TestFault>
     requires settled { core.old.settled ≡ true }
     ensures ready { IfOk result (λ r. IsReady core.new r) }
     ensures settled { OnErr result (core.new.settled ≡ true) }
@@ -95,7 +95,7 @@ fn prepare_change<T: Target>(
     let target = player.next_target()?;
     match core.begin_register(name, target) {
         Ok(ready) => Ok(ready),
-        Err(_) => Err(TestError("no memory where none is refused")),
+        Err(_) => Err(TestFault("no memory where none is refused")),
     }
 }
 
@@ -121,7 +121,7 @@ fn append_change<T: Target>(
     player: &mut CorePlayer<T>,
     given: (Reply, Vec<Outgoing>),
     text: &mut Vec<u8>,
-) -> Result<(), TestError> {
+) -> Result<(), TestFault> {
     let (reply, outgoing) = given;
     let done = player.append_next(alloc, &reply, &outgoing, text);
     drop(reply);
@@ -135,7 +135,7 @@ fn step<T: Target>(
     player: &mut CorePlayer<T>,
     line: &str,
     text: &mut Vec<u8>,
-) -> Result<(), TestError>
+) -> Result<(), TestFault>
     requires settled { core.old.settled ≡ true }
     ensures { core.new.settled ≡ true }
 {
@@ -150,14 +150,14 @@ fn register<T: Target>(
     player: &mut CorePlayer<T>,
     name: &str,
     text: &mut Vec<u8>,
-) -> Result<(), TestError>
+) -> Result<(), TestFault>
     requires settled { core.old.settled ≡ true }
     ensures { core.new.settled ≡ true }
 {
     let name = Text::copy_of(alloc, name)?;
     let target = player.next_target()?;
     let Ok(given) = core.register(name, target) else {
-        return Err(TestError("no memory where none is refused"));
+        return Err(TestFault("no memory where none is refused"));
     };
     append_change(alloc, player, given, text)
 }
@@ -169,7 +169,7 @@ fn withdraw<T: Target>(
     player: &mut CorePlayer<T>,
     line: &str,
     text: &mut Vec<u8>,
-) -> Result<(), TestError>
+) -> Result<(), TestFault>
     requires settled { core.old.settled ≡ true }
     ensures { core.new.settled ≡ true }
 {
@@ -196,7 +196,7 @@ fn append_entry_and_row(
     entry: Result<Arc<Entry, Global>, AllocError>,
     row: Result<Row, AllocError>,
     text: &mut Vec<u8>,
-) -> Result<(), TestError> {
+) -> Result<(), TestFault> {
     let done = match (&entry, &row) {
         (Ok(entry), Ok(row)) => append_both(alloc, entry, row, text),
         _ => Err(AllocError),
@@ -213,7 +213,7 @@ fn tell<T: Target>(
     player: &mut CorePlayer<T>,
     line: &str,
     text: &mut Vec<u8>,
-) -> Result<(), TestError>
+) -> Result<(), TestFault>
     requires settled { core.old.settled ≡ true }
     ensures { core.new.settled ≡ true }
 {
@@ -226,7 +226,7 @@ fn tell<T: Target>(
 }
 
 // Prepares a call that is spent, and withdraws it.
-fn withdraw_spent<T: Target>(alloc: Global, core: &mut Core<T>, line: &str) -> Result<(), TestError>
+fn withdraw_spent<T: Target>(alloc: Global, core: &mut Core<T>, line: &str) -> Result<(), TestFault>
     requires settled { core.old.settled ≡ true }
     ensures { core.new.settled ≡ true }
 {
@@ -241,7 +241,7 @@ fn spend<T: Target>(
     core: &mut Core<T>,
     line: &str,
     text: &mut Vec<u8>,
-) -> Result<(), TestError>
+) -> Result<(), TestFault>
     requires settled { core.old.settled ≡ true }
     ensures { core.new.settled ≡ true }
 {
@@ -261,7 +261,7 @@ fn read_state<T: Target>(
     front: u64,
     id: &str,
     text: &mut Vec<u8>,
-) -> Result<(), TestError> {
+) -> Result<(), TestFault> {
     let id = Text::copy_of(alloc, id)?;
     let state = core.state(&id)?;
     let done = append_state_line(alloc, front, &state, text);
@@ -276,7 +276,7 @@ fn read_comms<T: Target>(
     front: u64,
     line: &str,
     text: &mut Vec<u8>,
-) -> Result<(), TestError>
+) -> Result<(), TestFault>
     requires settled { core.old.settled ≡ true }
     ensures { core.new.settled ≡ true }
 {
@@ -310,7 +310,7 @@ fn append_end(
     ended: usize,
     log: &CallLog,
     text: &mut Vec<u8>,
-) -> Result<(), TestError> {
+) -> Result<(), TestFault> {
     let line = format!(in alloc; "stopped {ended}\n")?;
     text.extend_from_slice(line.as_bytes())?;
     Ok(append_log(log, text)?)
@@ -323,7 +323,7 @@ fn play_line<T: Target>(
     player: &mut CorePlayer<T>,
     line: &str,
     text: &mut Vec<u8>,
-) -> Result<(), TestError>
+) -> Result<(), TestFault>
     requires settled { core.old.settled ≡ true }
     ensures { core.new.settled ≡ true }
 {
@@ -354,7 +354,7 @@ fn play_lines<T: Target>(
     player: &mut CorePlayer<T>,
     lines: &str,
     text: &mut Vec<u8>,
-) -> Result<(), TestError>
+) -> Result<(), TestFault>
     requires settled { core.old.settled ≡ true }
     ensures { core.new.settled ≡ true }
 {
@@ -377,7 +377,7 @@ pub fn play_over_core<T: Target>(
     comms: usize,
     mut player: CorePlayer<T>,
     lines: &str,
-) -> Result<Vec<u8>, TestError> {
+) -> Result<Vec<u8>, TestFault> {
     let limits = Limits {
         clients: 4,
         comms,

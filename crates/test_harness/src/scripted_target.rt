@@ -28,7 +28,8 @@ pub struct ScriptedTarget {
 impl ScriptedTarget {
     /// One that notes nothing.
     pub fn new(alloc: Global) -> ScriptedTarget
-        ensures { ⟦<ScriptedTarget as Target>⟧.means result ≡ record { kind = Kind.Free; notes = 0; ids = []; staged = None } }
+        ensures { ⟦<ScriptedTarget as Target>⟧.means result
+            ≡ record { kind = Kind.Free; notes = 0; ids = []; staged = None } }
     {
         ScriptedTarget {
             alloc,
@@ -40,7 +41,8 @@ impl ScriptedTarget {
 
     /// One that notes its calls, each behind `whose`, which may be empty.
     pub fn with_log(alloc: Global, whose: &'static str, log: CallLog) -> ScriptedTarget
-        ensures { ⟦<ScriptedTarget as Target>⟧.means result ≡ record { kind = Kind.Free; notes = 0; ids = []; staged = None } }
+        ensures { ⟦<ScriptedTarget as Target>⟧.means result
+            ≡ record { kind = Kind.Free; notes = 0; ids = []; staged = None } }
     {
         ScriptedTarget {
             alloc,

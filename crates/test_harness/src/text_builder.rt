@@ -37,7 +37,8 @@ impl TextBuilder {
 
     /// Appends words.
     pub fn push(&mut self, words: &str)
-        ensures appended { self.new.is_whole ≡ true → self.new.text.items ≡ self.old.text.items ++ words.now }
+        ensures appended { self.new.is_whole ≡ true
+            → self.new.text.items ≡ self.old.text.items ++ words.now }
         ensures kept { self.new.is_whole ≡ true → self.old.is_whole ≡ true }
     {
         self.push_bytes(words.as_bytes());
@@ -45,7 +46,8 @@ impl TextBuilder {
 
     /// Appends bytes.
     pub fn push_bytes(&mut self, bytes: &[u8])
-        ensures appended { self.new.is_whole ≡ true → self.new.text.items ≡ self.old.text.items ++ bytes.now }
+        ensures appended { self.new.is_whole ≡ true
+            → self.new.text.items ≡ self.old.text.items ++ bytes.now }
         ensures kept { self.new.is_whole ≡ true → self.old.is_whole ≡ true }
     {
         let done = self.text.extend_from_slice(bytes);

@@ -3,11 +3,12 @@ use std::hint::spin_loop;
 use std::sync::atomic::{AtomicU64, Ordering};
 use std::thread::yield_now;
 
-/// A wait ends after so many turns, in each of which it looks so often before others have theirs: some seconds in all
+/// A wait ends after so many turns, before each of which but the first other threads have theirs: some seconds in all
 /// where nobody else has work.
-const TURNS: u32 = 5_000;
+const MAX_YIELDS: u32 = 5_000;
 
-const LOOKS: u32 = 20_000;
+/// How often a flag is looked at in one turn.
+const MAX_SPINS: u32 = 20_000;
 
 /// Flags, by numbers below 64, which are set once; how many targets waited for one in vain; and how many ended.
 #[derive(Drop)]
@@ -41,7 +42,7 @@ impl Flags {
 
     // Whether it is set within one turn.
     fn is_seen(&self, number: u64) -> bool {
-        for _ in 0..LOOKS {
+        for _ in 0..MAX_SPINS {
             if self.is_set(number) {
                 return true;
             }
@@ -52,7 +53,7 @@ impl Flags {
 
     /// Waits until it is set, which it says, or for as many turns as it may.
     pub(crate) fn wait(&self, number: u64) -> bool {
-        for _ in 0..TURNS {
+        for _ in 0..MAX_YIELDS {
             if self.is_seen(number) {
                 return true;
             }

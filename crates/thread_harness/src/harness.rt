@@ -18,7 +18,7 @@ use std::marker::Brand;
 use std::slice::from_mut;
 use std::sync::Wait;
 use std::thread::Threads;
-use test_harness::TestError;
+use test_harness::TestFault;
 
 // What the clients do before the manager ends.
 fn play_texts<M: ManagerId + Send + Sync, T: Target, R: Threads + Wait + Sync>(
@@ -75,10 +75,10 @@ fn shut<M: ManagerId, T: Target, R: Wait>(
     manager: Manager<M, T>,
     clients: Vec<Client<M>>,
     publisher: Publisher<M>,
-) -> Result<Farewell, TestError> {
+) -> Result<Farewell, TestFault> {
     match shut_down(rt, manager, clients, publisher) {
         Ok(ended) => Ok(ended.farewell),
-        Err(_) => Err(TestError("a shutdown is refused")),
+        Err(_) => Err(TestFault("a shutdown is refused")),
     }
 }
 
@@ -87,7 +87,7 @@ fn shut_again<M: ManagerId, T: Target, R: Wait>(
     rt: &R,
     refused: ShutdownRefused<M, T>,
     last: Client<M>,
-) -> Result<Farewell, TestError> {
+) -> Result<Farewell, TestFault> {
     let ShutdownRefused {
         cause,
         manager,
@@ -99,7 +99,7 @@ fn shut_again<M: ManagerId, T: Target, R: Wait>(
     if is_whole && cause == Cause::MissingClients {
         farewell
     } else {
-        Err(TestError("a shutdown is refused for another cause"))
+        Err(TestFault("a shutdown is refused for another cause"))
     }
 }
 
@@ -109,14 +109,14 @@ fn shut_twice<M: ManagerId, T: Target, R: Wait>(
     manager: Manager<M, T>,
     clients: Vec<Client<M>>,
     publisher: Publisher<M>,
-) -> Result<Farewell, TestError> {
+) -> Result<Farewell, TestFault> {
     let mut clients = clients;
     let Some(last) = clients.pop() else {
         manager.discard(rt);
-        return Err(TestError("no client"));
+        return Err(TestFault("no client"));
     };
     match manager.shutdown(rt, clients, publisher) {
-        Ok(_) => Err(TestError("a shutdown goes without a client")),
+        Ok(_) => Err(TestFault("a shutdown goes without a client")),
         Err(refused) => shut_again(rt, refused, last),
     }
 }
@@ -176,7 +176,7 @@ fn end_manager<M: ManagerId, T: Target, R: Wait>(
     };
     match ended {
         Ok(farewell) => Some(farewell),
-        Err(TestError(why)) => {
+        Err(TestFault(why)) => {
             reports.wrong.push(why);
             reports.wrong.push("\n");
             None
@@ -191,11 +191,11 @@ fn play_over_manager<M: ManagerId + Send + Sync, T: Target, R: Threads + Wait + 
     scenario: &Scenario,
     targets: &mut Vec<T>,
     flags: &Flags,
-) -> Result<(Reports, Option<Farewell>), TestError>
+) -> Result<(Reports, Option<Farewell>), TestFault>
     requires { Named builder M.book M.ledgers M.queue M.limits }
 {
     let Ok((manager, mut clients, mut publisher)) = Manager::<M, T>::open(rt, alloc, builder) else {
-        return Err(TestError("no manager"));
+        return Err(TestFault("no manager"));
     };
     let mut reports = play_texts(
         rt,
@@ -229,10 +229,10 @@ pub fn play_scenario<T: Target, R: Threads + Wait + Sync>(
     targets: Vec<T>,
     fresh: Vec<T>,
     flags: &Flags,
-) -> Result<Judgement, TestError> {
+) -> Result<Judgement, TestFault> {
     let mut targets = targets;
     let Ok(builder) = ManagerBuilder::new(alloc, scenario.limits()) else {
-        return Err(TestError("no builder"));
+        return Err(TestFault("no builder"));
     };
     let (reports, farewell) = play_over_manager::<Brand, T, R>(
         rt,

@@ -8,7 +8,7 @@ use crate::scenario::Scenario;
 use comm_manager::Farewell;
 use comm_targets::Target;
 use std::alloc::{AllocError, Global};
-use test_harness::{TestError, TextBuilder};
+use test_harness::{TestFault, TextBuilder};
 
 /// What came of a scenario.
 #[derive(Drop)]
@@ -102,7 +102,7 @@ fn judge_sums(sums: &[u8], wanted: &str, wrong: &mut TextBuilder) {
 
 // A manager of one thread answers the history's calls as the clients were, and leaves as many targets.
 fn judge_replay<T: Target>(
-    replayed: &Result<Replay<T>, TestError>,
+    replayed: &Result<Replay<T>, TestFault>,
     text: &HistoryText,
     left: usize,
     sums: &mut TextBuilder,
@@ -117,7 +117,7 @@ fn judge_replay<T: Target>(
             note(is_same, "a manager of one thread answers otherwise", wrong);
             push_sum("most", replay.most as u64, sums);
         }
-        Err(TestError(why)) => note(false, why, wrong),
+        Err(TestFault(why)) => note(false, why, wrong),
     }
 }
 
@@ -164,7 +164,7 @@ pub(crate) fn judge_run<T: Target>(
     left: usize,
     fresh: Vec<T>,
     flags: &Flags,
-) -> Result<Judgement, TestError> {
+) -> Result<Judgement, TestFault> {
     let mut wrong = TextBuilder::new(alloc);
     let mut sums = TextBuilder::new(alloc);
     judge_reports(&reports, flags, &mut wrong);

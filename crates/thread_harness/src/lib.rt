@@ -11,7 +11,7 @@
 //!
 //! | Line | Asks for | Answer |
 //! |---|---|---|
-//! | `C CALL` (a line of `call_of`), `C ask CALL` | a change of the client C, by its own function or by `ask` | the words of the reply, or `history_full N`, `outbox_full N`, `no_memory` |
+//! | `C CALL`, `C ask CALL` | a change of the client C, by its own function or by `ask` | the words of the reply |
 //! | `C register NAME` | the next target is registered | the same |
 //! | `C refusing N LINE` | what `C LINE` asks for, while the heap is asked to refuse the allocation N | the same |
 //! | `C infos`, `C infos NAME` | which comms are open | `infos FRONT ID TARGET ..`, or `no_version` |
@@ -20,10 +20,14 @@
 //! | `C hear` | hears the last stamp that the same text had, by a change or a full history | `heard N` |
 //! | `C seen`, `C id` | how much it has seen, its number | `seen N`, `id N` |
 //! | `C keeps_up` | a read, which is at no front before what was taken | `keeps_up`, or what it read |
-//! | `take`, `whole` | the next entry; with what goes out | `took C K` (of client C the change K), `took end` or `none`; the lines of `append_outs` |
+//! | `take`, `whole` | the next entry; with what goes out | `took C K`, `took end` or `none`; then the messages |
 //! | `taken` | how many were taken | `taken N` |
-//! | `set F`, `wait F`, `is_set F` | flags that threads and targets share; a wait ends after some seconds | nothing; `set` or `late`; `set` or `unset` |
+//! | `set F`, `wait F`, `is_set F` | flags of threads and targets | nothing; `set` or `late`; `set` or `unset` |
 //! | `yield` | other threads have their turn | that of the line before |
+//!
+//! A CALL is a line of `call_of`. A change that isn't made is answered `history_full N`, `outbox_full N` or
+//! `no_memory`; an entry that is taken is change K of client C, and its messages are the lines of `append_outs`. A
+//! wait ends after some seconds.
 //!
 //! A line ends in ` => ` and the answers that may come, with ` | ` between them, of which one that ends in `*` stands
 //! for all that begin so. After ` ~ ` stand answers at which it is asked again. A line that begins with `after WORDS:

@@ -7,7 +7,7 @@ use comm_targets::Target;
 use comm_value::Text;
 use std::alloc::Global;
 use std::sync::Arc;
-use test_harness::{TestError, TextBuilder, append_answer};
+use test_harness::{TestFault, TextBuilder, append_answer};
 
 /// What came of it: the replies and the messages, how many comms were open at most after a call, and the targets that
 /// aren't registered.
@@ -23,20 +23,20 @@ fn register<T: Target>(
     core: &mut Core<T>,
     name: &Text,
     targets: &mut Vec<T>,
-) -> Result<(Reply, Vec<Outgoing>), TestError>
+) -> Result<(Reply, Vec<Outgoing>), TestFault>
     requires { core.old.settled ≡ true }
     ensures { core.new.settled ≡ true }
 {
     let name = name.copy()?;
-    let target = targets.pop().ok_or(TestError("no target is left"))?;
+    let target = targets.pop().ok_or(TestFault("no target is left"))?;
     if !target.idle() {
-        return Err(TestError("a target isn't idle"));
+        return Err(TestFault("a target isn't idle"));
     }
     match core.register(name, target) {
         Ok(answered) => Ok(answered),
         Err((_, target)) => {
             drop(target);
-            Err(TestError("no memory"))
+            Err(TestFault("no memory"))
         }
     }
 }
@@ -47,7 +47,7 @@ fn step<T: Target>(
     core: &mut Core<T>,
     call: &Call,
     targets: &mut Vec<T>,
-) -> Result<(Reply, Vec<Outgoing>), TestError>
+) -> Result<(Reply, Vec<Outgoing>), TestFault>
     requires { core.old.settled ≡ true }
     ensures { core.new.settled ≡ true }
 {
@@ -67,7 +67,7 @@ fn play_entry<T: Target>(
     place: u64,
     entry: &Entry,
     replay: &mut Replay<T>,
-) -> Result<(), TestError>
+) -> Result<(), TestFault>
     requires { core.old.settled ≡ true }
     ensures { core.new.settled ≡ true }
 {
@@ -99,7 +99,7 @@ fn play_entries<T: Target>(
     core: &mut Core<T>,
     history: &[Arc<Entry, Global>],
     replay: &mut Replay<T>,
-) -> Result<(), TestError>
+) -> Result<(), TestFault>
     requires { core.old.settled ≡ true }
     ensures { core.new.settled ≡ true }
 {
@@ -116,14 +116,14 @@ pub(crate) fn replay_history<T: Target>(
     limits: Limits,
     history: &[Arc<Entry, Global>],
     targets: Vec<T>,
-) -> Result<Replay<T>, TestError> {
+) -> Result<Replay<T>, TestFault> {
     let mut replay = Replay {
         whole: TextBuilder::new(alloc),
         most: 0,
         targets,
     };
     let Ok(mut core) = Core::new(alloc, limits) else {
-        return Err(TestError("no manager of one thread"));
+        return Err(TestFault("no manager of one thread"));
     };
     let done = play_entries(alloc, &mut core, history, &mut replay);
     let _ended = core.stop_all();

@@ -1,6 +1,6 @@
 -- What a message tells of a state has no bytes in it, and a state without bytes is told as it is.
 use Rattle.std.proofs.Common.{◌≡◌, ℕ, suc, Bool, true, false, ◌||◌, List, [], ◌∷◌, map, refl, ap, true≢false}
-use Rattle.comm_value.specs.Tree.{Tree, null, boolean, whole, text, bytes, list, dict, Items, no_items, item, Members, no_members, member}
+use Rattle.comm_value.specs.Tree.{Tree, null, boolean, whole, decimal, text, bytes, list, dict, Items, no_items, item, Members, no_members, member}
 use Rattle.comm_value.specs.Node.{Path}
 use Rattle.comm_value.specs.Paths.{paths_tree, path_tree, step_tree, items_from}
 use Rattle.comm_value.specs.Places.{has_bytes, items_have_bytes, members_have_bytes, plain, plain_items, plain_members, paths, item_paths, member_paths, buffers, item_buffers, member_buffers}
@@ -13,6 +13,7 @@ mutual
   plain_items_free (item null ts) = plain_items_free ts
   plain_items_free (item (boolean b) ts) = plain_items_free ts
   plain_items_free (item (whole z) ts) = plain_items_free ts
+  plain_items_free (item (decimal s) ts) = plain_items_free ts
   plain_items_free (item (text s) ts) = plain_items_free ts
   plain_items_free (item (bytes b) ts) = plain_items_free ts
   plain_items_free (item (list is) ts) = rw (plain_items_free is) (plain_items_free ts)
@@ -23,6 +24,7 @@ mutual
   plain_members_free (member k null ms) = plain_members_free ms
   plain_members_free (member k (boolean b) ms) = plain_members_free ms
   plain_members_free (member k (whole z) ms) = plain_members_free ms
+  plain_members_free (member k (decimal s) ms) = plain_members_free ms
   plain_members_free (member k (text s) ms) = plain_members_free ms
   plain_members_free (member k (bytes b) ms) = plain_members_free ms
   plain_members_free (member k (list is) ms) = rw (plain_items_free is) (plain_members_free ms)
@@ -55,6 +57,7 @@ mutual
   plain_same null h = refl
   plain_same (boolean b) h = refl
   plain_same (whole z) h = refl
+  plain_same (decimal s) h = refl
   plain_same (text s) h = refl
   plain_same (bytes b) h = refl
   plain_same (list ts) h = ap list (items_same ts h)
@@ -66,6 +69,7 @@ mutual
   items_same (item null ts) h = ap (item null) (items_same ts h)
   items_same (item (boolean b) ts) h = ap (item (boolean b)) (items_same ts h)
   items_same (item (whole z) ts) h = ap (item (whole z)) (items_same ts h)
+  items_same (item (decimal s) ts) h = ap (item (decimal s)) (items_same ts h)
   items_same (item (text s) ts) h = ap (item (text s)) (items_same ts h)
   items_same (item (list is) ts) h = let p = neither (items_have_bytes is) (items_have_bytes ts) h in rw (items_same is p.0, items_same ts p.1) refl
   items_same (item (dict ms) ts) h = let p = neither (members_have_bytes ms) (items_have_bytes ts) h in rw (members_same ms p.0, items_same ts p.1) refl
@@ -76,6 +80,7 @@ mutual
   members_same (member k null ms) h = ap (member k null) (members_same ms h)
   members_same (member k (boolean b) ms) h = ap (member k (boolean b)) (members_same ms h)
   members_same (member k (whole z) ms) h = ap (member k (whole z)) (members_same ms h)
+  members_same (member k (decimal s) ms) h = ap (member k (decimal s)) (members_same ms h)
   members_same (member k (text s) ms) h = ap (member k (text s)) (members_same ms h)
   members_same (member k (list is) ms) h = let p = neither (items_have_bytes is) (members_have_bytes ms) h in rw (items_same is p.0, members_same ms p.1) refl
   members_same (member k (dict us) ms) h = let p = neither (members_have_bytes us) (members_have_bytes ms) h in rw (members_same us p.0, members_same ms p.1) refl
@@ -85,6 +90,7 @@ mutual
   paths_none null h = refl
   paths_none (boolean b) h = refl
   paths_none (whole z) h = refl
+  paths_none (decimal s) h = refl
   paths_none (text s) h = refl
   paths_none (bytes b) h = absurd (true≢false h)
   paths_none (list ts) h = item_paths_none 0 ts h
@@ -107,6 +113,7 @@ mutual
   buffers_none null h = refl
   buffers_none (boolean b) h = refl
   buffers_none (whole z) h = refl
+  buffers_none (decimal s) h = refl
   buffers_none (text s) h = refl
   buffers_none (bytes b) h = absurd (true≢false h)
   buffers_none (list ts) h = item_buffers_none ts h

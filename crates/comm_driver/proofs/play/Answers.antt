@@ -7,6 +7,7 @@ use Rattle.comm_targets.specs.declared.kind.Kind.TheVariants.{Echo, Counter, Wid
 use Rattle.comm_core.specs.Machine.{Registered}
 use Rattle.comm_core.specs.Tables.{registered_of}
 use Rattle.comm_script.specs.Stock.{shelved}
+use Rattle.comm_value.specs.declared.from_json.Numbers.TheVariants.{Whole}
 use Rattle.comm_script.specs.Played.{played}
 use Rattle.comm_script.specs.declared.fault.RunFault.{RunFault}
 use Rattle.comm_driver.specs.Program.{program_limits, program_stock, new_target}
@@ -28,8 +29,8 @@ one_more means old new t before kind grown is held =
     ap (λ l. shelved (map means l)) grown ∙ shelved_more means old t ∙ ap (λ l. l ++ registered_of (means t) ∷ []) held ∙ ap (λ r. before ++ r ∷ []) is
 
 with_stock : (r : Result ⊤ RunFault) (left before now : Option (List ℕ)) (stock : List Registered) → stock ≡ program_stock
-    → OnOk r (IfSome left (λ input. Appends before now (played program_limits stock input))) → OnOk r (IfSome left (λ input. Appends before now (played program_limits program_stock input)))
-with_stock r left before now stock is h = subst (λ (s : List Registered). OnOk r (IfSome left (λ input. Appends before now (played program_limits s input)))) is h
+    → OnOk r (IfSome left (λ input. Appends before now (played Whole program_limits stock input))) → OnOk r (IfSome left (λ input. Appends before now (played Whole program_limits program_stock input)))
+with_stock r left before now stock is h = subst (λ (s : List Registered). OnOk r (IfSome left (λ input. Appends before now (played Whole program_limits s input)))) is h
 
 -- what a box tells of itself is what its target tells
 pub returns-in-OneThread-clause-one_thread : goal.returns-in-OneThread-clause-one_thread

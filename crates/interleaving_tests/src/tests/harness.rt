@@ -4,7 +4,7 @@ use std::alloc::Global;
 use std::io::Eprint;
 use std::sync::{Arc, Wait};
 use std::thread::Threads;
-use test_harness::{TestError, expect_text};
+use test_harness::{TestFault, expect_text};
 use thread_harness::{Flags, Judgement, Scenario, TestTarget, play_scenario, targets_of};
 
 /// Plays a scenario with these targets, and gives the history's replies and messages.
@@ -15,7 +15,7 @@ pub(super) fn play_with<T: Target, R: Threads + Wait + Sync + Eprint>(
     targets: Vec<T>,
     fresh: Vec<T>,
     flags: &Flags,
-) -> Result<Vec<u8>, TestError> {
+) -> Result<Vec<u8>, TestFault> {
     let Judgement { wrong, history } = play_scenario(rt, alloc, scenario, targets, fresh, flags)?;
     expect_text(rt, scenario.name, &wrong, b"")?;
     Ok(history)
@@ -26,7 +26,7 @@ pub(super) fn play_of<K: TestTarget, R: Threads + Wait + Sync + Eprint>(
     rt: &R,
     alloc: Global,
     scenario: &Scenario,
-) -> Result<Vec<u8>, TestError> {
+) -> Result<Vec<u8>, TestFault> {
     let flags = Arc::new(alloc, Flags::new())?;
     let targets = targets_of::<K>(alloc, scenario, &flags)?;
     let fresh = targets_of::<K>(alloc, scenario, &flags)?;
@@ -38,7 +38,7 @@ pub(super) fn play_all_of<K: TestTarget, R: Threads + Wait + Sync + Eprint>(
     rt: &R,
     alloc: Global,
     scenarios: &[Scenario],
-) -> Result<(), TestError> {
+) -> Result<(), TestFault> {
     for scenario in scenarios {
         let _history = play_of::<K, R>(rt, alloc, scenario)?;
     }

@@ -6,7 +6,7 @@ use thread_harness::Scenario;
 
 // The publisher begins in any case, after a while: so a change that is put where no room is left waits for that
 // while, and then has another answer.
-const MOST: Scenario = Scenario {
+const MANY_CHANGES: Scenario = Scenario {
     name: "65,536 entries wait; then changes go on beside the publisher, and reads after all",
     limits: (2, 4_096, 1_000_000, 65_536),
     threads: [
@@ -52,6 +52,6 @@ taken => taken 175537
 
 #[test]
 fn many_changes_are_made_while_entries_are_taken(rt: HostRuntime) -> Result<(), Fail> {
-    play_of::<Echo, HostRuntime>(&rt, rt.alloc(), &MOST)?;
+    play_of::<Echo, HostRuntime>(&rt, rt.alloc(), &MANY_CHANGES)?;
     Ok(())
 }

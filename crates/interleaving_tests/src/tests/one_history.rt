@@ -6,7 +6,7 @@ use std::io::Eprint;
 use std::sync::Wait;
 use std::test::*;
 use std::thread::Threads;
-use test_harness::{TestError, holds};
+use test_harness::{TestFault, holds};
 use thread_harness::{Flags, Scenario};
 
 const TWO: Scenario = Scenario {
@@ -78,7 +78,7 @@ fn play_counters<R: Threads + Wait + Sync + Eprint>(
     alloc: Global,
     scenario: &Scenario,
     messages: u64,
-) -> Result<(), TestError> {
+) -> Result<(), TestFault> {
     let target: Box<dyn Target> = Box::new(alloc, Counter::new(alloc))?;
     let other: Box<dyn Target> = Box::new(alloc, Counter::new(alloc))?;
     let mut targets = Vec::with_capacity(alloc, 1)?;

@@ -13,7 +13,7 @@ use std::marker::Brand;
 use std::sync::{Arc, Wait};
 use std::test::*;
 use std::thread::{Threads, join, yield_now};
-use test_harness::{TestError, holds};
+use test_harness::{TestFault, holds};
 
 // The entry of a close of a comm that isn't there.
 fn close_change(alloc: Global, number: u64) -> Result<Change, AllocError>
@@ -93,14 +93,14 @@ fn find_nothing<M: History>(
     alloc: Global,
     reader: &mut VersionReader<M>,
     front: u64,
-) -> Result<(), TestError> {
+) -> Result<(), TestFault> {
     let id = Text::copy_of(alloc, "q")?;
     let Ok(infos) = reader.read_infos(alloc, Some(&id)) else {
-        return Err(TestError("no list is read"));
+        return Err(TestFault("no list is read"));
     };
     let is_empty = infos.front == front && infos.comms.as_slice().is_empty();
     let Ok(state) = reader.read_state(&id) else {
-        return Err(TestError("no state is read"));
+        return Err(TestFault("no state is read"));
     };
     let is_none = state.front == front && matches!(state.answer, StateAnswer::NoComm);
     holds(
@@ -114,7 +114,7 @@ fn hear_stamp<M: History>(
     alloc: Global,
     writer: &VersionWriter<M>,
     reader: &mut VersionReader<M>,
-) -> Result<(), TestError> {
+) -> Result<(), TestFault> {
     let stamp = writer.stamp();
     let copy = stamp.copy();
     let was_none = reader.seen() == 0;
@@ -138,7 +138,8 @@ fn write_and_read<M: History + Send + Sync, R: Threads + Wait + Sync>(
     join(
         rt,
         move || -> bool
-            requires { (writer.now.front ≡ []) × (writer.now.pending ≡ []) × (0 < M.limits.clients) }
+            requires { (writer.now.front ≡ []) × (writer.now.pending ≡ [])
+                × (0 < M.limits.clients) }
         { write_both(rt, alloc, writer) },
         move || read_both(alloc, reader),
     )
@@ -149,14 +150,14 @@ fn play_readers<M: History + Send + Sync, R: Threads + Wait + Sync>(
     alloc: Global,
     writer: &mut VersionWriter<M>,
     readers: Vec<VersionReader<M>>,
-) -> Result<(), TestError>
+) -> Result<(), TestFault>
     requires front { writer.old.front ≡ [] }
     requires pending { writer.old.pending ≡ [] }
     requires limits { 0 < M.limits.clients }
 {
     let mut readers = readers;
     let (Some(mut two), Some(one)) = (readers.pop(), readers.pop()) else {
-        return Err(TestError("not two readers"));
+        return Err(TestFault("not two readers"));
     };
     let is_nothing = find_nothing(alloc, &mut two, 0);
     let (done, (one, front)) = write_and_read(rt, alloc, writer, one);
@@ -173,13 +174,13 @@ fn play_over_versions<M: History + Send + Sync, R: Threads + Wait + Sync>(
     rt: &R,
     alloc: Global,
     history: BlankHistory,
-) -> Result<(), TestError>
+) -> Result<(), TestFault>
     requires book { history ≡ M.book }
     requires clients { M.limits.clients ≡ 2 }
     requires comms { M.limits.comms ≡ 16 }
 {
     let Ok((mut writer, readers)) = versions::<M, R>(rt, alloc, history, 2, 16) else {
-        return Err(TestError("no versions"));
+        return Err(TestFault("no versions"));
     };
     let came = play_readers(rt, alloc, &mut writer, readers);
     writer.end(rt);
@@ -187,7 +188,7 @@ fn play_over_versions<M: History + Send + Sync, R: Threads + Wait + Sync>(
 }
 
 // The call of `play_over_versions` picks the history's name.
-fn play_new_history<R: Threads + Wait + Sync>(rt: &R, alloc: Global) -> Result<(), TestError> {
+fn play_new_history<R: Threads + Wait + Sync>(rt: &R, alloc: Global) -> Result<(), TestFault> {
     play_over_versions::<Brand, R>(rt, alloc, BlankHistory::new())
 }
 

@@ -10,7 +10,7 @@ use comm_script::append_state_line;
 use comm_targets::Target;
 use comm_value::Text;
 use std::alloc::{AllocError, Global};
-use test_harness::{TestError, TextBuilder, append_answer, call_of, holds, split_word};
+use test_harness::{TestFault, TextBuilder, append_answer, call_of, holds, split_word};
 
 /// Whom what goes out answers.
 pub const PARENT: Parent = Parent::Call {
@@ -42,7 +42,7 @@ fn step_line<T: Target>(
     line: &str,
     number: u32,
     text: &mut TextBuilder,
-) -> Result<bool, TestError>
+) -> Result<bool, TestFault>
     requires settled { core.old.settled ≡ true }
     ensures { core.new.settled ≡ true }
 {
@@ -60,7 +60,7 @@ pub(super) fn play<T: Target>(
     core: &mut Core<T>,
     lines: &str,
     text: &mut TextBuilder,
-) -> Result<(), TestError>
+) -> Result<(), TestFault>
     requires settled { core.old.settled ≡ true }
     ensures { core.new.settled ≡ true }
 {
@@ -77,7 +77,7 @@ fn begin<T: Target>(
     line: &str,
     number: u32,
     text: &mut TextBuilder,
-) -> Result<bool, TestError>
+) -> Result<bool, TestFault>
     requires settled { core.old.settled ≡ true }
     ensures { core.new.settled ≡ true }
 {
@@ -160,7 +160,7 @@ fn show<T: Target>(
     line: &str,
     number: u32,
     text: &mut TextBuilder,
-) -> Result<bool, TestError>
+) -> Result<bool, TestFault>
     requires settled { core.old.settled ≡ true }
     ensures { core.new.settled ≡ true }
 {
@@ -192,7 +192,7 @@ fn end<T: Target>(
     line: &str,
     number: u32,
     text: &mut TextBuilder,
-) -> Result<bool, TestError>
+) -> Result<bool, TestFault>
     requires settled { core.old.settled ≡ true }
     ensures { core.new.settled ≡ true }
 {
@@ -214,7 +214,7 @@ pub(super) fn try_line<T: Target>(
     line: &str,
     number: u32,
     text: &mut TextBuilder,
-) -> Result<bool, TestError>
+) -> Result<bool, TestFault>
     requires settled { core.old.settled ≡ true }
     ensures { core.new.settled ≡ true }
 {
@@ -235,7 +235,7 @@ pub(super) fn register<T: Target>(
     number: u32,
     target: T,
     text: &mut TextBuilder,
-) -> Result<(bool, Option<T>), TestError>
+) -> Result<(bool, Option<T>), TestFault>
     requires settled { core.old.settled ≡ true }
     requires idle { IsIdle (T.means target) }
     ensures { core.new.settled ≡ true }
@@ -261,7 +261,7 @@ pub(super) fn try_register<T: Target>(
     number: u32,
     target: T,
     text: &mut TextBuilder,
-) -> Result<(bool, Option<T>), TestError>
+) -> Result<(bool, Option<T>), TestFault>
     requires settled { core.old.settled ≡ true }
     requires idle { IsIdle (T.means target) }
     ensures { core.new.settled ≡ true }
@@ -271,7 +271,7 @@ pub(super) fn try_register<T: Target>(
     }
     let name = Text::copy_of(alloc, name)?;
     let Ok(ready) = core.begin_register(name, target) else {
-        return Err(TestError("no change stands ready where nothing is refused"));
+        return Err(TestFault("no change stands ready where nothing is refused"));
     };
     if step == RefusedStep::Finish {
         Ok((finish(alloc, core, ready, number, text), None))
@@ -309,7 +309,7 @@ fn read<T: Target>(
     line: &str,
     number: u32,
     text: &mut TextBuilder,
-) -> Result<bool, TestError>
+) -> Result<bool, TestFault>
     ensures { core.new ≡ core.old }
 {
     let (word, name) = split_word(line);
@@ -337,7 +337,7 @@ pub(super) fn look<T: Target>(
     alloc: Global,
     core: &mut Core<T>,
     text: &mut TextBuilder,
-) -> Result<(), TestError>
+) -> Result<(), TestFault>
     ensures { core.new ≡ core.old }
 {
     if core.settled() {

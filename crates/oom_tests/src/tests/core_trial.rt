@@ -8,7 +8,7 @@ use crate::tests::trial::{LIMITS, RefusedStep, Trial, is_made};
 use comm_core::Core;
 use comm_targets::{Counter, Echo, Kind, PlainTarget, Target};
 use std::alloc::{AllocError, Global};
-use test_harness::{ScriptedTarget, TestError, TextBuilder, holds, split_word};
+use test_harness::{ScriptedTarget, TestFault, TextBuilder, holds, split_word};
 use test_support::{refuse, was_refused};
 use thread_harness::TestTarget;
 use widget_target::WidgetTarget;
@@ -30,7 +30,7 @@ fn fill<T: Target>(
     target: T,
     more: usize,
     text: &mut TextBuilder,
-) -> Result<(), TestError>
+) -> Result<(), TestFault>
     requires settled { core.old.settled ≡ true }
     requires idle { IsIdle (T.means target) }
     ensures { core.new.settled ≡ true }
@@ -49,7 +49,7 @@ fn change_twice<T: Target>(
     trial: &Trial,
     number: u32,
     text: &mut TextBuilder,
-) -> Result<bool, TestError>
+) -> Result<bool, TestFault>
     requires settled { core.old.settled ≡ true }
     ensures { core.new.settled ≡ true }
 {
@@ -78,7 +78,7 @@ fn register_twice<T: Target>(
     number: u32,
     target: T,
     text: &mut TextBuilder,
-) -> Result<bool, TestError>
+) -> Result<bool, TestFault>
     requires settled { core.old.settled ≡ true }
     requires idle { IsIdle (T.means target) }
     ensures { core.new.settled ≡ true }
@@ -88,7 +88,7 @@ fn register_twice<T: Target>(
     if let Some(target) = back {
         look(alloc, core, text)?;
         if !target.idle() {
-            return Err(TestError("another target"));
+            return Err(TestFault("another target"));
         }
         let (_is_refused, _back) = register(alloc, core, name, 0, target, text)?;
     }
@@ -103,7 +103,7 @@ fn play_trial<T: Target>(
     target: T,
     other: T,
     text: &mut TextBuilder,
-) -> Result<bool, TestError>
+) -> Result<bool, TestFault>
     requires settled { core.old.settled ≡ true }
     requires target { IsIdle (T.means target) }
     requires other { IsIdle (T.means other) }
@@ -125,12 +125,12 @@ fn try_with<T: Target>(
     target: T,
     other: T,
     text: &mut TextBuilder,
-) -> Result<bool, TestError>
+) -> Result<bool, TestFault>
     requires target { IsIdle (T.means target) }
     requires other { IsIdle (T.means other) }
 {
     let Ok(mut core) = Core::new(alloc, LIMITS) else {
-        return Err(TestError("no manager"));
+        return Err(TestFault("no manager"));
     };
     let done = play_trial(alloc, &mut core, trial, number, target, other, text);
     let _is_heard = refuse(alloc, 1);
@@ -146,14 +146,14 @@ fn try_kind<K: TestTarget>(
     number: u32,
     echoes: bool,
     text: &mut TextBuilder,
-) -> Result<bool, TestError> {
+) -> Result<bool, TestFault> {
     let target = K::build(alloc, echoes);
     if !target.idle() {
-        return Err(TestError("a target isn't idle"));
+        return Err(TestFault("a target isn't idle"));
     }
     let other = K::build(alloc, echoes);
     if !other.idle() {
-        return Err(TestError("a target isn't idle"));
+        return Err(TestFault("a target isn't idle"));
     }
     try_with(alloc, trial, number, target, other, text)
 }
@@ -164,7 +164,7 @@ pub(super) fn try_once(
     trial: &Trial,
     number: u32,
     text: &mut TextBuilder,
-) -> Result<bool, TestError> {
+) -> Result<bool, TestFault> {
     match trial.kind {
         Kind::Widget => try_kind::<WidgetTarget>(alloc, trial, number, false, text),
         Kind::WidgetEcho => try_kind::<WidgetTarget>(alloc, trial, number, true, text),

@@ -6,7 +6,7 @@ use comm_manager::{Cause, Client, Farewell, Manager, ManagerId, Publisher, Shutd
 use comm_targets::Target;
 use std::alloc::Global;
 use std::sync::Wait;
-use test_harness::{TestError, TextBuilder, holds};
+use test_harness::{TestFault, TextBuilder, holds};
 use test_support::{refuse, refuse_above, was_refused};
 
 /// More bytes than a shutdown asks for at once, where one entry alone wasn't taken, and fewer than places for `MANY`
@@ -33,7 +33,7 @@ fn shut_down_again<M: ManagerId, T: Target, R: Wait>(
     rt: &R,
     refused: ShutdownRefused<M, T>,
     text: &mut TextBuilder,
-) -> Result<(), TestError> {
+) -> Result<(), TestFault> {
     let ShutdownRefused {
         cause,
         manager,
@@ -47,7 +47,7 @@ fn shut_down_again<M: ManagerId, T: Target, R: Wait>(
             drop(ended);
             holds(cause == Cause::Memory, "another cause")
         }
-        Err(_) => Err(TestError("no shutdown where nothing is refused")),
+        Err(_) => Err(TestFault("no shutdown where nothing is refused")),
     }
 }
 
@@ -59,7 +59,7 @@ fn shut_down_at_last<M: ManagerId, T: Target, R: Wait>(
     clients: Vec<Client<M>>,
     publisher: Publisher<M>,
     text: &mut TextBuilder,
-) -> Result<bool, TestError> {
+) -> Result<bool, TestFault> {
     let result = manager.shutdown(rt, clients, publisher);
     let is_refused = was_refused(alloc);
     let done = match result {
@@ -80,7 +80,7 @@ fn discard<M: ManagerId, T: Target, R: Wait>(
     manager: Manager<M, T>,
     publisher: Publisher<M>,
     text: &mut TextBuilder,
-) -> Result<bool, TestError> {
+) -> Result<bool, TestFault> {
     let mut publisher = publisher;
     let _is_heard = refuse(alloc, 1);
     let is_taken = publisher.take(rt).is_some() && publisher.taken() == 1;
@@ -102,7 +102,7 @@ pub(super) fn end_manager<M: ManagerId, T: Target, R: Wait>(
     step: RefusedStep,
     number: u32,
     text: &mut TextBuilder,
-) -> Result<bool, TestError> {
+) -> Result<bool, TestFault> {
     if step == RefusedStep::Discard {
         drop(clients);
         return discard(rt, alloc, manager, publisher, text);

@@ -8,7 +8,7 @@ use std::io::Eprint;
 use std::process::Abort;
 use std::sync::Wait;
 use std::test::Fail;
-use test_harness::{ManagerKind, TestError, TextBuilder, expect_text, holds};
+use test_harness::{ManagerKind, TestFault, TextBuilder, expect_text, holds};
 use test_support::{has_leaked, mark};
 
 /// What is tried.
@@ -47,7 +47,7 @@ fn try_once<R: Eprint + Wait>(
     what: &RefusalCase,
     number: u32,
     came: &mut TextBuilder,
-) -> Result<bool, TestError> {
+) -> Result<bool, TestFault> {
     match what {
         RefusalCase::Making(case) => make_once(alloc, case, number, came),
         RefusalCase::Trial(trial) => match trial.over {
@@ -65,7 +65,7 @@ fn expect<R: Eprint>(
     name: &str,
     is_refused: bool,
     came: &[u8],
-) -> Result<(), TestError> {
+) -> Result<(), TestFault> {
     match what {
         RefusalCase::Making(case) => {
             let wanted = values::expected_text(case, is_refused, came);
@@ -85,7 +85,7 @@ fn round<R: Eprint + Wait>(
     what: &RefusalCase,
     name: &str,
     number: u32,
-) -> Result<bool, TestError> {
+) -> Result<bool, TestFault> {
     let mut came = TextBuilder::new(alloc);
     let is_refused = try_once(rt, alloc, what, number, &mut came)?;
     holds(came.is_whole(), "no memory to say what came")?;
@@ -112,7 +112,7 @@ fn refuse_each<R: Abort + Eprint + Wait>(
         match done {
             Ok(true) => {}
             Ok(false) => return Ok(()),
-            Err(TestError(why)) => panic!(rt; "{name}: {why}"),
+            Err(TestFault(why)) => panic!(rt; "{name}: {why}"),
         }
     }
     panic!(rt; "it never answered");

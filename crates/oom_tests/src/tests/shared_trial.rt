@@ -13,7 +13,7 @@ use std::alloc::{AllocError, Global};
 use std::marker::Brand;
 use std::slice::from_mut;
 use std::sync::Wait;
-use test_harness::{ScriptedTarget, TestError, TextBuilder, holds};
+use test_harness::{ScriptedTarget, TestFault, TextBuilder, holds};
 use test_support::{refuse, was_refused};
 use thread_harness::{ClientPlayer, Flags, TestTarget};
 use widget_target::WidgetTarget;
@@ -58,7 +58,7 @@ fn ask_lines<M: ManagerId, T: Target, R: Wait>(
     player: &mut ClientPlayer<'_, M, T>,
     lines: &str,
     text: &mut TextBuilder,
-) -> Result<bool, TestError> {
+) -> Result<bool, TestFault> {
     for line in lines.lines() {
         let line = format!(in alloc; "0 {line}")?;
         let _is_refused = ask(
@@ -87,7 +87,7 @@ fn ask_refused<M: ManagerId, T: Target, R: Wait>(
     line: &str,
     number: u32,
     text: &mut TextBuilder,
-) -> Result<bool, TestError> {
+) -> Result<bool, TestFault> {
     let refusing = format!(in alloc; "{client} refusing {number} {line}")?;
     let again = format!(in alloc; "{client} {line}")?;
     let is_refused = ask(
@@ -170,7 +170,7 @@ fn play_step<M: ManagerId, T: Target, R: Wait>(
     trial: &Trial,
     number: u32,
     text: &mut TextBuilder,
-) -> Result<bool, TestError> {
+) -> Result<bool, TestFault> {
     let line = trial.case.line;
     match trial.step {
         RefusedStep::Opening | RefusedStep::Shutdown => Ok(false),
@@ -207,7 +207,7 @@ fn play_trial<M: ManagerId, T: Target, R: Wait>(
     trial: &Trial,
     number: u32,
     text: &mut TextBuilder,
-) -> Result<bool, TestError> {
+) -> Result<bool, TestFault> {
     let mut unheard = TextBuilder::new(alloc);
     let lines = openings(alloc, trial.more)?;
     player.ask(rt, Some(manager), clients, publishers, "0 register w");
@@ -238,7 +238,7 @@ fn play_to_the_end<M: ManagerId, T: Target, R: Wait>(
     number: u32,
     targets: Vec<T>,
     text: &mut TextBuilder,
-) -> Result<bool, TestError> {
+) -> Result<bool, TestFault> {
     let (mut clients, mut publisher) = (clients, publisher);
     let flags = Flags::new();
     let mut player = ClientPlayer::new(alloc, &flags, targets);
@@ -268,7 +268,7 @@ fn try_over_manager<M: ManagerId, T: Target, R: Wait>(
     number: u32,
     targets: Vec<T>,
     text: &mut TextBuilder,
-) -> Result<bool, TestError>
+) -> Result<bool, TestFault>
     requires { Named builder M.book M.ledgers M.queue M.limits }
 {
     let opened = Manager::<M, T>::open(rt, alloc, builder);
@@ -285,7 +285,7 @@ fn try_over_manager<M: ManagerId, T: Target, R: Wait>(
             text.push(MEMORY);
             Ok(is_refused)
         }
-        Err(OpeningFault::NoReader) => Err(TestError("no reader")),
+        Err(OpeningFault::NoReader) => Err(TestFault("no reader")),
     }
 }
 
@@ -304,7 +304,7 @@ fn try_with<K: TestTarget, R: Wait>(
     number: u32,
     echoes: bool,
     text: &mut TextBuilder,
-) -> Result<bool, TestError> {
+) -> Result<bool, TestFault> {
     let targets = two_targets::<K>(alloc, echoes)?;
     let refused = if trial.step == RefusedStep::Opening {
         number
@@ -320,7 +320,7 @@ fn try_with<K: TestTarget, R: Wait>(
             text.push(MEMORY);
             Ok(was_refused(alloc))
         }
-        Err(NewFault::BadLimits) => Err(TestError("bad limits")),
+        Err(NewFault::BadLimits) => Err(TestFault("bad limits")),
     }
 }
 
@@ -331,7 +331,7 @@ pub(super) fn try_once<R: Wait>(
     trial: &Trial,
     number: u32,
     text: &mut TextBuilder,
-) -> Result<bool, TestError> {
+) -> Result<bool, TestFault> {
     match trial.kind {
         Kind::Free => try_with::<ScriptedTarget, R>(rt, alloc, trial, number, false, text),
         Kind::WidgetEcho => try_with::<WidgetTarget, R>(rt, alloc, trial, number, true, text),

@@ -1,14 +1,16 @@
 //! Values of widget states, and messages, that are made with an allocation refused.
 use crate::tests::core_steps::PARENT;
 use crate::tests::trial::MEMORY;
-use comm_messages::{Incoming, MessageFault, Outgoing, message_of, read_message, write_message};
+use comm_messages::{
+    Incoming, MessageFault, Outgoing, message_of, read_message_with, write_message,
+};
 use comm_value::{
-    Buffers, Dict, Path, Separated, Text, Val, ValueFault, merge, paths_of, paths_val, put_all,
-    separate,
+    Buffers, Dict, Numbers, Path, Separated, Text, Val, ValueFault, merge, paths_of, paths_val,
+    put_all, separate,
 };
 use serde_json::Value;
 use std::alloc::Global;
-use test_harness::{TestError, TextBuilder, body_of, buffers_of};
+use test_harness::{TestFault, TextBuilder, body_of, buffers_of};
 use test_support::{refuse, was_refused};
 
 /// What meets the refusal.
@@ -26,6 +28,8 @@ pub enum MadeBy {
     Placed,
     /// The message of a line.
     Read,
+    /// The message of a line in which any number is a value.
+    ReadAny,
     /// The message of a line's JSON.
     Taken,
     /// The line of a message.
@@ -88,10 +92,17 @@ pub const COPIES: [MakingCase; 1] = [MakingCase {
     text: NESTED_STATE,
 }];
 
-pub const MESSAGES: [MakingCase; 3] = [
+pub const MESSAGES: [MakingCase; 4] = [
     MakingCase {
         made: MadeBy::Read,
         of: LINE,
+        other: "{}",
+        text: OPENS,
+    },
+    MakingCase {
+        made: MadeBy::ReadAny,
+        of: r#"{"buffers":["AQI=","AwQF"],"content":{"comm_id":"a","data":{"k":[1.50,-0,{"l":[1e2]}]},"target_name":"t"},
+"header":{"msg_type":"comm_open"},"metadata":{"version":"2.0.0"}}"#,
         other: "{}",
         text: OPENS,
     },
@@ -112,7 +123,8 @@ pub const MESSAGES: [MakingCase; 3] = [
 /// Whether it is right that this came. The arena for lines asks again for less where it is refused a chunk, so a
 /// refusal needn't end the reading of a line.
 pub(super) fn expected_text(case: &MakingCase, is_refused: bool, came: &[u8]) -> &'static str {
-    let may_do_without = case.made == MadeBy::Read && came == case.text.as_bytes();
+    let is_read = matches!(case.made, MadeBy::Read | MadeBy::ReadAny);
+    let may_do_without = is_read && came == case.text.as_bytes();
     if is_refused && !may_do_without {
         MEMORY
     } else {
@@ -120,14 +132,14 @@ pub(super) fn expected_text(case: &MakingCase, is_refused: bool, came: &[u8]) ->
     }
 }
 
-fn json_of(alloc: Global, text: &str) -> Result<Value, TestError> {
+fn json_of(alloc: Global, text: &str) -> Result<Value, TestFault> {
     match Value::from_str(alloc, text) {
         Ok(json) => Ok(json),
-        Err(_) => Err(TestError("no JSON")),
+        Err(_) => Err(TestFault("no JSON")),
     }
 }
 
-fn val_of(alloc: Global, text: &str) -> Result<Val, TestError> {
+fn val_of(alloc: Global, text: &str) -> Result<Val, TestFault> {
     let json = json_of(alloc, text)?;
     let value = Val::from_json(alloc, &json);
     drop(json);
@@ -185,7 +197,7 @@ fn make_of_json(
     case: &MakingCase,
     number: u32,
     text: &mut TextBuilder,
-) -> Result<bool, TestError> {
+) -> Result<bool, TestFault> {
     let json = json_of(alloc, case.of)?;
     let _is_heard = refuse(alloc, number);
     let given = through_json(alloc, &json);
@@ -200,7 +212,7 @@ fn make_of_value(
     case: &MakingCase,
     number: u32,
     text: &mut TextBuilder,
-) -> Result<bool, TestError> {
+) -> Result<bool, TestFault> {
     let value = val_of(alloc, case.of)?;
     let _is_heard = refuse(alloc, number);
     let given = match case.made {
@@ -218,7 +230,7 @@ fn make_of_two(
     case: &MakingCase,
     number: u32,
     text: &mut TextBuilder,
-) -> Result<bool, TestError> {
+) -> Result<bool, TestFault> {
     let value = val_of(alloc, case.of)?;
     let other = val_of(alloc, case.other)?;
     let _is_heard = refuse(alloc, number);
@@ -260,9 +272,9 @@ fn push_separated(alloc: Global, given: Result<Separated, ValueFault>, text: &mu
 }
 
 // A dict, and paths into it.
-fn places_of(alloc: Global, case: &MakingCase) -> Result<(Dict, Vec<Path>), TestError> {
+fn places_of(alloc: Global, case: &MakingCase) -> Result<(Dict, Vec<Path>), TestFault> {
     let Val::Dict(state) = val_of(alloc, case.of)? else {
-        return Err(TestError("no dict"));
+        return Err(TestFault("no dict"));
     };
     let list = val_of(alloc, case.other)?;
     let paths = paths_of(alloc, Some(&list));
@@ -275,7 +287,7 @@ fn make_of_places(
     case: &MakingCase,
     number: u32,
     text: &mut TextBuilder,
-) -> Result<bool, TestError> {
+) -> Result<bool, TestFault> {
     let buffers = buffers_of(alloc, "01 02 03")?;
     let (state, paths) = places_of(alloc, case)?;
     let _is_heard = refuse(alloc, number);
@@ -319,8 +331,13 @@ fn push_message(given: Result<(u8, Incoming), MessageFault>, text: &mut TextBuil
 }
 
 fn read_line(alloc: Global, case: &MakingCase, number: u32, text: &mut TextBuilder) -> bool {
+    let taken = if case.made == MadeBy::ReadAny {
+        Numbers::Any
+    } else {
+        Numbers::Whole
+    };
     let _is_heard = refuse(alloc, number);
-    let given = read_message(alloc, case.of.as_bytes(), 2);
+    let given = read_message_with(alloc, case.of.as_bytes(), 2, taken);
     let is_refused = was_refused(alloc);
     push_message(given, text);
     is_refused
@@ -331,7 +348,7 @@ fn take_message(
     case: &MakingCase,
     number: u32,
     text: &mut TextBuilder,
-) -> Result<bool, TestError> {
+) -> Result<bool, TestFault> {
     let json = json_of(alloc, case.of)?;
     let _is_heard = refuse(alloc, number);
     let given = message_of(alloc, &json, 2);
@@ -346,7 +363,7 @@ fn write_line(
     case: &MakingCase,
     number: u32,
     text: &mut TextBuilder,
-) -> Result<bool, TestError> {
+) -> Result<bool, TestFault> {
     let id = Text::copy_of(alloc, "a")?;
     let body = body_of(alloc, case.other)?;
     let message = Outgoing::Msg { id, body };
@@ -367,13 +384,13 @@ pub(super) fn make_once(
     case: &MakingCase,
     number: u32,
     text: &mut TextBuilder,
-) -> Result<bool, TestError> {
+) -> Result<bool, TestFault> {
     match case.made {
         MadeBy::Json => make_of_json(alloc, case, number, text),
         MadeBy::Copy | MadeBy::Paths => make_of_value(alloc, case, number, text),
         MadeBy::Merged => make_of_two(alloc, case, number, text),
         MadeBy::Placed => make_of_places(alloc, case, number, text),
-        MadeBy::Read => Ok(read_line(alloc, case, number, text)),
+        MadeBy::Read | MadeBy::ReadAny => Ok(read_line(alloc, case, number, text)),
         MadeBy::Taken => take_message(alloc, case, number, text),
         MadeBy::Written => write_line(alloc, case, number, text),
     }

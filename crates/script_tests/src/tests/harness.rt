@@ -5,14 +5,15 @@ ghost use Rattle.comm_script.specs.Stock.{AreIdle};
 use super::MAX_COMMS;
 use super::target_ends::counted_stock;
 use comm_core::Limits;
-use comm_script::{RunFault, push_target, run};
+use comm_script::{RunFault, push_target, run_with};
 use comm_targets::{Counter, Echo, Target};
-use shared_script::run_shared;
+use comm_value::Numbers;
+use shared_script::run_shared_with;
 use std::alloc::{AllocError, Global};
 use std::io::{Eprint, ErrorKind};
 use std::sync::atomic::{AtomicU64, Ordering};
 use std::sync::{Arc, Wait};
-use test_harness::{ManagerKind, TestError, expect_text, holds};
+use test_harness::{ManagerKind, TestFault, expect_text, holds};
 use test_support::{FailingReader, FailingWriter, WriteFault, refuse, was_refused};
 use widget_target::WidgetTarget;
 
@@ -34,6 +35,7 @@ pub const fn program_limits(comms: usize) -> Limits {
 pub struct ScriptRun<'a> {
     pub over: ManagerKind,
     pub limits: Limits,
+    pub numbers: Numbers,
     pub bytes: &'a [u8],
     /// How many bytes a call reads, at most.
     pub read: usize,
@@ -59,6 +61,7 @@ impl<'a> ScriptRun<'a> {
         ScriptRun {
             over,
             limits: program_limits(MAX_COMMS),
+            numbers: Numbers::Whole,
             bytes,
             read: 4096,
             read_fails: 0,
@@ -112,20 +115,6 @@ fn stock(alloc: Global) -> Result<Vec<Box<dyn Target>>, RunFault>
     Ok(stock)
 }
 
-// A call of its own, since each of the two players has 84 KiB on the stack.
-#[inline(never)]
-fn play_over_core(
-    alloc: Global,
-    reader: &mut FailingReader<'_>,
-    writer: &mut FailingWriter,
-    limits: Limits,
-    stock: Vec<Box<dyn Target>>,
-) -> Result<(), RunFault>
-    requires { AreIdle (map (λ b. means b) stock.items) }
-{
-    run(alloc, reader, writer, limits, stock)
-}
-
 fn play(
     rt: &impl Wait,
     alloc: Global,
@@ -139,9 +128,14 @@ fn play(
     } else {
         stock(alloc)?
     };
+    let ScriptRun {
+        limits,
+        numbers,
+        ..
+    } = *script;
     match script.over {
-        ManagerKind::OneThread => play_over_core(alloc, reader, writer, script.limits, stock),
-        ManagerKind::Shared => run_shared(rt, alloc, reader, writer, script.limits, stock),
+        ManagerKind::OneThread => run_with(alloc, reader, writer, limits, numbers, stock),
+        ManagerKind::Shared => run_shared_with(rt, alloc, reader, writer, limits, numbers, stock),
     }
 }
 
@@ -186,7 +180,7 @@ pub fn expect_result<R: Eprint>(
     came: &ScriptResult,
     ended: Result<(), RunFault>,
     text: &[u8],
-) -> Result<(), TestError> {
+) -> Result<(), TestFault> {
     let (over, read, write) = (script.over, script.read, script.write);
     let name = format!(in alloc; "{name}, {over:?}, by {read} and {write}")?;
     expect_text(rt, name.as_str(), &came.text, text)?;
@@ -204,7 +198,7 @@ pub fn expect_answers<R: Eprint + Wait>(
     script: &ScriptRun<'_>,
     ended: Result<(), RunFault>,
     text: &[u8],
-) -> Result<ScriptResult, TestError> {
+) -> Result<ScriptResult, TestFault> {
     let came = run_script(rt, alloc, script)?;
     expect_result(rt, alloc, name, script, &came, ended, text)?;
     holds(came.flushed == text.len(), "not all is flushed")?;

@@ -5,7 +5,7 @@ use std::alloc::{AllocError, Global};
 use std::io::{Eprint, ErrorKind};
 use std::sync::Wait;
 use std::test::Fail;
-use test_harness::{BOTH_MANAGERS, ManagerKind, TestError, expect_text, holds};
+use test_harness::{BOTH_MANAGERS, ManagerKind, TestFault, expect_text, holds};
 use test_support::{WriteFault, has_leaked, mark};
 
 /// What fails at a call.
@@ -110,7 +110,7 @@ fn check_result<R: Eprint>(
     faults: &FaultPlan,
     call: u64,
     came: &ScriptResult,
-) -> Result<(), TestError> {
+) -> Result<(), TestFault> {
     let count = if came.result == Ok(()) {
         faults.answers.len()
     } else {
@@ -182,7 +182,7 @@ fn fault_at<R: Eprint + Wait>(
     faults: &FaultPlan,
     over: ManagerKind,
     call: u64,
-) -> Result<bool, TestError> {
+) -> Result<bool, TestFault> {
     let came = run_script(rt, alloc, &script_of(faults, over, call))?;
     let name = name_of(alloc, faults, over, call)?;
     check_result(rt, name.as_str(), faults, call, &came)?;
@@ -194,7 +194,7 @@ fn each_call<R: Eprint + Wait>(
     alloc: Global,
     faults: &FaultPlan,
     over: ManagerKind,
-) -> Result<(), TestError> {
+) -> Result<(), TestFault> {
     for call in 1..100_000u64 {
         mark(alloc);
         let done = fault_at(rt, alloc, faults, over, call);
@@ -208,7 +208,7 @@ fn each_call<R: Eprint + Wait>(
             return Ok(());
         }
     }
-    Err(TestError("it never answered"))
+    Err(TestFault("it never answered"))
 }
 
 /// The fault comes at the first call, then at the second, and so on until there is none, and nothing leaks.
@@ -216,7 +216,7 @@ pub fn each_fault<R: Eprint + Wait>(
     rt: &R,
     alloc: Global,
     faults: &FaultPlan,
-) -> Result<(), TestError> {
+) -> Result<(), TestFault> {
     for over in BOTH_MANAGERS {
         each_call(rt, alloc, faults, over)?;
     }
@@ -235,7 +235,7 @@ pub const fn plan_of(fault: InjectedFault, read: usize, write: usize) -> FaultPl
     }
 }
 
-fn each_reader<R: Eprint + Wait>(rt: &R, alloc: Global, kind: ErrorKind) -> Result<(), TestError> {
+fn each_reader<R: Eprint + Wait>(rt: &R, alloc: Global, kind: ErrorKind) -> Result<(), TestFault> {
     for read in [1, 7, 4096] {
         each_fault(rt, alloc, &plan_of(InjectedFault::Reader(kind), read, 4096))?;
     }
@@ -263,7 +263,7 @@ fn each_writer<R: Eprint + Wait>(
     rt: &R,
     alloc: Global,
     fault: WriteFault,
-) -> Result<(), TestError> {
+) -> Result<(), TestFault> {
     for write in [1, 7, 4096] {
         each_fault(rt, alloc, &plan_of(InjectedFault::Writer(fault), 64, write))?;
     }
@@ -289,7 +289,7 @@ fn each_refusal<R: Eprint + Wait>(
     rt: &R,
     alloc: Global,
     over: ManagerKind,
-) -> Result<(), TestError> {
+) -> Result<(), TestFault> {
     let refusals = FaultPlan {
         script: LONG,
         answers: LONG_ANSWERS,

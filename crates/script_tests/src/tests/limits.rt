@@ -6,7 +6,7 @@ use std::alloc::Global;
 use std::io::Eprint;
 use std::sync::Wait;
 use std::test::Fail;
-use test_harness::{BOTH_MANAGERS, ManagerKind, TestError, holds};
+use test_harness::{BOTH_MANAGERS, ManagerKind, TestFault, holds};
 
 /// Limits, and whether they fit.
 const LIMITS: [(u8, usize, u64, usize, bool); 10] = [
@@ -28,7 +28,7 @@ fn play_within<R: Eprint + Wait>(
     over: ManagerKind,
     limits: Limits,
     fit: bool,
-) -> Result<(), TestError> {
+) -> Result<(), TestFault> {
     let script = ScriptRun {
         limits,
         ..ScriptRun::over(over, b"{}")

@@ -6,7 +6,7 @@ use std::io::Eprint;
 use std::sync::Wait;
 use std::test::Fail;
 use std::thread::Builder;
-use test_harness::{BOTH_MANAGERS, ManagerKind, TestError};
+use test_harness::{BOTH_MANAGERS, ManagerKind, TestFault};
 
 const STACK: usize = 262_144;
 
@@ -147,7 +147,7 @@ fn all_are_answered<R: Eprint + Wait>(
     rt: &R,
     alloc: Global,
     over: ManagerKind,
-) -> Result<(), TestError> {
+) -> Result<(), TestFault> {
     for level in &LEVELS {
         for case in &SCRIPTS {
             let bytes = with_levels(alloc, case.script, level, case.levels)?;

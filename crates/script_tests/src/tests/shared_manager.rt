@@ -7,7 +7,7 @@ use std::alloc::Global;
 use std::io::Eprint;
 use std::sync::Wait;
 use std::test::Fail;
-use test_harness::{ManagerKind, TestError, holds};
+use test_harness::{ManagerKind, TestFault, holds};
 
 /// A history of two changes.
 const FULL: [ScriptCase; 2] = [
@@ -68,7 +68,7 @@ fn play_within_limits<R: Eprint + Wait>(
     alloc: Global,
     cases: &[ScriptCase],
     limits: Limits,
-) -> Result<(), TestError> {
+) -> Result<(), TestFault> {
     for case in cases {
         for (read, write) in [(4096, 4096), (7, 3)] {
             let script = ScriptRun {

@@ -12,7 +12,7 @@ use std::io::{Eprint, ErrorKind};
 use std::sync::atomic::{AtomicU64, Ordering};
 use std::sync::{Arc, Wait};
 use std::test::Fail;
-use test_harness::{BOTH_MANAGERS, ManagerKind, TestError, holds};
+use test_harness::{BOTH_MANAGERS, ManagerKind, TestFault, holds};
 use test_support::WriteFault;
 
 /// An echo that counts its ends: 1 for each where no comm is open, else 100.
@@ -24,7 +24,8 @@ struct EndCounter {
 
 impl EndCounter {
     fn new(alloc: Global, ends: Arc<AtomicU64>) -> EndCounter
-        ensures { ⟦<EndCounter as Target>⟧.means result ≡ record { kind = Kind.Echo; notes = 0; ids = []; staged = None } }
+        ensures { ⟦<EndCounter as Target>⟧.means result
+            ≡ record { kind = Kind.Echo; notes = 0; ids = []; staged = None } }
     {
         EndCounter {
             echo: Echo::new(alloc),
@@ -139,7 +140,7 @@ fn take_nothing_at<R: Eprint + Wait>(
     alloc: Global,
     over: ManagerKind,
     call: u64,
-) -> Result<bool, TestError> {
+) -> Result<bool, TestFault> {
     let fails = ScriptRun {
         read: 64,
         write: 7,

@@ -5,7 +5,7 @@ use std::alloc::{AllocError, Global};
 use std::io::Eprint;
 use std::sync::Wait;
 use std::test::Fail;
-use test_harness::{BOTH_MANAGERS, ManagerKind, TestError, holds};
+use test_harness::{BOTH_MANAGERS, ManagerKind, TestFault, holds};
 
 /// A line of a script: where it begins, the answers to what stands before it, and those to the line too.
 #[derive(Drop)]
@@ -68,7 +68,7 @@ fn cut_each<R: Eprint + Wait>(
     case: &ScriptCase,
     over: ManagerKind,
     line: &CutLine<'_>,
-) -> Result<(), TestError> {
+) -> Result<(), TestFault> {
     let (name, number) = (case.name, line.number);
     for at in 0..line.bytes.len() {
         let name = format!(in alloc; "{name}, line {number} cut at {at}")?;
@@ -90,7 +90,7 @@ fn cut_case<R: Eprint + Wait>(
     alloc: Global,
     case: &ScriptCase,
     over: ManagerKind,
-) -> Result<(), TestError> {
+) -> Result<(), TestFault> {
     let mut start = 0usize;
     let mut answered = 0usize;
     for (before, bytes) in case

@@ -3,7 +3,7 @@
 use super::core_scenes::{CoreScene, play_scenes};
 use comm_core::Limits;
 use std::test::Fail;
-use test_harness::{Case, TestError, holds};
+use test_harness::{Case, TestFault, holds};
 
 const CALLED: CoreScene = CoreScene {
     stocks: &["scripted"],
@@ -259,7 +259,7 @@ fn calls_over_a_manager_are_answered(rt: HostRuntime) -> Result<(), Fail> {
     play_scenes(&rt, &[CALLED, STOPPED, REPLACED, COUNTED, ECHOED, LIMITED])
 }
 
-const MOST: Limits = Limits {
+const LARGEST_LIMITS: Limits = Limits {
     clients: 4,
     comms: 4_096,
     history: 4_294_967_295,
@@ -267,22 +267,34 @@ const MOST: Limits = Limits {
 };
 
 const TOO_LARGE: [Limits; 5] = [
-    Limits { clients: 5, ..MOST },
-    Limits { clients: 0, ..MOST },
+    Limits {
+        clients: 5,
+        ..LARGEST_LIMITS
+    },
+    Limits {
+        clients: 0,
+        ..LARGEST_LIMITS
+    },
     Limits {
         comms: 4_097,
-        ..MOST
+        ..LARGEST_LIMITS
     },
-    Limits { history: 0, ..MOST },
+    Limits {
+        history: 0,
+        ..LARGEST_LIMITS
+    },
     Limits {
         outbox: 65_537,
-        ..MOST
+        ..LARGEST_LIMITS
     },
 ];
 
 #[test]
-fn limits_have_bounds() -> Result<(), TestError> {
-    holds(MOST.are_allowed(), "the greatest limits are refused")?;
+fn limits_have_bounds() -> Result<(), TestFault> {
+    holds(
+        LARGEST_LIMITS.are_allowed(),
+        "the greatest limits are refused",
+    )?;
     for limits in &TOO_LARGE {
         holds(
             !limits.are_allowed(),

@@ -4,7 +4,7 @@ use std::alloc::Global;
 use std::process::Abort;
 use std::test::Fail;
 use test_harness::{
-    CallLog, Case, CorePlayer, ScriptedTarget, TestError, is_expected, play_over_core,
+    CallLog, Case, CorePlayer, ScriptedTarget, TestFault, is_expected, play_over_core,
 };
 use widget_target::WidgetTarget;
 
@@ -24,7 +24,7 @@ fn play_with<T: Target>(
     log: CallLog,
     first: T,
     second: T,
-) -> Result<Vec<u8>, TestError> {
+) -> Result<Vec<u8>, TestFault> {
     let mut stock = Vec::new(alloc);
     stock.push(first)?;
     stock.push(second)?;
@@ -42,7 +42,7 @@ fn play_widgets(
     scene: &CoreScene,
     log: CallLog,
     echoes: bool,
-) -> Result<Vec<u8>, TestError> {
+) -> Result<Vec<u8>, TestFault> {
     let silent: Box<dyn Target> = Box::new(alloc, WidgetTarget::new(alloc))?;
     let echoing: Box<dyn Target> = Box::new(alloc, WidgetTarget::with_echo(alloc))?;
     if echoes {
@@ -53,7 +53,7 @@ fn play_widgets(
 }
 
 // The scene with the targets of this name.
-fn play_scene(alloc: Global, scene: &CoreScene, name: &str) -> Result<Vec<u8>, TestError> {
+fn play_scene(alloc: Global, scene: &CoreScene, name: &str) -> Result<Vec<u8>, TestFault> {
     let log = CallLog::new(alloc)?;
     if name == "echo" {
         play_with(alloc, scene, log, Echo::new(alloc), Echo::new(alloc))

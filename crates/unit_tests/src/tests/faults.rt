@@ -5,7 +5,7 @@ use comm_targets::TargetFault;
 use comm_value::ValueFault;
 use std::fmt::Display;
 use std::test::Fail;
-use test_harness::{TestError, append_words, expect_text};
+use test_harness::{TestFault, append_words, expect_text};
 
 const VALUES: [(ValueFault, &str); 6] = [
     (
@@ -114,13 +114,13 @@ const TARGETS: [(TargetFault, &str); 12] = [
 const NEW: [(NewFault, &str); 2] = [
     (
         NewFault::BadLimits,
-        "a limit is out of its bounds: clients 1 to 4, comms 1 to 4096, history 1 to 4294967295, outbox 1 to 65536",
+        "a limit is out of bounds: clients 1 to 4, comms 1 to 4096, history 1 to 4294967295, outbox 1 to 65536",
     ),
     (NewFault::Memory, "memory ran out"),
 ];
 
 // What each of these faults says, a line each.
-fn say<F: Display>(rt: &HostRuntime, name: &str, rows: &[(F, &str)]) -> Result<(), TestError> {
+fn say<F: Display>(rt: &HostRuntime, name: &str, rows: &[(F, &str)]) -> Result<(), TestFault> {
     let alloc = rt.alloc();
     let mut text = Vec::new(alloc);
     let mut want = Vec::new(alloc);

@@ -6,10 +6,10 @@ use serde_json::Value;
 use std::alloc::{AllocError, Global};
 use std::test::Fail;
 use test_harness::{
-    Case, Subject, TestError, append_words, expect_text, holds, run_cases, split_word,
+    Case, Subject, TestFault, append_words, expect_text, holds, run_cases, split_word,
 };
 
-// A number from 0 up, `?` for another, and `-` for what is no number.
+// A whole number, the text of another, `?` where it has lost it, and `-` for what is no number.
 fn append_number(
     alloc: Global,
     value: JsonRef<'_, '_>,
@@ -18,9 +18,12 @@ fn append_number(
     let JsonKind::Number(number) = value.kind() else {
         return append_words(&["-"], text);
     };
-    match number.as_u64() {
+    match number.whole() {
         Some(n) => text.extend_from_slice(format!(in alloc; "{n}")?.as_bytes()),
-        None => append_words(&["?"], text),
+        None => {
+            let of = number.other_text();
+            append_words(&[if of.is_empty() { "?" } else { of }], text)
+        }
     }
 }
 
@@ -50,7 +53,7 @@ fn append_members(
     object: ObjectRef<'_, '_>,
     key: &str,
     text: &mut Vec<u8>,
-) -> Result<(), TestError> {
+) -> Result<(), TestFault> {
     if key != "*" {
         return match object.get(key) {
             Some(value) => Ok(append_value(alloc, value, text)?),
@@ -66,29 +69,29 @@ fn append_members(
 }
 
 // The members of a line that is read as JSON, and as a value of `serde_json`, which are the same.
-fn append_line(alloc: Global, line: &[u8], key: &str, text: &mut Vec<u8>) -> Result<(), TestError> {
+fn append_line(alloc: Global, line: &[u8], key: &str, text: &mut Vec<u8>) -> Result<(), TestFault> {
     let mut room = ParseArena::new(alloc);
     let value = match read_line(line, &mut room) {
         Ok(value) => value,
         Err(JsonFault::NotJson) => return Ok(append_words(&["not json\n"], text)?),
-        Err(JsonFault::Memory) => return Err(TestError("no memory")),
+        Err(JsonFault::Memory) => return Err(TestFault("no memory")),
     };
     holds(numbers_are_in_range(&value), "a number is out of range")?;
     let JsonKind::Object(object) = JsonRef::Borrowed(&value).kind() else {
-        return Err(TestError("no object"));
+        return Err(TestFault("no object"));
     };
     append_members(alloc, object, key, text)?;
     text.push(b'\n')?;
     Ok(())
 }
 
-fn append_owned(alloc: Global, json: &str, key: &str, text: &mut Vec<u8>) -> Result<(), TestError> {
+fn append_owned(alloc: Global, json: &str, key: &str, text: &mut Vec<u8>) -> Result<(), TestFault> {
     let Ok(value) = Value::from_str(alloc, json) else {
-        return Err(TestError("serde_json doesn't read it"));
+        return Err(TestFault("serde_json doesn't read it"));
     };
     let done = match &value {
         Value::Object(map) => append_members(alloc, ObjectRef::Owned(map), key, text),
-        _ => Err(TestError("no object")),
+        _ => Err(TestFault("no object")),
     };
     drop(value);
     text.push(b'\n')?;
@@ -100,7 +103,7 @@ fn append_owned(alloc: Global, json: &str, key: &str, text: &mut Vec<u8>) -> Res
 struct JsonLines;
 
 impl Subject for JsonLines {
-    fn answer(&self, alloc: Global, line: &str, text: &mut Vec<u8>) -> Result<(), TestError> {
+    fn answer(&self, alloc: Global, line: &str, text: &mut Vec<u8>) -> Result<(), TestFault> {
         let (word, rest) = split_word(line);
         let (key, json) = split_word(rest);
         if word == "line" {
@@ -110,7 +113,7 @@ impl Subject for JsonLines {
         } else {
             match hex::decode(alloc, rest) {
                 Ok(bytes) => append_line(alloc, &bytes, "*", text),
-                Err(_) => Err(TestError("no hexadecimal digits")),
+                Err(_) => Err(TestFault("no hexadecimal digits")),
             }
         }
     }
@@ -125,7 +128,7 @@ line * {"b":2,"a":1,"c":3}
 line * {"a":1,"é":2,"a":3,"Z":4}
 line * {"\u0062":1,"b":2}
 line * {"a":-1,"b":{},"c":1.5}"#,
-        want: "\na 1;b 2;\na 1;b 2;c 3;\nZ 4;a 3;é 2;\nb 2;\na ?;b -;c ?;\n",
+        want: "\na 1;b 2;\na 1;b 2;c 3;\nZ 4;a 3;é 2;\nb 2;\na -1;b -;c 1.5;\n",
     },
     Case {
         name: "serde_json's values give the same members",
@@ -137,7 +140,7 @@ owned * {"\u0062":1,"b":2}
 owned * {"a":-1,"b":{},"c":1.5}
 owned l {"l":[7,true],"l":[8,false]}
 owned m {"l":[7,true]}"#,
-        want: "\na 1;b 2;\na 1;b 2;c 3;\nZ 4;a 3;é 2;\nb 2;\na ?;b -;c ?;\n2: 8 -\nnone\n",
+        want: "\na 1;b 2;\na 1;b 2;c 3;\nZ 4;a 3;é 2;\nb 2;\na -1;b -;c ?;\n2: 8 -\nnone\n",
     },
     Case {
         name: "a list tells its items, and an object the value at a key",

@@ -1,18 +1,19 @@
 //! Messages as they are read, the first test that one fails, and the parts of reading one by one.
 use comm_json::{JsonRef, ParseArena};
 use comm_messages::{
-    Fields, Incoming, MessageFault, buffers_of, client_of, fields_of, member, message_of,
-    object_in, object_or_empty, read_message, text, text_or_none, whole_dict,
+    Fields, Incoming, MessageFault, buffers_of, client_of, dict_of, fields_of, member, message_of,
+    object_in, object_or_empty, read_message, text, text_or_none,
 };
-use comm_value::Text;
+use comm_value::{Numbers, Text};
 use serde_json::Value;
 use std::alloc::{AllocError, Global};
 use std::test::Fail;
 use test_harness::{
-    Case, Subject, TestError, append_body, append_buffers, append_words, expect_text, run_cases,
+    Case, Subject, TestFault, append_body, append_buffers, append_words, expect_text, run_cases,
     split_word,
 };
 
+mod decimals;
 mod writing;
 
 fn or_dash(text: &Option<Text>) -> &str {
@@ -57,7 +58,7 @@ fn append_read(
     alloc: Global,
     read: Result<(u8, Incoming), MessageFault>,
     out: &mut Vec<u8>,
-) -> Result<(), TestError> {
+) -> Result<(), TestFault> {
     match read {
         Ok((client, message)) => {
             let done = append_message(alloc, client, &message, out);
@@ -70,7 +71,7 @@ fn append_read(
 }
 
 // A message whose data nests so many lists; its first words.
-fn append_nested(alloc: Global, lists: usize, out: &mut Vec<u8>) -> Result<(), TestError> {
+fn append_nested(alloc: Global, lists: usize, out: &mut Vec<u8>) -> Result<(), TestFault> {
     let mut line = String::from_str(
         alloc,
         r#"{"header":{"msg_type":"comm_msg"},"content":{"comm_id":"a","data":{"x":"#,
@@ -89,9 +90,9 @@ fn append_nested(alloc: Global, lists: usize, out: &mut Vec<u8>) -> Result<(), T
     Ok(append_words(&["\n"], out)?)
 }
 
-fn append_base64(alloc: Global, json: &str, out: &mut Vec<u8>) -> Result<(), TestError> {
+fn append_base64(alloc: Global, json: &str, out: &mut Vec<u8>) -> Result<(), TestFault> {
     let Ok(value) = Value::from_str(alloc, json) else {
-        return Err(TestError("no JSON"));
+        return Err(TestFault("no JSON"));
     };
     let buffers = buffers_of(alloc, Some(JsonRef::Owned(&value)));
     drop(value);
@@ -107,17 +108,17 @@ fn append_base64(alloc: Global, json: &str, out: &mut Vec<u8>) -> Result<(), Tes
 struct Messages;
 
 impl Subject for Messages {
-    fn answer(&self, alloc: Global, line: &str, text: &mut Vec<u8>) -> Result<(), TestError> {
+    fn answer(&self, alloc: Global, line: &str, text: &mut Vec<u8>) -> Result<(), TestFault> {
         let (word, rest) = split_word(line);
         if word == "hex" {
             match hex::decode(alloc, rest) {
                 Ok(bytes) => append_read(alloc, read_message(alloc, &bytes, 4), text),
-                Err(_) => Err(TestError("no hexadecimal digits")),
+                Err(_) => Err(TestFault("no hexadecimal digits")),
             }
         } else if word == "nested" {
             match rest.parse::<usize>() {
                 Ok(lists) => append_nested(alloc, lists, text),
-                Err(_) => Err(TestError("no number")),
+                Err(_) => Err(TestFault("no number")),
             }
         } else if word == "base64" {
             append_base64(alloc, rest, text)
@@ -304,12 +305,12 @@ fn append_object(
     fields: Fields<'_, '_>,
     key: &str,
     out: &mut Vec<u8>,
-) -> Result<(), TestError> {
+) -> Result<(), TestFault> {
     match object_or_empty(member(fields, key)) {
         None => Ok(append_words(&["?"], out)?),
         Some(None) => Ok(append_words(&["-"], out)?),
         Some(object) => {
-            let members = whole_dict(alloc, object)?.len();
+            let members = dict_of(alloc, Numbers::Whole, object)?.len();
             Ok(out.extend_from_slice(format!(in alloc; "{members}")?.as_bytes())?)
         }
     }
@@ -322,7 +323,7 @@ fn append_field(
     fields: Fields<'_, '_>,
     key: &str,
     out: &mut Vec<u8>,
-) -> Result<(), TestError> {
+) -> Result<(), TestFault> {
     let of_three = client_of(member(fields, key), 3);
     let of_two = client_of(member(fields, key), 2);
     let as_text = text(member(fields, key)).unwrap_or("?");
@@ -337,7 +338,7 @@ fn append_field(
     Ok(append_words(&["\n"], out)?)
 }
 
-fn append_fields(alloc: Global, out: &mut Vec<u8>) -> Result<(), TestError> {
+fn append_fields(alloc: Global, out: &mut Vec<u8>) -> Result<(), TestFault> {
     let mut room = ParseArena::new(alloc);
     let object = object_in(COMMAND, &mut room)?;
     for key in ["call", "client", "data", "state", "none"] {
@@ -347,9 +348,9 @@ fn append_fields(alloc: Global, out: &mut Vec<u8>) -> Result<(), TestError> {
 }
 
 // What becomes of a line that is read as a value.
-fn append_value(alloc: Global, line: &[u8], out: &mut Vec<u8>) -> Result<(), TestError> {
+fn append_value(alloc: Global, line: &[u8], out: &mut Vec<u8>) -> Result<(), TestFault> {
     let Ok(value) = Value::from_slice(alloc, line) else {
-        return Err(TestError("no JSON"));
+        return Err(TestFault("no JSON"));
     };
     let message = message_of(alloc, &value, 4);
     drop(value);

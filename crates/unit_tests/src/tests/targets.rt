@@ -9,7 +9,7 @@ use comm_value::Text;
 use std::alloc::Global;
 use std::test::Fail;
 use test_harness::{
-    CallLog, Case, ScriptedTarget, Subject, TestError, append_target_answer, append_words, body_of,
+    CallLog, Case, ScriptedTarget, Subject, TestFault, append_target_answer, append_words, body_of,
     run_cases, split_word,
 };
 
@@ -45,7 +45,7 @@ fn append_answer_copy(
     alloc: Global,
     answer: Result<Answer, TargetFault>,
     text: &mut Vec<u8>,
-) -> Result<(), TestError> {
+) -> Result<(), TestFault> {
     match answer {
         Ok(answer) => {
             let copy = answer.copy(alloc);
@@ -82,7 +82,7 @@ fn talk<T: Target>(
     opening: &Event,
     message: &Event,
     text: &mut Vec<u8>,
-) -> Result<(), TestError>
+) -> Result<(), TestFault>
     requires idle { IsIdle (T.means target) }
     requires askable { IsAskable (T.means target) opening.now }
     requires opens { ids_after [] opening.now ≡ id_of message.now ∷ [] }
@@ -113,7 +113,7 @@ fn conversation<T: Target>(
     opening: Body,
     message: Body,
     text: &mut Vec<u8>,
-) -> Result<(), TestError>
+) -> Result<(), TestFault>
     requires { IsIdle (T.means target) }
 {
     let id = Text::copy_of(alloc, "a")?;
@@ -138,7 +138,7 @@ fn conversation<T: Target>(
 struct Conversations;
 
 impl Subject for Conversations {
-    fn answer(&self, alloc: Global, line: &str, text: &mut Vec<u8>) -> Result<(), TestError> {
+    fn answer(&self, alloc: Global, line: &str, text: &mut Vec<u8>) -> Result<(), TestFault> {
         let (name, words) = split_word(line);
         let (opening, message) = split_word(words);
         let log = CallLog::new(alloc)?;

@@ -7,10 +7,11 @@ use serde_json::Value;
 use std::alloc::{AllocError, Global};
 use std::test::Fail;
 use test_harness::{
-    Case, Subject, TestError, append_buffers, append_state, append_words, buffers_of, dict_of,
+    Case, Subject, TestFault, append_buffers, append_state, append_words, buffers_of, dict_of,
     expect_text, holds, run_cases, split_word,
 };
 
+mod decimals;
 mod large;
 
 fn value_of(alloc: Global, json: &str) -> Result<Val, ValueFault> {
@@ -23,7 +24,7 @@ fn value_of(alloc: Global, json: &str) -> Result<Val, ValueFault> {
 }
 
 // The text of a value without bytes, which is the one of `serde_json`'s value.
-fn append_value(alloc: Global, value: &Val, text: &mut Vec<u8>) -> Result<(), TestError> {
+fn append_value(alloc: Global, value: &Val, text: &mut Vec<u8>) -> Result<(), TestFault> {
     if value.has_bytes() {
         return Ok(append_words(&["bytes"], text)?);
     }
@@ -48,7 +49,7 @@ fn append_copy(
     alloc: Global,
     value: Result<Val, ValueFault>,
     text: &mut Vec<u8>,
-) -> Result<(), TestError> {
+) -> Result<(), TestFault> {
     let value = match value {
         Ok(value) => value,
         Err(fault) => return Ok(append_fault(alloc, fault, text)?),
@@ -76,7 +77,7 @@ fn paths_in(alloc: Global, json: &str) -> Result<Vec<Path>, ValueFault> {
     Ok(copies)
 }
 
-fn append_paths(alloc: Global, json: &str, text: &mut Vec<u8>) -> Result<(), TestError> {
+fn append_paths(alloc: Global, json: &str, text: &mut Vec<u8>) -> Result<(), TestFault> {
     match paths_in(alloc, json) {
         Ok(paths) => append_copy(alloc, Ok(paths_val(alloc, &paths)?), text),
         Err(fault) => Ok(append_fault(alloc, fault, text)?),
@@ -84,7 +85,7 @@ fn append_paths(alloc: Global, json: &str, text: &mut Vec<u8>) -> Result<(), Tes
 }
 
 // A state with these buffers at these paths, taken apart again, or the fault.
-fn append_placed(alloc: Global, words: &str, text: &mut Vec<u8>) -> Result<(), TestError> {
+fn append_placed(alloc: Global, words: &str, text: &mut Vec<u8>) -> Result<(), TestFault> {
     let (json, words) = split_word(words);
     let (paths, words) = split_word(words);
     let buffers = buffers_of(alloc, words)?;
@@ -101,7 +102,7 @@ fn append_placed(alloc: Global, words: &str, text: &mut Vec<u8>) -> Result<(), T
 }
 
 // How many keys a dict has, and it.
-fn append_dict(alloc: Global, dict: &Dict, text: &mut Vec<u8>) -> Result<(), TestError> {
+fn append_dict(alloc: Global, dict: &Dict, text: &mut Vec<u8>) -> Result<(), TestFault> {
     let len = dict.len();
     let (is_empty, has_bytes) = (dict.is_empty(), dict.has_bytes());
     holds(is_empty == (len == 0), "an empty dict has keys")?;
@@ -111,7 +112,7 @@ fn append_dict(alloc: Global, dict: &Dict, text: &mut Vec<u8>) -> Result<(), Tes
 }
 
 // A state, what an update makes of it, and the state as it still is.
-fn append_merged(alloc: Global, words: &str, text: &mut Vec<u8>) -> Result<(), TestError> {
+fn append_merged(alloc: Global, words: &str, text: &mut Vec<u8>) -> Result<(), TestFault> {
     let (state, update) = split_word(words);
     let state = dict_of(alloc, state)?;
     let merged = merge(alloc, state.copy()?, dict_of(alloc, update)?)?;
@@ -120,11 +121,11 @@ fn append_merged(alloc: Global, words: &str, text: &mut Vec<u8>) -> Result<(), T
 }
 
 // A dict with bytes at a key, and a copy that was made before.
-fn append_inserted(alloc: Global, words: &str, text: &mut Vec<u8>) -> Result<(), TestError> {
+fn append_inserted(alloc: Global, words: &str, text: &mut Vec<u8>) -> Result<(), TestFault> {
     let (json, words) = split_word(words);
     let (key, bytes) = split_word(words);
     let Ok(bytes) = hex::decode(alloc, bytes) else {
-        return Err(TestError("no hexadecimal digits"));
+        return Err(TestFault("no hexadecimal digits"));
     };
     let bytes = Bytes::new(alloc, bytes)?;
     let key = Text::new(alloc, String::from_str(alloc, key)?)?;
@@ -135,7 +136,7 @@ fn append_inserted(alloc: Global, words: &str, text: &mut Vec<u8>) -> Result<(),
 }
 
 // Whether a copy of a text is it, and isn't another.
-fn append_is(alloc: Global, words: &str, text: &mut Vec<u8>) -> Result<(), TestError> {
+fn append_is(alloc: Global, words: &str, text: &mut Vec<u8>) -> Result<(), TestFault> {
     let (word, other) = split_word(words);
     let from = Text::copy_of(alloc, word)?;
     let copy = from.copy()?;
@@ -145,9 +146,9 @@ fn append_is(alloc: Global, words: &str, text: &mut Vec<u8>) -> Result<(), TestE
 }
 
 // A number, where it is whole.
-fn append_whole(alloc: Global, digits: &str, text: &mut Vec<u8>) -> Result<(), TestError> {
+fn append_whole(alloc: Global, digits: &str, text: &mut Vec<u8>) -> Result<(), TestFault> {
     let Ok(number) = digits.parse::<i128>() else {
-        return Err(TestError("no number"));
+        return Err(TestFault("no number"));
     };
     match Whole::new(number) {
         Some(whole) => {
@@ -168,7 +169,7 @@ fn append_last(alloc: Global, buffers: &Buffers, text: &mut Vec<u8>) -> Result<(
 }
 
 // A copy of buffers, which are let go first.
-fn append_buffers_copy(alloc: Global, words: &str, text: &mut Vec<u8>) -> Result<(), TestError> {
+fn append_buffers_copy(alloc: Global, words: &str, text: &mut Vec<u8>) -> Result<(), TestFault> {
     let all = buffers_of(alloc, words)?;
     let copy = all.copy(alloc);
     drop(all);
@@ -178,13 +179,13 @@ fn append_buffers_copy(alloc: Global, words: &str, text: &mut Vec<u8>) -> Result
 }
 
 // The JSON text of the text of these bytes.
-fn append_quoted(alloc: Global, word: &str, text: &mut Vec<u8>) -> Result<(), TestError> {
+fn append_quoted(alloc: Global, word: &str, text: &mut Vec<u8>) -> Result<(), TestFault> {
     let Ok(bytes) = hex::decode(alloc, word) else {
-        return Err(TestError("no hexadecimal digits"));
+        return Err(TestFault("no hexadecimal digits"));
     };
     match std::str::from_utf8(&bytes) {
         Ok(of) => Ok(write_text(of, text)?),
-        Err(_) => Err(TestError("no text")),
+        Err(_) => Err(TestFault("no text")),
     }
 }
 
@@ -193,7 +194,7 @@ fn append_quoted(alloc: Global, word: &str, text: &mut Vec<u8>) -> Result<(), Te
 struct Values;
 
 impl Subject for Values {
-    fn answer(&self, alloc: Global, line: &str, text: &mut Vec<u8>) -> Result<(), TestError> {
+    fn answer(&self, alloc: Global, line: &str, text: &mut Vec<u8>) -> Result<(), TestFault> {
         let (kind, words) = split_word(line);
         let done = if kind == "value" {
             append_copy(alloc, value_of(alloc, words), text)

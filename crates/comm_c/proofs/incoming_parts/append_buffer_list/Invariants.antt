@@ -1,5 +1,5 @@
 use Rattle.std.proofs.Common.{◌≡◌, ◌++◌, drop, length, sum}
-use Rattle.serde_json.specs.Written.{items_text}
+use Rattle.comm_json.specs.Text.{items_text}
 use Rattle.comm_messages.specs.Text.{buffer_texts}
 use Rattle.comm_c.specs.IncomingParts.{split_buffers, buffer_list_text}
 use Rattle.comm_c.proofs.incoming_parts.append_buffer_list.Given as goal

@@ -1,9 +1,10 @@
-use Rattle.std.proofs.Common.{take}
-use Rattle.comm_json.proofs.ReadLists.{AreRead, MembersAreRead}
+use Rattle.std.proofs.Common.{◌≡◌, drop}
+use Rattle.json.specs.Value.{items_view, members_view}
+use Rattle.comm_json.specs.Behind.{items_in_range, members_in_range}
 use Rattle.comm_json.proofs.ranges.+in_range.Given as goal
 
 abbrev pub invariant-items_are_in_range-loop-item : goal.invariant-items_are_in_range-loop-item
-invariant-items_are_in_range-loop-item l = AreRead (take l.item-index l.item-items)
+invariant-items_are_in_range-loop-item l = items_in_range (items_view (drop l.item-index l.item-items)) ≡ items_in_range (items_view l.item-items)
 
 abbrev pub invariant-members_are_in_range-loop-member : goal.invariant-members_are_in_range-loop-member
-invariant-members_are_in_range-loop-member l = MembersAreRead (take l.member-index l.member-items)
+invariant-members_are_in_range-loop-member l = members_in_range (members_view (drop l.member-index l.member-items)) ≡ members_in_range (members_view l.member-items)

@@ -1,6 +1,6 @@
 use Rattle.std.proofs.Common.{◌≡◌, length, Some, None, Ok, sym, ap, ◌∙◌, arith}
 use Rattle.std.proofs.lemmas.Result.{err_from_is_err_and}
-use Rattle.serde_json.specs.Find.{get_item}
+use Rattle.json.specs.Find.{get_item}
 use Rattle.comm_json.specs.Behind.{items}
 use Rattle.comm_json.specs.Behind.{behind as of_ref}
 use Rattle.comm_value.specs.Gives.{or_fault}

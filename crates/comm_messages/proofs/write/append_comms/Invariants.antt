@@ -1,5 +1,5 @@
 use Rattle.std.proofs.Common.{◌≡◌, ◌++◌, false}
-use Rattle.serde_json.specs.Written.{members_text}
+use Rattle.comm_json.specs.Text.{members_text}
 use Rattle.comm_messages.specs.Text.{comm_members}
 use Rattle.comm_messages.proofs.WriteLemmas.{comms_rest}
 use Rattle.comm_messages.proofs.write.append_comms.Given as goal

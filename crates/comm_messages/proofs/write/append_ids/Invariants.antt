@@ -1,5 +1,5 @@
 use Rattle.std.proofs.Common.{◌≡◌, ◌++◌, drop, false}
-use Rattle.serde_json.specs.Written.{items_text}
+use Rattle.comm_json.specs.Text.{items_text}
 use Rattle.comm_messages.specs.Text.{texts}
 use Rattle.comm_messages.proofs.write.append_ids.Given as goal
 

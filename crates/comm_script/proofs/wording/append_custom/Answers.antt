@@ -1,8 +1,8 @@
 use Rattle.std.proofs.Common.{[], ◌∷◌, true, false}
 use Rattle.std.specs.Prelude.{codes}
 use Rattle.json.specs.Print.{quoted}
-use Rattle.serde_json.specs.Data.{member, no_members}
-use Rattle.serde_json.specs.Written.{items_text, members_text}
+use Rattle.json.specs.Json.{member, no_members}
+use Rattle.comm_json.specs.Text.{items_text, members_text}
 use Rattle.comm_value.specs.ToJson.{json_of}
 use Rattle.comm_value.specs.View.{tree}
 use Rattle.comm_messages.specs.Text.{buffer_texts}

@@ -1,6 +1,6 @@
 use Rattle.std.proofs.Common.{[], ◌∷◌}
 use Rattle.json.specs.Print.{quoted}
-use Rattle.serde_json.specs.Written.{compact_text}
+use Rattle.comm_json.specs.Text.{compact_text}
 use Rattle.comm_value.specs.ToJson.{json_of}
 use Rattle.comm_value.specs.View.{tree}
 use Rattle.comm_script.proofs.Joining.{signed_key}

@@ -1,8 +1,8 @@
 use Rattle.std.proofs.Common.{true}
 use Rattle.std.specs.Prelude.{codes}
 use Rattle.json.specs.Print.{quoted}
-use Rattle.serde_json.specs.Data.{array, member, no_members}
-use Rattle.serde_json.specs.Written.{compact_text, members_text}
+use Rattle.json.specs.Json.{array, member, no_members}
+use Rattle.comm_json.specs.Text.{compact_text, members_text}
 use Rattle.comm_value.specs.ToJson.{json_of}
 use Rattle.comm_value.specs.View.{tree}
 use Rattle.comm_value.specs.Paths.{paths_tree}

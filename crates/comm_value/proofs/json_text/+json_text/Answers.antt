@@ -1,5 +1,5 @@
 use Rattle.std.proofs.Common.{◌++◌, sym, ap, ◌∙◌, arith}
-use Rattle.serde_json.specs.Written.{members_text}
+use Rattle.comm_json.specs.Text.{members_text}
 use Rattle.comm_value.specs.ToJson.{json_members}
 use Rattle.comm_value.specs.View.{members_of}
 use Rattle.comm_value.proofs.Flat.{opened, closed}

@@ -1,5 +1,5 @@
 use Rattle.std.proofs.Common.{◌≡◌, ◌+◌, ◌++◌, ◌∷◌, drop, false}
-use Rattle.serde_json.specs.Written.{items_text, members_text}
+use Rattle.comm_json.specs.Text.{items_text, members_text}
 use Rattle.comm_value.specs.ToJson.{json_items, json_members}
 use Rattle.comm_value.specs.View.{items_of, members_of, flat}
 use Rattle.comm_value.proofs.json_text.+json_text.Given as goal

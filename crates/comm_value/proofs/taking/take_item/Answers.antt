@@ -1,4 +1,4 @@
-use Rattle.std.proofs.Common.{◌≡◌, ◌<◌, length, Some, ap, ◌∙◌, sym, arith}
+use Rattle.std.proofs.Common.{◌<◌, length, Some, ap, ◌∙◌, sym, arith}
 use Rattle.std.specs.Prelude.{option_map}
 use Rattle.comm_value.specs.Tree.{list}
 use Rattle.comm_value.specs.Node.{get_item}

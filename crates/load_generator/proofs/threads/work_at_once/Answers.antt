@@ -4,13 +4,13 @@ use Rattle.comm_manager.proofs.Crossing.{manager_sync, client_send}
 use Rattle.load_generator.proofs.Crossing.{job_sync, signals_sync}
 use Rattle.load_generator.proofs.threads.work_at_once.Goals as goal
 
-pub at_work-requires-send-C : goal.at_work-requires-send-C
-at_work-requires-send-C g c κs within =
+pub run_workers-requires-send-C : goal.run_workers-requires-send-C
+run_workers-requires-send-C g c κs within =
     let l = client_send _ g.M.ManagerId g.M.History c.type_bounds.send-M c.type_bounds.sync-M in
     search (sendable, crosses) depth 40
 
-pub at_work-requires-sync-W : goal.at_work-requires-sync-W
-at_work-requires-sync-W g c κs within =
+pub run_workers-requires-sync-W : goal.run_workers-requires-sync-W
+run_workers-requires-sync-W g c κs within =
     let s = c.type_bounds.sync-R in
     let j = c.type_bounds.send-M in
     let k = c.type_bounds.sync-M in

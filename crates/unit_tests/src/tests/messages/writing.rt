@@ -9,11 +9,11 @@ use comm_value::Dict;
 use std::alloc::{AllocError, Global};
 use std::test::Fail;
 use test_harness::{
-    Case, Subject, TestError, append_words, body_of, call_of, holds, run_cases, split_word,
+    Case, Subject, TestFault, append_words, body_of, call_of, holds, run_cases, split_word,
 };
 
 // The message that a call would send if it were the kernel's.
-fn outgoing_of(alloc: Global, line: &str) -> Result<Outgoing, TestError>
+fn outgoing_of(alloc: Global, line: &str) -> Result<Outgoing, TestFault>
     ensures { (c n : ℕ) → IfOk result (λ m. goes_with m (Parent.Call c n) ≡ true) }
 {
     match call_of(alloc, line)? {
@@ -29,16 +29,20 @@ fn outgoing_of(alloc: Global, line: &str) -> Result<Outgoing, TestError>
                 version,
                 body,
             }),
-            None => Err(TestError("no version")),
+            None => Err(TestFault("no version")),
         },
         Call::Msg { id, body } => Ok(Outgoing::Msg { id, body }),
         Call::Close { id } => Ok(Outgoing::Close { id }),
-        _ => Err(TestError("no message")),
+        _ => Err(TestFault("no message")),
     }
 }
 
 // The line of a copy of a message, which is let go first.
-fn line_of(alloc: Global, message: Outgoing, parent: &Parent) -> Result<Vec<u8>, AllocError>
+pub(super) fn line_of(
+    alloc: Global,
+    message: Outgoing,
+    parent: &Parent,
+) -> Result<Vec<u8>, AllocError>
     requires { goes_with message parent.now ≡ true }
 {
     let copy = message.copy(alloc);
@@ -54,11 +58,11 @@ fn line_of(alloc: Global, message: Outgoing, parent: &Parent) -> Result<Vec<u8>,
 struct WrittenMessages;
 
 impl Subject for WrittenMessages {
-    fn answer(&self, alloc: Global, line: &str, text: &mut Vec<u8>) -> Result<(), TestError> {
+    fn answer(&self, alloc: Global, line: &str, text: &mut Vec<u8>) -> Result<(), TestFault> {
         let (client, words) = split_word(line);
         let (number, words) = split_word(words);
         let (Ok(client), Ok(number)) = (client.parse::<u8>(), number.parse::<u64>()) else {
-            return Err(TestError("no number"));
+            return Err(TestFault("no number"));
         };
         let message = outgoing_of(alloc, words)?;
         let line = line_of(alloc, message, &Parent::Call { client, number })?;

@@ -3,10 +3,10 @@ use super::{append_value, dict_of};
 use comm_value::{Dict, Text, Val, Whole, merge};
 use std::alloc::Global;
 use std::test::Fail;
-use test_harness::{TestError, append_words, expect_text, holds};
+use test_harness::{TestFault, append_words, expect_text, holds};
 
 // The keys k000 to k199, let in from both ends.
-fn two_hundred_keys(alloc: Global) -> Result<Dict, TestError> {
+fn two_hundred_keys(alloc: Global) -> Result<Dict, TestFault> {
     let mut state = Dict::new();
     for n in 0..200u32 {
         let at = if n % 2 == 0 { n } else { 200 - n };
@@ -21,7 +21,7 @@ fn two_hundred_keys(alloc: Global) -> Result<Dict, TestError> {
 }
 
 // What stands at each of the keys k000 to k199.
-fn append_all(alloc: Global, of: &Dict, text: &mut Vec<u8>) -> Result<(), TestError> {
+fn append_all(alloc: Global, of: &Dict, text: &mut Vec<u8>) -> Result<(), TestFault> {
     for n in 0..200u32 {
         let key = format!(in alloc; "k{n:03}")?;
         match of.get(key.as_str()) {
@@ -34,7 +34,7 @@ fn append_all(alloc: Global, of: &Dict, text: &mut Vec<u8>) -> Result<(), TestEr
 }
 
 // The numbers 0 to 199, a line each, but for what stands for 100.
-fn append_numbers(alloc: Global, hundred: &str, text: &mut Vec<u8>) -> Result<(), TestError> {
+fn append_numbers(alloc: Global, hundred: &str, text: &mut Vec<u8>) -> Result<(), TestFault> {
     for n in 0..200u32 {
         let line = format!(in alloc; "{n}\n")?;
         text.extend_from_slice(if n == 100 { hundred } else { line.as_str() }.as_bytes())?;
@@ -48,7 +48,7 @@ fn append_states(
     before: &Dict,
     after: &Dict,
     text: &mut Vec<u8>,
-) -> Result<bool, TestError> {
+) -> Result<bool, TestFault> {
     append_all(alloc, before, text)?;
     append_all(alloc, after, text)?;
     let mut json = Vec::new(alloc);
@@ -64,7 +64,7 @@ fn append_states(
     )
 }
 
-fn append_updated(alloc: Global, text: &mut Vec<u8>) -> Result<bool, TestError> {
+fn append_updated(alloc: Global, text: &mut Vec<u8>) -> Result<bool, TestFault> {
     let update = dict_of(alloc, "{\"a\":1,\"k100\":[2],\"k1005\":3,\"z\":4}")?;
     let before = two_hundred_keys(alloc)?;
     let after = merge(alloc, before.copy()?, update)?;
@@ -74,7 +74,7 @@ fn append_updated(alloc: Global, text: &mut Vec<u8>) -> Result<bool, TestError> 
     is
 }
 
-fn append_wanted(alloc: Global, text: &mut Vec<u8>) -> Result<(), TestError> {
+fn append_wanted(alloc: Global, text: &mut Vec<u8>) -> Result<(), TestFault> {
     append_numbers(alloc, "100\n", text)?;
     append_numbers(alloc, "[2]\n", text)
 }

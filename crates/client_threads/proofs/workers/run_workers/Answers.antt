@@ -1,7 +1,7 @@
 use Rattle.std.proofs.Crossing.{crosses}
 use denote.Param.Send.{sendable}
 use Rattle.comm_manager.proofs.Crossing.{publisher_send}
-use Rattle.client_threads.proofs.working.at_work.Goals as goal
+use Rattle.client_threads.proofs.workers.run_workers.Goals as goal
 
 pub join-requires-send-F : goal.join-requires-send-F
 join-requires-send-F g c κs within =

@@ -9,7 +9,7 @@ use thiserror::Error;
 
 /// Why a load isn't done.
 #[derive(Clone, Copy, Debug, Error)]
-pub enum LoadError {
+pub enum LoadFault {
     /// There was no memory, or no place for a reader.
     #[error("out of memory, or of places for readers")]
     OutOfResources,
@@ -21,53 +21,53 @@ pub enum LoadError {
     System,
 }
 
-impl From<AllocError> for LoadError {
+impl From<AllocError> for LoadFault {
     ghost from_gives = { λ _ _. ⊤ };
 
-    fn from(_error: AllocError) -> LoadError {
-        LoadError::OutOfResources
+    fn from(_error: AllocError) -> LoadFault {
+        LoadFault::OutOfResources
     }
 }
 
-impl<T: Drop> From<AllocFailed<T>> for LoadError {
+impl<T: Drop> From<AllocFailed<T>> for LoadFault {
     ghost from_gives = { λ _ _. ⊤ };
 
-    fn from(_error: AllocFailed<T>) -> LoadError {
-        LoadError::OutOfResources
+    fn from(_error: AllocFailed<T>) -> LoadFault {
+        LoadFault::OutOfResources
     }
 }
 
-impl From<NewFault> for LoadError {
+impl From<NewFault> for LoadFault {
     ghost from_gives = { λ _ _. ⊤ };
 
-    fn from(_fault: NewFault) -> LoadError {
-        LoadError::WrongAnswer
+    fn from(_fault: NewFault) -> LoadFault {
+        LoadFault::WrongAnswer
     }
 }
 
-impl From<OpeningFault> for LoadError {
+impl From<OpeningFault> for LoadFault {
     ghost from_gives = { λ _ _. ⊤ };
 
-    fn from(_fault: OpeningFault) -> LoadError {
-        LoadError::OutOfResources
+    fn from(_fault: OpeningFault) -> LoadFault {
+        LoadFault::OutOfResources
     }
 }
 
-impl From<ReadFault> for LoadError {
+impl From<ReadFault> for LoadFault {
     ghost from_gives = { λ _ _. ⊤ };
 
-    fn from(fault: ReadFault) -> LoadError {
+    fn from(fault: ReadFault) -> LoadFault {
         match fault {
-            ReadFault::Memory => LoadError::OutOfResources,
-            ReadFault::NoVersion => LoadError::WrongAnswer,
+            ReadFault::Memory => LoadFault::OutOfResources,
+            ReadFault::NoVersion => LoadFault::WrongAnswer,
         }
     }
 }
 
-impl From<io::Error> for LoadError {
+impl From<io::Error> for LoadFault {
     ghost from_gives = { λ _ _. ⊤ };
 
-    fn from(_error: io::Error) -> LoadError {
-        LoadError::System
+    fn from(_error: io::Error) -> LoadFault {
+        LoadFault::System
     }
 }

@@ -38,7 +38,7 @@ fn work_all<C: Send, R: Threads + Sync, W: Fn(usize, &mut C) + Sync>(
 
 /// Calls `work` at each client and its place, each in a thread of its own where one can be made, while one more
 /// thread takes what goes out. It returns when all of them are done and nothing is left to be taken.
-pub fn at_work<
+pub fn run_workers<
     M: ManagerId + Send + Sync,
     C: Send,
     R: Threads + Wait + Sync,
