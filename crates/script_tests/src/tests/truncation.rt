@@ -1,6 +1,7 @@
 //! Scripts that are cut after each of their bytes: the whole lines are answered, and a part of a line isn't JSON.
 use super::harness::{ScriptRun, expect_answers, program_limits};
-use super::{ScriptCase, echo_cases, frontend_cases, kernel_cases, widget_cases};
+use super::{ScriptCase, decimal_cases, echo_cases, frontend_cases, kernel_cases, widget_cases};
+use comm_value::Numbers;
 use std::alloc::{AllocError, Global};
 use std::io::Eprint;
 use std::sync::Wait;
@@ -66,6 +67,7 @@ fn cut_each<R: Eprint + Wait>(
     rt: &R,
     alloc: Global,
     case: &ScriptCase,
+    numbers: Numbers,
     over: ManagerKind,
     line: &CutLine<'_>,
 ) -> Result<(), TestFault> {
@@ -75,6 +77,7 @@ fn cut_each<R: Eprint + Wait>(
         let end = line.start.saturating_add(at);
         let script = ScriptRun {
             limits: program_limits(case.comms),
+            numbers,
             ..ScriptRun::over(over, case.script.get(..end).unwrap_or(case.script))
         };
         let (part, rest) = line.bytes.split_at(at);
@@ -89,6 +92,7 @@ fn cut_case<R: Eprint + Wait>(
     rt: &R,
     alloc: Global,
     case: &ScriptCase,
+    numbers: Numbers,
     over: ManagerKind,
 ) -> Result<(), TestFault> {
     let mut start = 0usize;
@@ -114,17 +118,22 @@ fn cut_case<R: Eprint + Wait>(
                 .get(..answered.saturating_add(own))
                 .unwrap_or(b""),
         };
-        cut_each(rt, alloc, case, over, &line)?;
+        cut_each(rt, alloc, case, numbers, over, &line)?;
         start = start.saturating_add(bytes.len());
         answered = answered.saturating_add(own);
     }
     holds(case.answers.len() == answered, "answers are left over")
 }
 
-fn cut_all<R: Eprint + Wait>(rt: &R, alloc: Global, cases: &[ScriptCase]) -> Result<(), Fail> {
+fn cut_all<R: Eprint + Wait>(
+    rt: &R,
+    alloc: Global,
+    numbers: Numbers,
+    cases: &[ScriptCase],
+) -> Result<(), Fail> {
     for case in cases {
         for over in BOTH_MANAGERS {
-            cut_case(rt, alloc, case, over)?;
+            cut_case(rt, alloc, case, numbers, over)?;
         }
     }
     Ok(())
@@ -132,27 +141,32 @@ fn cut_all<R: Eprint + Wait>(rt: &R, alloc: Global, cases: &[ScriptCase]) -> Res
 
 #[test]
 fn cut_scripts_of_frontends_give_their_whole_lines(rt: HostRuntime) -> Result<(), Fail> {
-    cut_all(&rt, rt.alloc(), &frontend_cases::ROWS)
+    cut_all(&rt, rt.alloc(), Numbers::Whole, &frontend_cases::ROWS)
 }
 
 #[test]
 fn cut_scripts_of_kernels_give_their_whole_lines(rt: HostRuntime) -> Result<(), Fail> {
-    cut_all(&rt, rt.alloc(), &kernel_cases::ROWS)
+    cut_all(&rt, rt.alloc(), Numbers::Whole, &kernel_cases::ROWS)
 }
 
 #[test]
 fn cut_scripts_of_widgets_give_their_whole_lines(rt: HostRuntime) -> Result<(), Fail> {
-    cut_all(&rt, rt.alloc(), &widget_cases::ROWS)
+    cut_all(&rt, rt.alloc(), Numbers::Whole, &widget_cases::ROWS)
 }
 
 #[test]
 fn cut_scripts_of_widgets_that_echo_give_their_whole_lines(rt: HostRuntime) -> Result<(), Fail> {
-    cut_all(&rt, rt.alloc(), &echo_cases::ROWS)
+    cut_all(&rt, rt.alloc(), Numbers::Whole, &echo_cases::ROWS)
 }
 
 #[test]
 fn cut_scripts_of_widgets_that_echo_as_others_give_their_whole_lines(
     rt: HostRuntime,
 ) -> Result<(), Fail> {
-    cut_all(&rt, rt.alloc(), &echo_cases::AS_OTHERS)
+    cut_all(&rt, rt.alloc(), Numbers::Whole, &echo_cases::AS_OTHERS)
+}
+
+#[test]
+fn cut_scripts_of_decimals_give_their_whole_lines(rt: HostRuntime) -> Result<(), Fail> {
+    cut_all(&rt, rt.alloc(), Numbers::Any, &decimal_cases::ROWS)
 }
