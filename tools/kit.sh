@@ -41,3 +41,13 @@ is_current() {
   mapfile -t folders < <(sources_of "${crate%%/*}")
   [ -z "$(find "$TOP/crates.txt" "${folders[@]}" -newer "$1" -type f -print -quit)" ]
 }
+
+python_that_builds() { # a Python that can build bindings/python: of 3.11 or later, with its headers and setuptools
+  local candidate asks
+  asks='import os, sys, sysconfig, setuptools
+sys.exit(sys.version_info < (3, 11) or not os.path.exists(os.path.join(sysconfig.get_path("include"), "Python.h")))'
+  for candidate in "${PYTHON:-python3}" /usr/bin/python3; do
+    "$candidate" -c "$asks" 2>/dev/null && echo "$candidate" && return
+  done
+  return 1
+}

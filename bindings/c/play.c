@@ -21,8 +21,8 @@ static int grown(size_t size) {
 
 static uint32_t played(rolgunai_handle *handle, const uint8_t *line, size_t length, size_t *size) {
   uint32_t status = rolgunai_handle_line(handle, line, length, out, room, size);
-  if (status == ROLGUNAI_BUFFER_TOO_SMALL) {
-    if (!grown(*size)) return ROLGUNAI_MEMORY;
+  while (status == ROLGUNAI_BUFFER_TOO_SMALL || status == ROLGUNAI_NO_TEXT) {
+    if (status == ROLGUNAI_BUFFER_TOO_SMALL && !grown(*size)) return ROLGUNAI_MEMORY;
     status = rolgunai_last_text(handle, out, room, size);
   }
   return status;

@@ -1,15 +1,39 @@
-/* Rolgunai, the proved comm manager, in your own process. docs/FORMATS.md says what a line and its answer are.
+/* Rolgunai, the proved comm manager, in your own process.
  *
- * A handle is a struct of yours that holds one pointer. Set it to zero before the first call (`rolgunai_handle
- * handle = {0};`), and then neither read nor write nor copy it: only the library does. Calls may come in any order:
- * a handle that has no manager, since it never had one or was freed, gives ROLGUNAI_CLOSED. No call blocks or calls
- * back, and nothing is kept outside of the handle.
+ * A kernel hands each message of a frontend to rolgunai_handle_message, as it came from the wire: three JSON texts and
+ * binary buffers. What its own widgets do it tells by rolgunai_launch, rolgunai_push, rolgunai_send and the like. Each
+ * call gives the number of its reply and how many messages are to be sent; their parts are asked for one by one.
+ * docs/FORMATS.md says what each message and reply means.
+ *
+ *   rolgunai_handle manager = {0};
+ *   rolgunai_new(&manager, 4096);
+ *   rolgunai_register(&manager, 0, ROLGUNAI_WIDGET, name, name_size, &reply, &sent);
+ *   while (receive(&message)) {
+ *     status = rolgunai_handle_message(&manager, 0, ..the parts of the message.., &reply, &sent);
+ *     for (size_t i = 0; i < sent; i++) send_parts(&manager, i);
+ *   }
+ *
+ * What a kernel has to know:
+ * - Clients are numbered 0 to 3. A client is a caller's number and no frontend: hand in 0, unless the kernel tells its
+ *   frontends apart. It stands in the texts and in no message.
+ * - A `comm_info_reply` goes on the shell channel to who asked; every other message goes on iopub. The parent header of
+ *   what a frontend's message brings about is that message's; of the kernel's own calls, that of the request that the
+ *   kernel runs.
+ * - An open of a frontend that is ROLGUNAI_REPLY_BAD opens nothing. Where its content has a comm_id, the frontend waits
+ *   for a `comm_close`: it is the message 0 that the call sends then.
+ * - An answer is several calls (the message, then its parts), so a lock has to be held over all of them. In a language
+ *   with finalizers it has to be one that the same thread may take again: a `__del__` may send in the middle of a call.
+ * - Register a name once and keep it: each register spends a number of 4,294,967,295.
+ *
+ * A handle is a struct of yours that holds one pointer. Set it to zero before the first call, and then neither read nor
+ * write nor copy it: only the library does. Calls may come in any order: a handle that has no manager, since it never
+ * had one or was freed, gives ROLGUNAI_CLOSED. No call blocks or calls back, and nothing is kept outside of the handle.
  *
  * Owed by the caller, since nothing can check it:
- * - No pointer is null, also where a length is 0; what is read is readable and what is written writable for its
- *   length; and what one call is given doesn't overlap, but for what is only read.
- * - One handle has one call at a time. Between calls it may go to another thread, if that is ordered by a lock, a
- *   join or the like.
+ * - No pointer is null, but an `out` whose `out_size` is 0; what is read is readable and what is written writable for
+ *   its length; and what one call is given doesn't overlap, but for what is only read.
+ * - One handle has one call at a time. Between calls it may go to another thread, if that is ordered by a lock, a join
+ *   or the like.
  * - No call from a signal handler, or from the forked child of a process with threads.
  */
 #ifndef ROLGUNAI_H
@@ -24,39 +48,43 @@ typedef struct rolgunai_handle {
   void *manager;
 } rolgunai_handle;
 
-/* The status that each call gives. After any but ROLGUNAI_OK and ROLGUNAI_BUFFER_TOO_SMALL the manager is as it was
- * before the call, with its last result and text, and `*size`, `*reply` and `*sent` are 0. After any but
- * ROLGUNAI_OK `out` is as it was. Where more than one test fails, the first in the order that the function's
- * comment tells gives the status. */
+/* The status that each call gives. Where more than one test fails, the first of CLOSED or ALREADY_OPEN, BAD_LIMIT,
+ * BAD_KIND, BAD_SIZES, BAD_NAME, NOT_JSON, EXHAUSTED gives it; ROLGUNAI_MEMORY may come in place of any but the first.
+ * After any but ROLGUNAI_OK, ROLGUNAI_BUFFER_TOO_SMALL and ROLGUNAI_NO_TEXT the manager is as it was before the call,
+ * with its last result; `out` is as it was after any but ROLGUNAI_OK; and `*size`, `*reply`, `*sent` and `*index` are 0
+ * where the call doesn't say otherwise. */
 enum {
-  ROLGUNAI_OK = 0,               /* done; `out` has the text or the part, and `*size` its length */
-  ROLGUNAI_CLOSED = 1,           /* the handle has no manager; tested first by each call but rolgunai_new.. */
+  ROLGUNAI_OK = 0,               /* done */
+  ROLGUNAI_CLOSED = 1,           /* the handle has no manager */
   ROLGUNAI_MEMORY = 2,           /* out of memory, and nothing has changed: the same call may be made again */
   ROLGUNAI_BAD_LIMIT = 3,        /* rolgunai_new: `comms` isn't from 1 to 4096 */
-  ROLGUNAI_ALREADY_OPEN = 4,     /* rolgunai_new: the handle has a manager, which stays */
-  ROLGUNAI_BUFFER_TOO_SMALL = 5, /* done, but `out` is too small: `*size` is the length. rolgunai_last_text gives the
-                                    text of a line or a register; a part is asked for again */
-  ROLGUNAI_EXHAUSTED = 6,        /* 2^62 calls were made: lines, messages and registers */
-  ROLGUNAI_BAD_NAME = 7,         /* rolgunai_register: the name isn't UTF-8 */
+  ROLGUNAI_ALREADY_OPEN = 4,     /* rolgunai_new: the handle has a manager, which stays; tested before the limit */
+  ROLGUNAI_BUFFER_TOO_SMALL = 5, /* done, but `out` is too small: `*size` is the length. Ask again */
+  ROLGUNAI_EXHAUSTED = 6,        /* 2^62 calls were made; tested last */
+  ROLGUNAI_BAD_NAME = 7,         /* an id, a name or a UUID isn't UTF-8 */
   ROLGUNAI_BAD_KIND = 8,         /* rolgunai_register: no kind has this number */
-  ROLGUNAI_BAD_SIZES = 9,        /* rolgunai_handle_message: the sizes don't add up to the size of the buffers */
-  ROLGUNAI_NOT_JSON = 10,        /* rolgunai_handle_message: header, metadata or content isn't one JSON text in UTF-8 */
-  ROLGUNAI_NO_PART = 11          /* rolgunai_sent_part, _reply_part: no such message, or it has no such part */
+  ROLGUNAI_BAD_SIZES = 9,        /* the sizes don't add up to the size of the buffers */
+  ROLGUNAI_NOT_JSON = 10,        /* a part isn't one JSON text in UTF-8 that nests at most 127 deep */
+  ROLGUNAI_NO_PART = 11,         /* no such message, or it has no such part */
+  ROLGUNAI_NO_TEXT = 12          /* rolgunai_handle_line: done, but out of memory for the text: rolgunai_last_text */
 };
 
 /* The kinds of targets that rolgunai_register takes. Two more, `echo` and `counter`, are for scripts and tests:
  * only the command `register` of a line has them. */
 enum {
-  ROLGUNAI_WIDGET = 2,     /* keeps the state of Jupyter widgets; ipywidgets' target name is "jupyter.widget" */
-  ROLGUNAI_PLAIN = 3,      /* takes every open and message, and answers none. A message comes to the kernel in its
-                              reply, ROLGUNAI_REPLY_FOR_KERNEL, and the kernel answers by the command `send` */
-  ROLGUNAI_WIDGET_ECHO = 4 /* as ROLGUNAI_WIDGET, and repeats to the frontends what a frontend's update brought
-                              (`echo_update`) */
+  ROLGUNAI_WIDGET = 2,      /* keeps the state of Jupyter widgets; ipywidgets' target name is "jupyter.widget" */
+  ROLGUNAI_PLAIN = 3,       /* takes every open and message, and answers none. A message comes to the kernel in its
+                               reply, ROLGUNAI_REPLY_FOR_KERNEL, and the kernel answers by rolgunai_send */
+  ROLGUNAI_WIDGET_ECHO = 4, /* as ROLGUNAI_WIDGET, and repeats to the frontends what a frontend's update brought
+                               (`echo_update`) */
+  ROLGUNAI_OPAQUE = 5       /* as ROLGUNAI_PLAIN, for what nobody here reads: of an open or a message by its parts the
+                               type, the id and the target's name are read, and neither `data`, metadata nor buffers,
+                               which may be anything that is JSON and needn't be handed in. The reply's content is `{}`:
+                               the kernel has the message in hand. A line for one is read whole, as any line */
 };
 
 /* Makes a manager. At most `comms` comms, 1 to 4096, are open at a time; any number of targets may be registered.
- * Numbers are whole, from -2^63 to 2^64 - 1: any other, as 1.5 or 1e3, makes a call bad (`not_whole`). Whether the
- * handle has a manager is tested before the limit. */
+ * Numbers are whole, from -2^63 to 2^64 - 1: any other, as 1.5 or 1e3, makes a call bad (`not_whole`). */
 uint32_t rolgunai_new(rolgunai_handle *handle, size_t comms);
 
 /* Makes a manager as rolgunai_new does, but one that takes every JSON number as a value. A number that isn't whole is
@@ -64,44 +92,80 @@ uint32_t rolgunai_new(rolgunai_handle *handle, size_t comms);
  * double's range is no JSON here (`not_json`). A client and the steps of a path are whole numbers still. */
 uint32_t rolgunai_new_with_decimals(rolgunai_handle *handle, size_t comms);
 
-/* Registers a new target of a kind under a name, which is UTF-8 and not ended by a zero, for the client 0. The text
- * is 'reply <number> registered', with a line feed. Where a target has the name, that target is replaced and its
- * comms are closed: 'reply <number> replaced [..]' with a JSON list of their ids, and a line 'out ..' for the close
- * of each. Tested are the handle, the kind, the name, and how many calls were made, in this order. */
-uint32_t rolgunai_register(rolgunai_handle *handle, uint32_t kind, const uint8_t *name, size_t name_size,
-                           uint8_t *out, size_t out_size, size_t *size);
+/* Closes the comms, stops the targets, frees all memory. Afterwards the handle has no manager, and rolgunai_new may
+ * give it another. */
+uint32_t rolgunai_free(rolgunai_handle *handle);
 
-/* Plays a line, a message of a frontend or a command of the kernel. The text is empty, or has lines 'reply ..',
- * 'out ..', 'state ..' or 'bad ..', each with its line feed. `line` has no line feed at its end; one within it is
- * white space of JSON. The command `register` makes a new target each time: no line is answered by 'bad ..
- * no_stock'. */
-uint32_t rolgunai_handle_line(rolgunai_handle *handle, const uint8_t *line, size_t line_size, uint8_t *out,
-                              size_t out_size, size_t *size);
+/* ---- What a call came to. The last call is here and below the last to rolgunai_register, rolgunai_handle_message,
+ * rolgunai_handle_line or a call of the kernel that gave ROLGUNAI_OK, ROLGUNAI_BUFFER_TOO_SMALL or ROLGUNAI_NO_TEXT. */
 
-/* The result of the last call: here and below, of the last to rolgunai_handle_line, rolgunai_handle_message or
- * rolgunai_register that gave ROLGUNAI_OK or ROLGUNAI_BUFFER_TOO_SMALL. */
+/* The reply. */
 enum {
   ROLGUNAI_REPLY_NONE = 0,       /* a blank line, or no call yet */
-  ROLGUNAI_REPLY_BAD = 1,        /* it couldn't be read, and is no change; rolgunai_last_text has the reason */
-  ROLGUNAI_REPLY_READ = 2,       /* it only reads: a comm_info_request, which sends one message, or the command
-                                    `state` */
+  ROLGUNAI_REPLY_BAD = 1,        /* it couldn't be read, and is no change; rolgunai_last_reason says why */
+  ROLGUNAI_REPLY_COMM_INFO = 2,  /* a comm_info_request, answered by one message */
   ROLGUNAI_REPLY_REGISTERED = 3,
-  ROLGUNAI_REPLY_REPLACED = 4,   /* a register of a name that a target had; rolgunai_reply_part has the ids of the comms
-                                    that were closed, as at ROLGUNAI_REPLY_UNREGISTERED */
+  ROLGUNAI_REPLY_REPLACED = 4,   /* a register of a name that a target had: the content of rolgunai_reply_part is a JSON
+                                    list of the ids of the comms that were closed */
   ROLGUNAI_REPLY_OPENED = 5,
   ROLGUNAI_REPLY_ID_IN_USE = 6,
-  ROLGUNAI_REPLY_REFUSED = 7,    /* an open; rolgunai_last_text has the reason */
+  ROLGUNAI_REPLY_REFUSED = 7,    /* an open; rolgunai_last_reason says why, and a `comm_close` is sent */
   ROLGUNAI_REPLY_DELIVERED = 8,
   ROLGUNAI_REPLY_FOR_KERNEL = 9, /* delivered, with a message for the kernel: rolgunai_reply_part has its content and
-                                    buffers; in the text 'custom {"buffers":[..],"content":..}' */
-  ROLGUNAI_REPLY_FAULT = 10,     /* the target rejects the message; rolgunai_last_text has the reason */
+                                    buffers */
+  ROLGUNAI_REPLY_FAULT = 10,     /* the target rejects the message; rolgunai_last_reason says why */
   ROLGUNAI_REPLY_NO_COMM = 11,
   ROLGUNAI_REPLY_CLOSED = 12,
   ROLGUNAI_REPLY_UNREGISTERED = 13, /* the content of rolgunai_reply_part is a JSON list of the ids of the comms that
                                        were closed */
   ROLGUNAI_REPLY_NO_TARGET = 14,
   ROLGUNAI_REPLY_LAUNCHED = 15,
-  ROLGUNAI_REPLY_NOT_WIDGET = 16
+  ROLGUNAI_REPLY_NOT_WIDGET = 16,
+  ROLGUNAI_REPLY_STATE = 17,     /* the content of rolgunai_reply_part is {"buffer_paths":[..],"state":{..}}, and its
+                                    buffers are those of the paths */
+  ROLGUNAI_REPLY_NO_STATE = 18   /* the comm has no state: its target is no widget */
+};
+
+/* Why a reply is ROLGUNAI_REPLY_BAD, ROLGUNAI_REPLY_REFUSED or ROLGUNAI_REPLY_FAULT. Where the comment has an n it is
+ * `*index`, else `*index` is 0. */
+enum {
+  ROLGUNAI_REASON_NONE = 0,           /* the reply is another */
+  ROLGUNAI_REASON_NOT_JSON = 1,       /* a line isn't a JSON object, or nests too deep */
+  ROLGUNAI_REASON_NO_TYPE = 2,        /* the header has no `msg_type` */
+  ROLGUNAI_REASON_UNKNOWN_TYPE = 3,   /* it is none that comms have */
+  ROLGUNAI_REASON_BAD_CONTENT = 4,    /* n tells the field: ROLGUNAI_FIELD_.. */
+  ROLGUNAI_REASON_NOT_WHOLE = 5,      /* a number that isn't whole or in range, where only such are taken */
+  ROLGUNAI_REASON_BAD_BUFFER = 6,     /* the buffer n of a line isn't base64 */
+  ROLGUNAI_REASON_BAD_CLIENT = 7,     /* the client isn't 0, 1, 2 or 3 */
+  ROLGUNAI_REASON_UNKNOWN_CALL = 8,   /* a line's `call` is no command */
+  ROLGUNAI_REASON_BAD_FIELD = 9,      /* of a command; n tells the field: ROLGUNAI_FIELD_.. */
+  ROLGUNAI_REASON_BAD_UUID = 10,
+  ROLGUNAI_REASON_NO_STOCK = 11,      /* of scripts alone; not from this library */
+  ROLGUNAI_REASON_BAD_PATH = 12,      /* the buffer path n can't be read, or has no place in the state */
+  ROLGUNAI_REASON_BUFFER_MISSING = 13, /* there is no buffer for the path n */
+  ROLGUNAI_REASON_NO_TARGET = 14,     /* no target has the name */
+  ROLGUNAI_REASON_TOO_MANY_COMMS = 15, /* as many comms are open as rolgunai_new was told */
+  ROLGUNAI_REASON_WRONG_VERSION = 16, /* a widget's protocol isn't of version 2 */
+  ROLGUNAI_REASON_NO_STATE = 17,      /* a widget is opened without a state */
+  ROLGUNAI_REASON_BAD_STATE = 18,     /* a state isn't an object */
+  ROLGUNAI_REASON_NO_METHOD = 19,
+  ROLGUNAI_REASON_UNKNOWN_METHOD = 20,
+  ROLGUNAI_REASON_OTHER = 21          /* a refusal of a target of one's own, with its number n; not from this library */
+};
+
+/* The fields that ROLGUNAI_REASON_BAD_CONTENT and ROLGUNAI_REASON_BAD_FIELD speak of. */
+enum {
+  ROLGUNAI_FIELD_CONTENT = 0,
+  ROLGUNAI_FIELD_COMM_ID = 1,
+  ROLGUNAI_FIELD_TARGET_NAME = 2,
+  ROLGUNAI_FIELD_DATA = 3,
+  ROLGUNAI_FIELD_METADATA = 4,
+  ROLGUNAI_FIELD_BUFFERS = 5,
+  ROLGUNAI_FIELD_KIND = 6,
+  ROLGUNAI_FIELD_NAME = 7,
+  ROLGUNAI_FIELD_UUID = 8,
+  ROLGUNAI_FIELD_STATE = 9,
+  ROLGUNAI_FIELD_ID = 10
 };
 
 /* The parts of a message that is sent, and of a reply. */
@@ -110,40 +174,107 @@ enum {
   ROLGUNAI_PART_ID = 1,       /* the comm's id; empty for a comm_info_reply */
   ROLGUNAI_PART_CONTENT = 2,  /* JSON */
   ROLGUNAI_PART_METADATA = 3, /* JSON */
-  ROLGUNAI_PART_BUFFERS = 4   /* this and the numbers that follow: its binary buffers, one by one */
+  ROLGUNAI_PART_TARGET = 4,   /* of a reply: the name of the target that the call is about */
+  ROLGUNAI_PART_BUFFERS = 5   /* this and the numbers that follow: its binary buffers, one by one */
 };
 
-/* Plays a message of a frontend by its parts: the JSON texts of its header, metadata and content, each `{}` where
- * the message has nothing to say in it; and `count` binary buffers, which stand one after another in `buffers` and
- * have the sizes in `sizes`. The clients are numbered 0 to 3. It is played as the line
- * {"header":..,"metadata":..,"content":..,"buffers":[..],"client":..} of these parts. `*reply` gets one of the
- * numbers above, and `*sent` how many messages are sent; rolgunai_sent_part and rolgunai_reply_part give their
- * parts, and rolgunai_last_text the text, as long as this is the last call. Tested are the handle, the sizes, the three
- * JSON texts, and how many calls were made, in this order. */
+/* What rolgunai_sent_part, rolgunai_reply_part, rolgunai_last_text and rolgunai_handle_line call, which do the same:
+ * here no pointer is null. A binding that doesn't read this header calls these. */
+uint32_t rolgunai_copy_sent_part(rolgunai_handle *handle, size_t message, size_t part, uint8_t *out, size_t out_size,
+                                 size_t *size);
+uint32_t rolgunai_copy_reply_part(rolgunai_handle *handle, size_t part, uint8_t *out, size_t out_size, size_t *size);
+uint32_t rolgunai_copy_last_text(rolgunai_handle *handle, uint8_t *out, size_t out_size, size_t *size);
+uint32_t rolgunai_play_line(rolgunai_handle *handle, const uint8_t *line, size_t line_size, uint8_t *out,
+                            size_t out_size, size_t *size);
+
+/* Writes the number of the last call's result to `*reply`, and to `*sent` how many messages that call sends. */
+uint32_t rolgunai_last_result(rolgunai_handle *handle, uint32_t *reply, size_t *sent);
+
+/* Writes why the last call's reply is BAD, REFUSED or FAULT to `*reason`, and the number in it to `*index`. */
+uint32_t rolgunai_last_reason(rolgunai_handle *handle, uint32_t *reason, uint64_t *index);
+
+/* Writes a part of a message that the last call sends. The messages are numbered from 0, in the order in which they
+ * are to be sent. To ask for a part's size, give an `out_size` of 0. ROLGUNAI_NO_PART comes after the last message,
+ * and after a message's last buffer. */
+static inline uint32_t rolgunai_sent_part(rolgunai_handle *handle, size_t message, size_t part, uint8_t *out,
+                                          size_t out_size, size_t *size) {
+  uint8_t none;
+  return rolgunai_copy_sent_part(handle, message, part, out_size ? out : &none, out_size, size);
+}
+
+/* Writes a part of the last call's reply. Each reply of a change has ROLGUNAI_PART_ID where the call is about a comm,
+ * and ROLGUNAI_PART_TARGET where it names a target or its comm was open: a kernel needs no table of its own to know
+ * whose message it was handed. ROLGUNAI_REPLY_FOR_KERNEL and ROLGUNAI_REPLY_STATE have ROLGUNAI_PART_CONTENT and
+ * buffers, ROLGUNAI_REPLY_UNREGISTERED and ROLGUNAI_REPLY_REPLACED have ROLGUNAI_PART_CONTENT. */
+static inline uint32_t rolgunai_reply_part(rolgunai_handle *handle, size_t part, uint8_t *out, size_t out_size,
+                                           size_t *size) {
+  uint8_t none;
+  return rolgunai_copy_reply_part(handle, part, out_size ? out : &none, out_size, size);
+}
+
+/* Writes the text of the last call: empty, or lines 'reply ..', 'out ..', 'state ..' or 'bad ..', each with its line
+ * feed (docs/FORMATS.md). The close that follows an open by its parts that is bad isn't in it. It is made when it is
+ * asked for: after ROLGUNAI_MEMORY nothing is lost, and it may be asked for again. */
+static inline uint32_t rolgunai_last_text(rolgunai_handle *handle, uint8_t *out, size_t out_size, size_t *size) {
+  uint8_t none;
+  return rolgunai_copy_last_text(handle, out_size ? out : &none, out_size, size);
+}
+
+/* ---- What frontends send. */
+
+/* Plays a message of a frontend by its parts: the JSON texts of its header, metadata and content, each `{}` where the
+ * message has nothing to say in it; and `count` binary buffers, which stand one after another in `buffers` and have the
+ * sizes in `sizes`. Tested are the handle, the sizes, the three JSON texts, and how many calls were made. */
 uint32_t rolgunai_handle_message(rolgunai_handle *handle, uint32_t client, const uint8_t *header, size_t header_size,
                                  const uint8_t *metadata, size_t metadata_size, const uint8_t *content,
                                  size_t content_size, const uint8_t *buffers, size_t buffers_size,
                                  const size_t *sizes, size_t count, uint32_t *reply, size_t *sent);
 
-/* Writes the number of the last call's result to `*reply`, and to `*sent` how many messages that call sends. */
-uint32_t rolgunai_last_result(rolgunai_handle *handle, uint32_t *reply, size_t *sent);
+/* Plays a line, a message of a frontend or a command of the kernel, and writes its text as rolgunai_last_text does.
+ * `line` has no line feed at its end; one within it is white space of JSON. The command `register` makes a new target
+ * each time: no line is answered by 'bad .. no_stock'. */
+static inline uint32_t rolgunai_handle_line(rolgunai_handle *handle, const uint8_t *line, size_t line_size,
+                                            uint8_t *out, size_t out_size, size_t *size) {
+  uint8_t none;
+  return rolgunai_play_line(handle, line, line_size, out_size ? out : &none, out_size, size);
+}
 
-/* Writes a part of a message that the last call sends. The messages are numbered from 0, in the order in which they
- * are to go out. To ask for a part's size, give an `out_size` of 0. ROLGUNAI_NO_PART comes after the last message,
- * and after a message's last buffer. */
-uint32_t rolgunai_sent_part(rolgunai_handle *handle, size_t message, size_t part, uint8_t *out, size_t out_size,
-                            size_t *size);
+/* ---- What the kernel does. Ids and names are UTF-8 and not ended by a zero; JSON texts and buffers are handed in as
+ * to rolgunai_handle_message. Tested are the handle, the kind, the sizes, the names in their order, the JSON texts in
+ * theirs, and how many calls were made. */
 
-/* Writes a part of the last call's reply: ROLGUNAI_REPLY_FOR_KERNEL has ROLGUNAI_PART_CONTENT and buffers,
- * ROLGUNAI_REPLY_UNREGISTERED and ROLGUNAI_REPLY_REPLACED have ROLGUNAI_PART_CONTENT; any other has no part. */
-uint32_t rolgunai_reply_part(rolgunai_handle *handle, size_t part, uint8_t *out, size_t out_size, size_t *size);
+/* Registers a new target of a kind under a name. A target that has the name is replaced, and its comms are closed. */
+uint32_t rolgunai_register(rolgunai_handle *handle, uint32_t client, uint32_t kind, const uint8_t *name,
+                           size_t name_size, uint32_t *reply, size_t *sent);
 
-/* Writes the text of the last call, as rolgunai_handle_line does. */
-uint32_t rolgunai_last_text(rolgunai_handle *handle, uint8_t *out, size_t out_size, size_t *size);
+/* Takes the target of a name out: its comms are closed, then it ends. */
+uint32_t rolgunai_unregister(rolgunai_handle *handle, uint32_t client, const uint8_t *name, size_t name_size,
+                             uint32_t *reply, size_t *sent);
 
-/* Closes the comms, stops the targets, frees all memory. Afterwards the handle has no manager, and rolgunai_new may
- * give it another. */
-uint32_t rolgunai_free(rolgunai_handle *handle);
+/* Opens a comm towards a widget target: a widget of the kernel, with its state, a JSON object, and the buffers at the
+ * paths, a JSON list of lists of strings and indices. The comm's id is the UUID, in its form with hyphens. */
+uint32_t rolgunai_launch(rolgunai_handle *handle, uint32_t client, const uint8_t *target, size_t target_size,
+                         const uint8_t *uuid, size_t uuid_size, const uint8_t *state, size_t state_size,
+                         const uint8_t *paths, size_t paths_size, const uint8_t *buffers, size_t buffers_size,
+                         const size_t *sizes, size_t count, uint32_t *reply, size_t *sent);
+
+/* Changes these keys of a widget's state, and sends an `update` with just them. */
+uint32_t rolgunai_push(rolgunai_handle *handle, uint32_t client, const uint8_t *id, size_t id_size,
+                       const uint8_t *state, size_t state_size, const uint8_t *paths, size_t paths_size,
+                       const uint8_t *buffers, size_t buffers_size, const size_t *sizes, size_t count,
+                       uint32_t *reply, size_t *sent);
+
+/* Sends a `comm_msg` with this `data`, a JSON object, on a comm, past its target. */
+uint32_t rolgunai_send(rolgunai_handle *handle, uint32_t client, const uint8_t *id, size_t id_size,
+                       const uint8_t *data, size_t data_size, const uint8_t *buffers, size_t buffers_size,
+                       const size_t *sizes, size_t count, uint32_t *reply, size_t *sent);
+
+/* Closes a comm, and sends a `comm_close`. */
+uint32_t rolgunai_close(rolgunai_handle *handle, uint32_t client, const uint8_t *id, size_t id_size, uint32_t *reply,
+                        size_t *sent);
+
+/* Reads a comm's state: ROLGUNAI_REPLY_STATE, ROLGUNAI_REPLY_NO_STATE or ROLGUNAI_REPLY_NO_COMM. */
+uint32_t rolgunai_state(rolgunai_handle *handle, const uint8_t *id, size_t id_size, uint32_t *reply, size_t *sent);
 
 #ifdef __cplusplus
 }

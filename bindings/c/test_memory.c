@@ -1,6 +1,6 @@
 /* memory FILE: each allocation of a script fails in turn. The call that it fails in answers ROLGUNAI_MEMORY, or as if
- * it hadn't; made again after ROLGUNAI_MEMORY it says what it says where nothing fails; and nothing is left after the
- * end. */
+ * it hadn't; made again after ROLGUNAI_MEMORY it says what it says where nothing fails. After ROLGUNAI_NO_TEXT the line
+ * is played, and its text is there to be asked for. And nothing is left after the end. */
 #include "rolgunai.h"
 
 #include <stdio.h>
@@ -30,6 +30,11 @@ static const char *played(long at, uint8_t *into, size_t room, size_t *size, lon
       if (said != 0) return "a size after ROLGUNAI_MEMORY";
       ++*refusals;
       status = rolgunai_handle_line(&handle, text + from, to - from, into + *size, room - *size, &said);
+    }
+    if (status == ROLGUNAI_NO_TEXT) {
+      if (said != 0) return "a size after ROLGUNAI_NO_TEXT";
+      ++*refusals;
+      status = rolgunai_last_text(&handle, into + *size, room - *size, &said);
     }
     if (status != ROLGUNAI_OK) return "a line";
     *size += said;

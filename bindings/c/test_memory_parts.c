@@ -1,5 +1,5 @@
-/* Each allocation of some messages by parts fails in turn. The call that it fails in answers ROLGUNAI_MEMORY, or as if
- * it hadn't; made again after ROLGUNAI_MEMORY it says what it says where nothing fails, so nothing had happened; and
+/* Each allocation of some calls by parts fails in turn. The call that it fails in answers ROLGUNAI_MEMORY, or as if it
+ * hadn't; made again after ROLGUNAI_MEMORY it says what it says where nothing fails, so nothing had happened; and
  * nothing is left after the end. */
 #include "rolgunai.h"
 
@@ -24,12 +24,20 @@ static void tell(const void *bytes, size_t size) {
   told_size += size;
 }
 
-/* The text and each part of what a message came to. */
+/* The reason, the text and each part of what a call came to. */
 static int tell_all(uint32_t reply, size_t sent) {
   static uint8_t out[4096];
   size_t size;
+  uint32_t reason, text;
+  uint64_t index;
+  if (rolgunai_last_reason(&handle, &reason, &index) != ROLGUNAI_OK) return 0;
   tell(&reply, sizeof reply);
-  if (rolgunai_last_text(&handle, out, sizeof out, &size) != ROLGUNAI_OK) return 0;
+  tell(&reason, sizeof reason);
+  tell(&index, sizeof index);
+  do {
+    text = rolgunai_last_text(&handle, out, sizeof out, &size);
+  } while (may_again(text));
+  if (text != ROLGUNAI_OK) return 0;
   tell(out, size);
   for (size_t message = 0; message <= sent; message++) {
     for (size_t part = 0; part < 8; part++) {
@@ -60,13 +68,12 @@ static int message(const char *type, const char *content, const char *buffers, s
 }
 
 static int registered(uint32_t kind, const char *name) {
-  uint8_t out[64];
-  size_t size;
-  uint32_t status;
+  uint32_t status, reply;
+  size_t sent;
   do {
-    status = rolgunai_register(&handle, kind, bytes(name), strlen(name), out, sizeof out, &size);
+    status = rolgunai_register(&handle, 0, kind, bytes(name), strlen(name), &reply, &sent);
   } while (may_again(status));
-  return status == ROLGUNAI_OK;
+  return status == ROLGUNAI_OK && tell_all(reply, sent);
 }
 
 static int registered_by_line(const char *line) {
@@ -76,7 +83,75 @@ static int registered_by_line(const char *line) {
   do {
     status = rolgunai_handle_line(&handle, bytes(line), strlen(line), out, sizeof out, &size);
   } while (may_again(status));
-  return status == ROLGUNAI_OK;
+  if (status == ROLGUNAI_NO_TEXT) refusals++;
+  return status == ROLGUNAI_OK || status == ROLGUNAI_NO_TEXT;
+}
+
+/* ---- the kernel's calls */
+
+static const char *const uuid = "00000000-0000-0000-0000-000000000001", *const state = "{\"v\":[1]}",
+                         *const paths = "[[\"b\"]]";
+static const size_t three[] = {3};
+
+static int launched(void) {
+  uint32_t status, reply;
+  size_t sent;
+  do {
+    status = rolgunai_launch(&handle, 0, bytes("widget"), 6, bytes(uuid), strlen(uuid), bytes(state), strlen(state),
+                             bytes(paths), strlen(paths), bytes("xyz"), 3, three, 1, &reply, &sent);
+  } while (may_again(status));
+  return status == ROLGUNAI_OK && tell_all(reply, sent);
+}
+
+static int pushed(void) {
+  uint32_t status, reply;
+  size_t sent;
+  do {
+    status = rolgunai_push(&handle, 0, bytes(uuid), strlen(uuid), bytes(state), strlen(state), bytes(paths),
+                           strlen(paths), bytes("abc"), 3, three, 1, &reply, &sent);
+  } while (may_again(status));
+  return status == ROLGUNAI_OK && tell_all(reply, sent);
+}
+
+static int sent_data(const char *id) {
+  uint32_t status, reply;
+  size_t sent;
+  do {
+    status = rolgunai_send(&handle, 0, bytes(id), strlen(id), bytes(state), strlen(state), bytes("abc"), 3, three, 1,
+                           &reply, &sent);
+  } while (may_again(status));
+  return status == ROLGUNAI_OK && tell_all(reply, sent);
+}
+
+static int state_read(void) {
+  uint32_t status, reply;
+  size_t sent;
+  do {
+    status = rolgunai_state(&handle, bytes(uuid), strlen(uuid), &reply, &sent);
+  } while (may_again(status));
+  return status == ROLGUNAI_OK && tell_all(reply, sent);
+}
+
+static int closed(const char *id) {
+  uint32_t status, reply;
+  size_t sent;
+  do {
+    status = rolgunai_close(&handle, 0, bytes(id), strlen(id), &reply, &sent);
+  } while (may_again(status));
+  return status == ROLGUNAI_OK && tell_all(reply, sent);
+}
+
+static int unregistered(const char *name) {
+  uint32_t status, reply;
+  size_t sent;
+  do {
+    status = rolgunai_unregister(&handle, 0, bytes(name), strlen(name), &reply, &sent);
+  } while (may_again(status));
+  return status == ROLGUNAI_OK && tell_all(reply, sent);
+}
+
+static int kernel_calls(void) {
+  return launched() && pushed() && sent_data("m") && state_read() && closed(uuid) && unregistered("mine");
 }
 
 static const char *played(long at) {
@@ -90,12 +165,15 @@ static const char *played(long at) {
   int went =
       status == ROLGUNAI_OK && registered_by_line("{\"call\":\"register\",\"kind\":\"echo\",\"name\":\"echo\"}")
       && registered(ROLGUNAI_PLAIN, "mine") && registered(ROLGUNAI_WIDGET, "widget")
-      && registered(ROLGUNAI_WIDGET_ECHO, "echoing")
+      && registered(ROLGUNAI_WIDGET_ECHO, "echoing") && registered(ROLGUNAI_OPAQUE, "figures")
       && message("comm_open", "{\"comm_id\":\"e\",\"target_name\":\"echo\"}", "", 0, 0)
       && message("comm_open", "{\"comm_id\":\"m\",\"target_name\":\"mine\"}", "", 0, 0)
       && message("comm_open", "{\"comm_id\":\"w\",\"target_name\":\"widget\",\"data\":{\"state\":{\"v\":1}}}", "", 0, 0)
       && message("comm_open", "{\"comm_id\":\"x\",\"target_name\":\"echoing\",\"data\":{\"state\":{\"v\":1}}}", "", 0,
                  0)
+      && message("comm_open", "{\"comm_id\":\"o\",\"target_name\":\"figures\",\"data\":\"text\"}", "", 0, 0)
+      && message("comm_open", "{\"comm_id\":\"z\",\"target_name\":\"mine\",\"data\":\"text\"}", "", 0, 0)
+      && message("comm_msg", "{\"comm_id\":\"o\",\"data\":\"text\"}", "abcde", 2, 3)
       && message("comm_msg", "{\"comm_id\":\"e\",\"data\":{\"x\":1}}", "abcde", 2, 3)
       && message("comm_msg", "{\"comm_id\":\"m\",\"data\":{\"x\":1}}", "abcde", 2, 3)
       && message("comm_msg",
@@ -106,7 +184,8 @@ static const char *played(long at) {
           "comm_msg",
           "{\"comm_id\":\"x\",\"data\":{\"method\":\"update\",\"state\":{\"v\":[2]},\"buffer_paths\":[[\"b\"]]}}",
           "abcde", 2, 3)
-      && message("comm_info_request", "{}", "", 0, 0) && message("comm_close", "{\"comm_id\":\"e\"}", "", 0, 0);
+      && message("comm_info_request", "{}", "", 0, 0) && message("comm_close", "{\"comm_id\":\"e\"}", "", 0, 0)
+      && kernel_calls();
   if (rolgunai_free(&handle) != ROLGUNAI_OK) return "the end";
   if (!went) return "a call";
   return heap_live ? "blocks are left" : NULL;

@@ -1,5 +1,5 @@
-/* Messages by their parts: what goes in, what comes out, and the same by a line. The last line is 'N passed, M failed',
- * and so is the status. */
+/* Messages by their parts: what goes in, what comes out, and the same by a line; reasons, opaque targets, and the close
+ * that an open waits for which can't be read. The last line is 'N passed, M failed', and so is the status. */
 #include "rolgunai.h"
 
 #include <stdio.h>
@@ -44,7 +44,7 @@ static void check_part(size_t number, size_t part, const char *wanted, size_t le
         what);
   check(out[length] == 0x55, what);
   size = 0;
-  uint32_t status = rolgunai_sent_part(&handle, number, part, out, 0, &size);
+  uint32_t status = rolgunai_sent_part(&handle, number, part, NULL, 0, &size);
   check(status == (length ? ROLGUNAI_BUFFER_TOO_SMALL : ROLGUNAI_OK) && size == length, what);
 }
 
@@ -79,12 +79,28 @@ static void same_by_line(const char *line) {
         line);
 }
 
+/* Whose message the reply is: the comm's id, and its target's name where it has one. */
+static void check_subject(const char *id, const char *target, const char *what) {
+  check_reply_part(ROLGUNAI_PART_ID, id, strlen(id), what);
+  if (target) check_reply_part(ROLGUNAI_PART_TARGET, target, strlen(target), what);
+  else check_no_reply_part(ROLGUNAI_PART_TARGET, what);
+}
+
 static void nothing_there(const char *when) {
   reply = 7, sent = 7;
   check(plainly("comm_info_request", "{}") == ROLGUNAI_CLOSED && reply == 0 && sent == 0, when);
   check(rolgunai_last_result(&handle, &reply, &sent) == ROLGUNAI_CLOSED && reply == 0 && sent == 0, when);
   check(rolgunai_sent_part(&handle, 0, 0, out, sizeof out, &size) == ROLGUNAI_CLOSED && size == 0, when);
   check(rolgunai_reply_part(&handle, 0, out, sizeof out, &size) == ROLGUNAI_CLOSED && size == 0, when);
+  uint32_t reason = 7;
+  uint64_t index = 7;
+  check(rolgunai_last_reason(&handle, &reason, &index) == ROLGUNAI_CLOSED && reason == 0 && index == 0, when);
+}
+
+static void registered(rolgunai_handle *at, uint32_t kind, const char *name) {
+  check(rolgunai_register(at, 0, kind, bytes(name), strlen(name), &reply, &sent) == ROLGUNAI_OK
+            && reply == ROLGUNAI_REPLY_REGISTERED && sent == 0,
+        name);
 }
 
 static void opened(rolgunai_handle *at) {
@@ -94,9 +110,8 @@ static void opened(rolgunai_handle *at) {
         "no call yet");
   const char *echo = "{\"call\":\"register\",\"kind\":\"echo\",\"name\":\"echo\"}";
   check(rolgunai_handle_line(at, bytes(echo), strlen(echo), out, sizeof out, &size) == ROLGUNAI_OK, "register");
-  check(rolgunai_register(at, ROLGUNAI_PLAIN, bytes("mine"), 4, out, sizeof out, &size) == ROLGUNAI_OK, "register");
-  check(rolgunai_register(at, ROLGUNAI_WIDGET, bytes("jupyter.widget"), 14, out, sizeof out, &size) == ROLGUNAI_OK,
-        "register");
+  registered(at, ROLGUNAI_PLAIN, "mine");
+  registered(at, ROLGUNAI_WIDGET, "jupyter.widget");
 }
 
 static void buffers_there_and_back(void) {
@@ -123,6 +138,7 @@ static void buffers_there_and_back(void) {
   check_part(0, ROLGUNAI_PART_BUFFERS + 1, "", 0, "buffer 1");
   check_part(0, ROLGUNAI_PART_BUFFERS + 2, "abc", 3, "buffer 2");
   check_no_part(0, ROLGUNAI_PART_BUFFERS + 3, "no buffer 3");
+  check_no_part(0, ROLGUNAI_PART_TARGET, "a message has no target of its own");
   check_no_part(0, SIZE_MAX, "no last buffer");
   check_no_part(1, ROLGUNAI_PART_TYPE, "no second message");
   check_no_part(SIZE_MAX, SIZE_MAX, "no last message");
@@ -130,7 +146,7 @@ static void buffers_there_and_back(void) {
 }
 
 static void a_blank_line(const char *line) {
-  check(plainly("comm_info_request", "{}") == ROLGUNAI_OK && reply == ROLGUNAI_REPLY_READ && sent == 1,
+  check(plainly("comm_info_request", "{}") == ROLGUNAI_OK && reply == ROLGUNAI_REPLY_COMM_INFO && sent == 1,
         "a call that isn't blank");
   check(rolgunai_handle_line(&handle, bytes(line), strlen(line), out, sizeof out, &size) == ROLGUNAI_OK && size == 0,
         "a blank line");
@@ -148,6 +164,7 @@ static void for_the_kernel(void) {
             == ROLGUNAI_OK,
         "a message");
   check(reply == ROLGUNAI_REPLY_FOR_KERNEL && sent == 0, "for the kernel");
+  check_subject("m", "mine", "a kernel needs no table to know whose message it is");
   check_reply_part(ROLGUNAI_PART_CONTENT, "{\"y\":[2]}", 9, "its content for the kernel");
   check_reply_part(ROLGUNAI_PART_BUFFERS, "xyz", 3, "its buffer for the kernel");
   check_no_reply_part(ROLGUNAI_PART_BUFFERS + 1, "no second buffer");
@@ -182,8 +199,7 @@ static void a_widget_that_echoes(void) {
       "{\"comm_id\":\"x\",\"data\":{\"method\":\"update\",\"state\":{\"v\":2},\"buffer_paths\":[[\"b\"]]}}";
   const char *echo =
       "{\"comm_id\":\"x\",\"data\":{\"buffer_paths\":[[\"b\"]],\"method\":\"echo_update\",\"state\":{\"v\":2}}}";
-  check(rolgunai_register(&handle, ROLGUNAI_WIDGET_ECHO, bytes("echoing"), 7, out, sizeof out, &size) == ROLGUNAI_OK,
-        "widgets that echo");
+  registered(&handle, ROLGUNAI_WIDGET_ECHO, "echoing");
   check(message(0, "{\"msg_type\":\"comm_open\"}", "{\"version\":\"2.0.0\"}", open, "", 0, no_sizes, 0) == ROLGUNAI_OK,
         "an open of one");
   check(reply == ROLGUNAI_REPLY_OPENED && sent == 0, "it is opened, and nothing is echoed");
@@ -200,7 +216,7 @@ static void a_widget_that_echoes(void) {
 }
 
 static void lists_and_ends(void) {
-  check(plainly("comm_info_request", "{\"target_name\":\"echo\"}") == ROLGUNAI_OK && reply == ROLGUNAI_REPLY_READ
+  check(plainly("comm_info_request", "{\"target_name\":\"echo\"}") == ROLGUNAI_OK && reply == ROLGUNAI_REPLY_COMM_INFO
             && sent == 1,
         "which are open");
   check_part(0, ROLGUNAI_PART_TYPE, "comm_info_reply", 15, "an info reply");
@@ -221,10 +237,11 @@ static void a_replacement(void) {
   check(plainly("comm_open", "{\"comm_id\":\"k\",\"target_name\":\"mine\"}") == ROLGUNAI_OK
             && reply == ROLGUNAI_REPLY_OPENED,
         "one more comm");
-  check(rolgunai_register(&handle, ROLGUNAI_PLAIN, bytes("mine"), 4, out, sizeof out, &size) == ROLGUNAI_OK,
+  check(rolgunai_register(&handle, 0, ROLGUNAI_PLAIN, bytes("mine"), 4, &reply, &sent) == ROLGUNAI_OK
+            && reply == ROLGUNAI_REPLY_REPLACED && sent == 2,
         "a register of a taken name");
-  check(rolgunai_last_result(&handle, &reply, &sent) == ROLGUNAI_OK && reply == ROLGUNAI_REPLY_REPLACED && sent == 2,
-        "replaced");
+  check_no_reply_part(ROLGUNAI_PART_ID, "it is about no comm");
+  check_reply_part(ROLGUNAI_PART_TARGET, "mine", 4, "but about a target");
   check_reply_part(ROLGUNAI_PART_CONTENT, "[\"m\",\"k\"]", 9, "the ids that were closed");
   check_part(0, ROLGUNAI_PART_TYPE, "comm_close", 10, "a close goes out");
   check_part(0, ROLGUNAI_PART_CONTENT, "{\"comm_id\":\"m\",\"data\":{}}", 25, "of the comm that was opened first");
@@ -234,35 +251,128 @@ static void a_replacement(void) {
         "a comm of the new target");
 }
 
+/* A message of a frontend that isn't delivered: what comes of it, and why. */
+static const struct {
+  const char *what, *type, *metadata, *content;
+  uint32_t client, reply, reason;
+  uint64_t index;
+  const char *closes;
+} faults[] = {
+    {"a fifth client", "comm_msg", "{}", "{}", 4, ROLGUNAI_REPLY_BAD, ROLGUNAI_REASON_BAD_CLIENT, 0, NULL},
+    {"no type of comms", "comm_none", "{}", "{}", 0, ROLGUNAI_REPLY_BAD, ROLGUNAI_REASON_UNKNOWN_TYPE, 0, NULL},
+    {"a content that is a list", "comm_msg", "{}", "[]", 0, ROLGUNAI_REPLY_BAD, ROLGUNAI_REASON_BAD_CONTENT,
+     ROLGUNAI_FIELD_CONTENT, NULL},
+    {"no id", "comm_close", "{}", "{}", 0, ROLGUNAI_REPLY_BAD, ROLGUNAI_REASON_BAD_CONTENT, ROLGUNAI_FIELD_COMM_ID,
+     NULL},
+    {"data that is a text", "comm_msg", "{}", "{\"comm_id\":\"m\",\"data\":\"x\"}", 0, ROLGUNAI_REPLY_BAD,
+     ROLGUNAI_REASON_BAD_CONTENT, ROLGUNAI_FIELD_DATA, NULL},
+    {"metadata that is a text", "comm_msg", "\"x\"", "{\"comm_id\":\"m\"}", 0, ROLGUNAI_REPLY_BAD,
+     ROLGUNAI_REASON_BAD_CONTENT, ROLGUNAI_FIELD_METADATA, NULL},
+    {"a fraction", "comm_msg", "{}", "{\"comm_id\":\"m\",\"data\":{\"x\":0.5}}", 0, ROLGUNAI_REPLY_BAD,
+     ROLGUNAI_REASON_NOT_WHOLE, 0, NULL},
+    {"an open without a name", "comm_open", "{}", "{\"comm_id\":\"q\"}", 0, ROLGUNAI_REPLY_BAD,
+     ROLGUNAI_REASON_BAD_CONTENT, ROLGUNAI_FIELD_TARGET_NAME, "q"},
+    {"an open with data that is a number", "comm_open", "{}",
+     "{\"comm_id\":\"q\",\"target_name\":\"mine\",\"data\":3}", 0, ROLGUNAI_REPLY_BAD, ROLGUNAI_REASON_BAD_CONTENT,
+     ROLGUNAI_FIELD_DATA, "q"},
+    {"an open by a fifth client", "comm_open", "{}", "{\"comm_id\":\"q\",\"target_name\":\"mine\"}", 4,
+     ROLGUNAI_REPLY_BAD, ROLGUNAI_REASON_BAD_CLIENT, 0, "q"},
+    {"an open without an id", "comm_open", "{}", "{\"target_name\":\"mine\"}", 0, ROLGUNAI_REPLY_BAD,
+     ROLGUNAI_REASON_BAD_CONTENT, ROLGUNAI_FIELD_COMM_ID, NULL},
+    {"an open that can't be read, of a comm that is open", "comm_open", "{}",
+     "{\"comm_id\":\"m\",\"target_name\":\"mine\",\"data\":3}", 0, ROLGUNAI_REPLY_BAD, ROLGUNAI_REASON_BAD_CONTENT,
+     ROLGUNAI_FIELD_DATA, NULL},
+    {"no target", "comm_open", "{}", "{\"comm_id\":\"z\",\"target_name\":\"none\"}", 0, ROLGUNAI_REPLY_REFUSED,
+     ROLGUNAI_REASON_NO_TARGET, 0, "z"},
+    {"a widget of another version", "comm_open", "{\"version\":\"1.0\"}",
+     "{\"comm_id\":\"z\",\"target_name\":\"jupyter.widget\",\"data\":{\"state\":{}}}", 0, ROLGUNAI_REPLY_REFUSED,
+     ROLGUNAI_REASON_WRONG_VERSION, 0, "z"},
+    {"a buffer is missing", "comm_msg", "{}",
+     "{\"comm_id\":\"00000000-0000-0000-0000-000000000001\",\"data\":{\"method\":\"update\",\"state\":{},"
+     "\"buffer_paths\":[[\"b\"]]}}",
+     0, ROLGUNAI_REPLY_FAULT, ROLGUNAI_REASON_BUFFER_MISSING, 0, NULL},
+    {"no method", "comm_msg", "{}", "{\"comm_id\":\"00000000-0000-0000-0000-000000000001\",\"data\":{}}", 0,
+     ROLGUNAI_REPLY_FAULT, ROLGUNAI_REASON_NO_METHOD, 0, NULL},
+    {"no comm", "comm_msg", "{}", "{\"comm_id\":\"nobody\"}", 0, ROLGUNAI_REPLY_NO_COMM, ROLGUNAI_REASON_NONE, 0, NULL},
+};
+
+static void reasons(void) {
+  for (size_t i = 0; i < sizeof faults / sizeof *faults; i++) {
+    char header[64];
+    uint32_t reason;
+    uint64_t index;
+    snprintf(header, sizeof header, "{\"msg_type\":\"%s\"}", faults[i].type);
+    check(message(faults[i].client, header, faults[i].metadata, faults[i].content, "", 0, no_sizes, 0) == ROLGUNAI_OK
+              && reply == faults[i].reply && sent == (faults[i].closes != NULL),
+          faults[i].what);
+    check(rolgunai_last_reason(&handle, &reason, &index) == ROLGUNAI_OK && reason == faults[i].reason
+              && index == faults[i].index,
+          faults[i].what);
+    if (!faults[i].closes) continue;
+    check_part(0, ROLGUNAI_PART_TYPE, "comm_close", 10, faults[i].what);
+    check_part(0, ROLGUNAI_PART_ID, faults[i].closes, strlen(faults[i].closes), faults[i].what);
+  }
+  check_subject("nobody", NULL, "a comm that isn't open has no target");
+}
+
+/* Of an opaque comm only the type, the id and the name are read. */
+static void an_opaque_comm(void) {
+  const size_t sizes[] = {3};
+  registered(&handle, ROLGUNAI_OPAQUE, "figures");
+  check(plainly("comm_open", "{\"comm_id\":\"o\",\"target_name\":\"figures\",\"data\":\"a text\"}") == ROLGUNAI_OK
+            && reply == ROLGUNAI_REPLY_OPENED && sent == 0,
+        "an open whose data is a text");
+  check_subject("o", "figures", "it is of an opaque target");
+  check(message(2, "{\"msg_type\":\"comm_msg\"}", "7", "{\"comm_id\":\"o\",\"data\":0.5}", "xyz", 3, sizes, 1)
+                == ROLGUNAI_OK
+            && reply == ROLGUNAI_REPLY_FOR_KERNEL && sent == 0,
+        "a message whose data is a fraction");
+  check_subject("o", "figures", "the kernel is told whose it is");
+  check_reply_part(ROLGUNAI_PART_CONTENT, "{}", 2, "and has its data in hand");
+  check_no_reply_part(ROLGUNAI_PART_BUFFERS, "and its buffers");
+  check(message(4, "{\"msg_type\":\"comm_msg\"}", "{}", "{\"comm_id\":\"o\"}", "", 0, no_sizes, 0) == ROLGUNAI_OK
+            && reply == ROLGUNAI_REPLY_BAD && sent == 0,
+        "the client is tested");
+  check(plainly("comm_close", "{\"comm_id\":\"o\",\"data\":[]}") == ROLGUNAI_OK && reply == ROLGUNAI_REPLY_CLOSED,
+        "its close");
+  check(plainly("comm_msg", "{\"comm_id\":\"o\",\"data\":\"late\"}") == ROLGUNAI_OK && reply == ROLGUNAI_REPLY_BAD,
+        "a comm that is closed isn't opaque any more");
+}
+
+/* Parts that aren't taken, and what they are. */
+static const size_t one_each[] = {1, 1}, four[] = {1, 3}, vast[] = {SIZE_MAX, 4};
+static const struct {
+  const char *what, *header, *metadata, *content;
+  const size_t *sizes;
+  size_t count;
+  uint32_t status;
+} refused[] = {
+    {"sizes that are too few", "{}", "{}", "{}", one_each, 2, ROLGUNAI_BAD_SIZES},
+    {"sizes that are too many", "{}", "{}", "{}", four, 2, ROLGUNAI_BAD_SIZES},
+    {"sizes that are more than there can be", "{}", "{}", "{}", vast, 2, ROLGUNAI_BAD_SIZES},
+    {"sizes are tested before JSON texts", "{", "{}", "{}", one_each, 2, ROLGUNAI_BAD_SIZES},
+    {"a header that reaches beyond", "{},\"call\":\"hang_up\",\"id\":\"m\",\"x\":{}", "{}", "{}", no_sizes, 0,
+     ROLGUNAI_NOT_JSON},
+    {"no metadata", "{}", "", "{}", no_sizes, 0, ROLGUNAI_NOT_JSON},
+    {"a content that isn't UTF-8", "{}", "{}", "\xff", no_sizes, 0, ROLGUNAI_NOT_JSON},
+};
+
 static void refusals(void) {
-  const size_t few[] = {1, 1}, many[] = {1, 3}, vast[] = {SIZE_MAX, 4};
   uint8_t kept[4096];
-  size_t length;
+  size_t length, count;
   check(plainly("comm_close", "{\"comm_id\":\"m\"}") == ROLGUNAI_OK && reply == ROLGUNAI_REPLY_CLOSED, "a close");
   check(rolgunai_last_text(&handle, kept, sizeof kept, &length) == ROLGUNAI_OK, "its text");
-  check(message(0, "{}", "{}", "{}", "abc", 3, few, 2) == ROLGUNAI_BAD_SIZES && reply == 0 && sent == 0, "too few");
-  check(message(0, "{}", "{}", "{}", "abc", 3, many, 2) == ROLGUNAI_BAD_SIZES, "too many");
-  check(message(0, "{}", "{}", "{}", "abc", 3, vast, 2) == ROLGUNAI_BAD_SIZES, "more than there can be");
-  check(message(0, "{", "{}", "{}", "abc", 3, few, 2) == ROLGUNAI_BAD_SIZES, "sizes are tested before JSON texts");
-  check(message(0, "{},\"call\":\"hang_up\",\"id\":\"m\",\"x\":{}", "{}", "{}", "", 0, no_sizes, 0)
-            == ROLGUNAI_NOT_JSON,
-        "a header that reaches beyond");
-  check(message(0, "{}", "", "{}", "", 0, no_sizes, 0) == ROLGUNAI_NOT_JSON, "no metadata");
-  check(message(0, "{}", "{}", "\xff", "", 0, no_sizes, 0) == ROLGUNAI_NOT_JSON && reply == 0,
-        "a content that isn't UTF-8");
+  for (size_t i = 0; i < sizeof refused / sizeof *refused; i++) {
+    reply = 7, sent = 7, count = refused[i].count;
+    uint32_t status = message(0, refused[i].header, refused[i].metadata, refused[i].content, "abc", count ? 3 : 0,
+                              refused[i].sizes, count);
+    check(status == refused[i].status && reply == 0 && sent == 0, refused[i].what);
+  }
   check(rolgunai_last_text(&handle, out, sizeof out, &size) == ROLGUNAI_OK && size == length
             && memcmp(out, kept, length) == 0,
         "the last text stays");
   check(rolgunai_last_result(&handle, &reply, &sent) == ROLGUNAI_OK && reply == ROLGUNAI_REPLY_CLOSED && sent == 0,
         "and the last answer");
-  check(message(4, "{\"msg_type\":\"comm_info_request\"}", "{}", "{}", "", 0, no_sizes, 0) == ROLGUNAI_OK
-            && reply == ROLGUNAI_REPLY_BAD,
-        "a fifth client");
-  check(plainly("comm_open", "{\"comm_id\":\"z\",\"target_name\":\"none\"}") == ROLGUNAI_OK
-            && reply == ROLGUNAI_REPLY_REFUSED && sent == 1,
-        "no target");
-  check(plainly("comm_msg", "{\"comm_id\":\"nobody\"}") == ROLGUNAI_OK && reply == ROLGUNAI_REPLY_NO_COMM && sent == 0,
-        "no comm");
 }
 
 int main(void) {
@@ -279,6 +389,8 @@ int main(void) {
   a_widget_that_echoes();
   lists_and_ends();
   a_replacement();
+  reasons();
+  an_opaque_comm();
   refusals();
   check(rolgunai_free(&handle) == ROLGUNAI_OK && rolgunai_free(&other) == ROLGUNAI_OK, "the end");
   nothing_there("after the end");

@@ -1,6 +1,6 @@
 """Calls a second from Python, beside ipykernel's own comm manager on the same messages in one run.
 
-bench.py LIBRARY [SECONDS]
+bench.py PACKAGE [SECONDS], with the folder where the package is built
 
 Each message comes as the wire has it, its header, metadata and content as JSON texts and its buffers as bytes; it is
 played; and what is sent is made into such parts again. ipykernel's widget keeps its state as ipywidgets does, without
@@ -14,7 +14,8 @@ import logging
 import sys
 import time
 
-from rolgunai import Kind, Manager, Reply, load
+sys.path.insert(0, sys.argv[1])
+from rolgunai import Kind, Manager, Reply
 
 dumps = json.JSONEncoder(separators=(",", ":"), ensure_ascii=False).encode
 OPEN, MSG = b'{"msg_type":"comm_open"}', b'{"msg_type":"comm_msg"}'
@@ -26,16 +27,17 @@ class Parts:
 
     name = "by parts"
 
-    def __init__(self, library):
-        self.manager = Manager(library=library)
+    def __init__(self):
+        self.manager = Manager()
         self.manager.register(Kind.WIDGET, "jupyter.widget")
         self.manager.register(Kind.PLAIN, "plain")
+        self.manager.register(Kind.OPAQUE, "opaque")
 
     def play(self, header, metadata, content, buffers):
-        answer = self.manager.message(header, metadata, content, buffers)
+        outcome = self.manager.message(header, metadata, content, buffers)
         # For the kernel, which has the message in hand.
-        heard = (json.loads(content)["data"], buffers) if answer.reply == Reply.FOR_KERNEL else None
-        return [(sent.content, sent.buffers) for sent in answer.sent], heard
+        heard = (json.loads(content)["data"], buffers) if outcome.reply == Reply.FOR_KERNEL else None
+        return [(sent.content, sent.buffers) for sent in outcome.sent], heard
 
 
 class Lines(Parts):
@@ -123,7 +125,8 @@ class Ipykernel:
         Kernel._instance = Alone._instance = kernel
         self.manager = kernel.comm_manager = CommManager(kernel=kernel, parent=kernel, log=log)
         self.manager.register_target("jupyter.widget", Widget)
-        self.manager.register_target("plain", lambda comm, message: comm.on_msg(self.hear))
+        for name in ("plain", "opaque"):
+            self.manager.register_target(name, lambda comm, message: comm.on_msg(self.hear))
 
     def hear(self, message):
         self.heard = message["content"]["data"], message["buffers"]
@@ -141,22 +144,25 @@ class Ipykernel:
 
 
 def opening(buffers):
-    """What is played first: a slider, whose state has the buffers, and a comm of a kernel's own."""
+    """What is played first: a slider, whose state has the buffers, and comms of a kernel's own."""
     keys = {f"key_{n}": n for n in range(20)}
     state = {**keys, "value": 1, "picture": {}}
     data = {"state": state, "buffer_paths": [["picture", "png"]][: len(buffers)]}
     widget = {"comm_id": "widget", "target_name": "jupyter.widget", "data": data}
     yield OPEN, VERSION, dumps(widget).encode(), buffers
-    yield OPEN, b"{}", dumps({"comm_id": "plain", "target_name": "plain", "data": {}}).encode(), []
+    for name in ("plain", "opaque"):
+        yield OPEN, b"{}", dumps({"comm_id": name, "target_name": name, "data": {}}).encode(), []
 
 
 def workloads(buffers):
     paths = [["picture", "png"]][: len(buffers)]
     state = {"value": 7, "picture": {}} if buffers else {"value": 7}
+    event = {"event": "mouse", "x": 10, "y": 20}
     for name, comm, data, sent in (
         ("update", "widget", {"method": "update", "state": state, "buffer_paths": paths}, buffers),
         ("request_state", "widget", {"method": "request_state"}, []),
-        ("comm of one's own", "plain", {"event": "mouse", "x": 10, "y": 20}, buffers),
+        ("plain comm", "plain", event, buffers),
+        ("opaque comm", "opaque", event, buffers),
     ):
         yield name, (MSG, b"{}", dumps({"comm_id": comm, "data": data}).encode(), sent)
 
@@ -175,22 +181,21 @@ def a_second(manager, parts, seconds):
     """How many calls a second are made."""
     calls, began = 0, time.perf_counter()
     while True:
-        for _ in range(100):
+        for _ in range(10):
             manager.play(*parts)
-        calls += 100
+        calls += 10
         took = time.perf_counter() - began
         if took >= seconds:
             return calls / took
 
 
-def main(path, seconds=1.0):
+def main(seconds=1.0):
     logging.disable(logging.CRITICAL)
-    library = load(path)
     names = "".join(f"{kind.name:>11}" for kind in (Parts, Lines, Ipykernel))
     print(f"calls a second        buffer {names}  by parts / ipykernel")
-    for size in (0, 1024, 65536):
+    for size in (0, 2**10, 2**16, 2**20):
         buffers = [bytes(n % 251 for n in range(size))] if size else []
-        managers = [Parts(library), Lines(library), Ipykernel()]
+        managers = [Parts(), Lines(), Ipykernel()]
         for parts in opening(buffers):
             for manager in managers:
                 manager.play(*parts)
@@ -204,4 +209,4 @@ def main(path, seconds=1.0):
 
 
 if __name__ == "__main__":
-    main(sys.argv[1], *map(float, sys.argv[2:]))
+    main(*map(float, sys.argv[2:]))

@@ -1,219 +1,39 @@
-//! Rolgunai, the proved comm manager, in a Rust program that isn't written in Rattle: the calls of
-//! `bindings/c/rolgunai.h`, and a safe wrapper. One file to copy; it needs only the standard library, and is linked
-//! with `librolgunai.a` or `librolgunai.so`.
+//! Rolgunai, the proved comm manager, in a Rust program that isn't written in Rattle: a safe wrapper of the calls of
+//! `bindings/c/rolgunai.h`. This file and its folder are to be copied; they need only the standard library, and are
+//! linked with `librolgunai.a` or `librolgunai.so`.
 //!
 //! ```ignore
 //! let mut manager = Manager::new(4096)?;
-//! manager.register(Kind::Widget, "jupyter.widget")?;
-//! let came = manager.message(0, br#"{"msg_type":"comm_info_request"}"#, b"{}", b"{}", &[])?;
+//! manager.register(0, Kind::Widget, "jupyter.widget")?;
+//! let came = manager.message(0, header, metadata, content, &buffers)?;
 //! for sent in came.sent { .. }
+//! manager.push(0, id, br#"{"value":7}"#, b"[]", &[])?;
 //! ```
 //!
-//! A message is given and sent by its parts, as the wire has them: JSON texts and binary buffers. A line and its
-//! answers are those of `docs/FORMATS.md`.
+//! A message is given and sent by its parts, as the wire has them: JSON texts and binary buffers. A call gives its
+//! outcome; one that isn't made gives an `Error`. Clients are numbered 0 to 3: hand in 0, unless the kernel tells its
+//! frontends apart. What else a kernel has to know stands in `rolgunai.h`.
 
-use std::fmt::{self, Display, Formatter};
+mod ffi;
+mod types;
 
-/// The calls as C has them.
-mod ffi {
-    use std::ffi::c_void;
-
-    #[derive(Debug)]
-    #[repr(C)]
-    pub struct Handle {
-        pub manager: *mut c_void,
-    }
-
-    unsafe extern "C" {
-        pub fn rolgunai_new(handle: *mut Handle, comms: usize) -> u32;
-        pub fn rolgunai_new_with_decimals(handle: *mut Handle, comms: usize) -> u32;
-        pub fn rolgunai_register(
-            handle: *mut Handle,
-            kind: u32,
-            name: *const u8,
-            name_size: usize,
-            out: *mut u8,
-            out_size: usize,
-            size: *mut usize,
-        ) -> u32;
-        pub fn rolgunai_handle_line(
-            handle: *mut Handle,
-            line: *const u8,
-            line_size: usize,
-            out: *mut u8,
-            out_size: usize,
-            size: *mut usize,
-        ) -> u32;
-        pub fn rolgunai_handle_message(
-            handle: *mut Handle,
-            client: u32,
-            header: *const u8,
-            header_size: usize,
-            metadata: *const u8,
-            metadata_size: usize,
-            content: *const u8,
-            content_size: usize,
-            buffers: *const u8,
-            buffers_size: usize,
-            sizes: *const usize,
-            count: usize,
-            reply: *mut u32,
-            sent: *mut usize,
-        ) -> u32;
-        pub fn rolgunai_last_result(handle: *mut Handle, reply: *mut u32, sent: *mut usize) -> u32;
-        pub fn rolgunai_sent_part(
-            handle: *mut Handle,
-            message: usize,
-            part: usize,
-            out: *mut u8,
-            out_size: usize,
-            size: *mut usize,
-        ) -> u32;
-        pub fn rolgunai_reply_part(
-            handle: *mut Handle,
-            part: usize,
-            out: *mut u8,
-            out_size: usize,
-            size: *mut usize,
-        ) -> u32;
-        pub fn rolgunai_last_text(handle: *mut Handle, out: *mut u8, out_size: usize, size: *mut usize) -> u32;
-        pub fn rolgunai_free(handle: *mut Handle) -> u32;
-    }
-}
+pub use types::{answers, Answer, Error, Field, Kind, Outcome, Payload, Reason, Reply, Sent};
 
 const OK: u32 = 0;
 const BUFFER_TOO_SMALL: u32 = 5;
 const NO_PART: u32 = 11;
+const NOT_UTF8: u32 = 7;
 
 // The parts of a message and of a reply; binary buffers are numbered on from the last.
 const TYPE: usize = 0;
 const ID: usize = 1;
 const CONTENT: usize = 2;
 const METADATA: usize = 3;
-const BUFFERS: usize = 4;
+const TARGET: usize = 4;
+const BUFFERS: usize = 5;
 
-/// Why a call wasn't made. The manager is as it was before it.
-#[derive(Clone, Copy, Debug, PartialEq, Eq)]
-pub enum Error {
-    /// Out of memory, and nothing has changed: the same call may be made again.
-    Memory,
-    /// The limit of comms isn't from 1 to 4,096.
-    BadLimit,
-    /// 2^62 calls were made.
-    Exhausted,
-    /// Header, metadata or content isn't one JSON text in UTF-8.
-    NotJson,
-    /// The last reply carries nothing.
-    NoPart,
-    /// A number that no call of this wrapper should give.
-    Other(u32),
-}
-
-impl Error {
-    fn numbered(status: u32) -> Error {
-        match status {
-            2 => Error::Memory,
-            3 => Error::BadLimit,
-            6 => Error::Exhausted,
-            10 => Error::NotJson,
-            NO_PART => Error::NoPart,
-            other => Error::Other(other),
-        }
-    }
-}
-
-impl Display for Error {
-    fn fmt(&self, to: &mut Formatter<'_>) -> fmt::Result {
-        match self {
-            Error::Memory => to.write_str("out of memory, and nothing has changed"),
-            Error::BadLimit => to.write_str("the limit of comms isn't from 1 to 4096"),
-            Error::Exhausted => to.write_str("no more calls can be counted"),
-            Error::NotJson => to.write_str("header, metadata or content isn't one JSON text"),
-            Error::NoPart => to.write_str("the last reply carries nothing"),
-            Error::Other(status) => write!(to, "the library gave the status {status}"),
-        }
-    }
-}
-
-impl std::error::Error for Error {}
-
-/// The kinds of targets.
-#[derive(Clone, Copy, Debug, PartialEq, Eq)]
-#[repr(u32)]
-pub enum Kind {
-    /// Keeps the state of Jupyter widgets.
-    Widget = 2,
-    /// Takes every open and message, and hands a message to the kernel in its reply.
-    Plain = 3,
-    /// As `Widget`, and repeats to the frontends what a frontend's update brought.
-    WidgetEcho = 4,
-}
-
-/// The result of a call, by its number. At `Bad`, `Refused` and `Fault` `Manager::text` has the reason.
-#[derive(Clone, Copy, Debug, PartialEq, Eq)]
-pub enum Reply {
-    None,
-    Bad,
-    Read,
-    Registered,
-    Replaced,
-    Opened,
-    IdInUse,
-    Refused,
-    Delivered,
-    ForKernel,
-    Fault,
-    NoComm,
-    Closed,
-    Unregistered,
-    NoTarget,
-    Launched,
-    NotWidget,
-    /// A number that the library shouldn't give.
-    Other(u32),
-}
-
-impl Reply {
-    fn numbered(number: u32) -> Reply {
-        match number {
-            0 => Reply::None,
-            1 => Reply::Bad,
-            2 => Reply::Read,
-            3 => Reply::Registered,
-            4 => Reply::Replaced,
-            5 => Reply::Opened,
-            6 => Reply::IdInUse,
-            7 => Reply::Refused,
-            8 => Reply::Delivered,
-            9 => Reply::ForKernel,
-            10 => Reply::Fault,
-            11 => Reply::NoComm,
-            12 => Reply::Closed,
-            13 => Reply::Unregistered,
-            14 => Reply::NoTarget,
-            15 => Reply::Launched,
-            16 => Reply::NotWidget,
-            other => Reply::Other(other),
-        }
-    }
-}
-
-/// A message that is sent, by its parts. A `comm_info_reply` has no id; content and metadata are JSON.
-#[derive(Clone, Debug, PartialEq, Eq)]
-pub struct Sent {
-    pub kind: Vec<u8>,
-    pub id: Vec<u8>,
-    pub content: Vec<u8>,
-    pub metadata: Vec<u8>,
-    pub buffers: Vec<Vec<u8>>,
-}
-
-/// The result of a call, and the messages that it sends, in their order.
-#[derive(Clone, Debug, PartialEq, Eq)]
-pub struct Outcome {
-    pub reply: Reply,
-    pub sent: Vec<Sent>,
-}
+/// How long a buffer may be that is copied twice.
+const SHORT: usize = 4096;
 
 /// A manager, which is freed where it is dropped.
 #[derive(Debug)]
@@ -226,6 +46,23 @@ pub struct Manager {
 // SAFETY: between two calls a handle may go to another thread (proved: `Handle` of `comm_c` is `Send`). A call takes
 // `&mut self`, so that there is one at a time.
 unsafe impl Send for Manager {}
+
+/// Buffers one after another, and their sizes. One that is alone isn't copied.
+struct Joined<'a> {
+    bytes: std::borrow::Cow<'a, [u8]>,
+    sizes: Vec<usize>,
+}
+
+impl<'a> Joined<'a> {
+    fn of(buffers: &[&'a [u8]]) -> Joined<'a> {
+        let sizes = buffers.iter().map(|buffer| buffer.len()).collect();
+        let bytes = match buffers {
+            [one] => (*one).into(),
+            more => more.concat().into(),
+        };
+        Joined { bytes, sizes }
+    }
+}
 
 impl Manager {
     /// A manager, of which at most `comms` comms (1 to 4,096) are open at a time. Any number of targets may be
@@ -245,34 +82,12 @@ impl Manager {
     fn made_by(make: impl FnOnce(&mut ffi::Handle) -> u32) -> Result<Manager, Error> {
         let mut handle = Box::new(ffi::Handle { manager: std::ptr::null_mut() });
         match make(&mut handle) {
-            OK => Ok(Manager { handle, out: vec![0; 4096] }),
+            OK => Ok(Manager { handle, out: vec![0; SHORT] }),
             status => Err(Error::numbered(status)),
         }
     }
 
-    /// Registers a new target under a name. Gives `reply <number> registered`, with a line feed; or, where a target
-    /// had the name, `reply <number> replaced [..]` with the ids of the comms that were closed, and a line for the
-    /// close of each.
-    pub fn register(&mut self, kind: Kind, name: &str) -> Result<&[u8], Error> {
-        self.text_of(|handle, out, size| {
-            let kind = kind as u32;
-            // SAFETY: the name is readable and `out` writable for its length, they don't overlap, and none is null,
-            // not even where it is empty.
-            unsafe {
-                ffi::rolgunai_register(handle, kind, name.as_ptr(), name.len(), out.as_mut_ptr(), out.len(), size)
-            }
-        })
-    }
-
-    /// Plays a message or a command, and gives the lines of its answer, which may be none.
-    pub fn line(&mut self, line: &[u8]) -> Result<&[u8], Error> {
-        self.text_of(|handle, out, size| {
-            // SAFETY: as in `register`.
-            unsafe { ffi::rolgunai_handle_line(handle, line.as_ptr(), line.len(), out.as_mut_ptr(), out.len(), size) }
-        })
-    }
-
-    /// Plays a message of a frontend by its parts: JSON texts, and its binary buffers. Clients are numbered 0 to 3.
+    /// Plays a message of a frontend by its parts: JSON texts, and its binary buffers.
     pub fn message(
         &mut self,
         client: u32,
@@ -281,13 +96,11 @@ impl Manager {
         content: &[u8],
         buffers: &[&[u8]],
     ) -> Result<Outcome, Error> {
-        let together = buffers.concat();
-        let sizes: Vec<usize> = buffers.iter().map(|buffer| buffer.len()).collect();
-        let (mut reply, mut count) = (0, 0);
-        // SAFETY: each slice is readable for its length, and none is null, not even where it is empty.
-        let status = unsafe {
+        let Joined { bytes, sizes } = Joined::of(buffers);
+        // SAFETY: each slice is readable for its length, and none is null, not even where it is empty; and so below.
+        self.made(|handle, reply, sent| unsafe {
             ffi::rolgunai_handle_message(
-                &mut *self.handle,
+                handle,
                 client,
                 header.as_ptr(),
                 header.len(),
@@ -295,110 +108,259 @@ impl Manager {
                 metadata.len(),
                 content.as_ptr(),
                 content.len(),
-                together.as_ptr(),
-                together.len(),
+                bytes.as_ptr(),
+                bytes.len(),
                 sizes.as_ptr(),
                 sizes.len(),
-                &mut reply,
-                &mut count,
+                reply,
+                sent,
             )
-        };
-        self.came(status, reply, count)
+        })
     }
 
-    /// The result of the last line, message or register.
-    pub fn answer(&mut self) -> Result<Outcome, Error> {
+    /// Registers a new target under a name. One that has the name is replaced, and its comms are closed.
+    pub fn register(&mut self, client: u32, kind: Kind, name: &str) -> Result<Outcome, Error> {
+        // SAFETY: as in `message`.
+        self.made(|handle, reply, sent| unsafe {
+            ffi::rolgunai_register(handle, client, kind as u32, name.as_ptr(), name.len(), reply, sent)
+        })
+    }
+
+    /// Takes the target of a name out, and closes its comms.
+    pub fn unregister(&mut self, client: u32, name: &str) -> Result<Outcome, Error> {
+        self.named(ffi::rolgunai_unregister, client, name)
+    }
+
+    /// Opens a widget of the kernel towards the frontends, with its state, a JSON object, and the buffers at the paths,
+    /// a JSON list of lists of strings and indices. The comm's id is the UUID, with hyphens.
+    pub fn launch(
+        &mut self,
+        client: u32,
+        target: &str,
+        uuid: &str,
+        state: &[u8],
+        paths: &[u8],
+        buffers: &[&[u8]],
+    ) -> Result<Outcome, Error> {
+        let Joined { bytes, sizes } = Joined::of(buffers);
+        // SAFETY: as in `message`.
+        self.made(|handle, reply, sent| unsafe {
+            ffi::rolgunai_launch(
+                handle,
+                client,
+                target.as_ptr(),
+                target.len(),
+                uuid.as_ptr(),
+                uuid.len(),
+                state.as_ptr(),
+                state.len(),
+                paths.as_ptr(),
+                paths.len(),
+                bytes.as_ptr(),
+                bytes.len(),
+                sizes.as_ptr(),
+                sizes.len(),
+                reply,
+                sent,
+            )
+        })
+    }
+
+    /// Changes these keys of a widget's state, and sends an `update` with just them.
+    pub fn push(
+        &mut self,
+        client: u32,
+        id: &str,
+        state: &[u8],
+        paths: &[u8],
+        buffers: &[&[u8]],
+    ) -> Result<Outcome, Error> {
+        let Joined { bytes, sizes } = Joined::of(buffers);
+        // SAFETY: as in `message`.
+        self.made(|handle, reply, sent| unsafe {
+            ffi::rolgunai_push(
+                handle,
+                client,
+                id.as_ptr(),
+                id.len(),
+                state.as_ptr(),
+                state.len(),
+                paths.as_ptr(),
+                paths.len(),
+                bytes.as_ptr(),
+                bytes.len(),
+                sizes.as_ptr(),
+                sizes.len(),
+                reply,
+                sent,
+            )
+        })
+    }
+
+    /// Sends a `comm_msg` with this data, a JSON object, on a comm, past its target.
+    pub fn send(&mut self, client: u32, id: &str, data: &[u8], buffers: &[&[u8]]) -> Result<Outcome, Error> {
+        let Joined { bytes, sizes } = Joined::of(buffers);
+        // SAFETY: as in `message`.
+        self.made(|handle, reply, sent| unsafe {
+            ffi::rolgunai_send(
+                handle,
+                client,
+                id.as_ptr(),
+                id.len(),
+                data.as_ptr(),
+                data.len(),
+                bytes.as_ptr(),
+                bytes.len(),
+                sizes.as_ptr(),
+                sizes.len(),
+                reply,
+                sent,
+            )
+        })
+    }
+
+    /// Closes a comm, and sends a `comm_close`.
+    pub fn close(&mut self, client: u32, id: &str) -> Result<Outcome, Error> {
+        self.named(ffi::rolgunai_close, client, id)
+    }
+
+    /// Reads a comm's state, which the outcome carries.
+    pub fn state(&mut self, id: &str) -> Result<Outcome, Error> {
+        // SAFETY: as in `message`.
+        self.made(|handle, reply, sent| unsafe { ffi::rolgunai_state(handle, id.as_ptr(), id.len(), reply, sent) })
+    }
+
+    /// Plays a message or a command, and gives the lines of its text, which may be none.
+    pub fn line(&mut self, line: &[u8]) -> Result<&str, Error> {
+        self.text_of(|handle, out, size| {
+            // SAFETY: the line is readable and `out` writable for its length, they don't overlap, and none is null.
+            unsafe { ffi::rolgunai_play_line(handle, line.as_ptr(), line.len(), out.as_mut_ptr(), out.len(), size) }
+        })
+    }
+
+    /// What the last call that was made came to, again. At `Memory` it may be asked for once more.
+    pub fn last(&mut self) -> Result<Outcome, Error> {
         let (mut reply, mut count) = (0, 0);
         // SAFETY: reply and count are writable.
         let status = unsafe { ffi::rolgunai_last_result(&mut *self.handle, &mut reply, &mut count) };
-        self.came(status, reply, count)
+        checked(status)?;
+        self.outcome(reply, count)
     }
 
-    /// What the last reply carries for the kernel: `ForKernel` its content, which is JSON, and its buffers;
-    /// `Unregistered` and `Replaced` the JSON list of the ids of the comms that were closed. Any other is `NoPart`.
-    pub fn payload(&mut self) -> Result<(Vec<u8>, Vec<Vec<u8>>), Error> {
+    /// The text of the last call that was made, as `line` gives it.
+    pub fn text(&mut self) -> Result<&str, Error> {
+        self.text_of(text)
+    }
+
+    fn made(&mut self, call: impl FnOnce(&mut ffi::Handle, &mut u32, &mut usize) -> u32) -> Result<Outcome, Error> {
+        let (mut reply, mut count) = (0, 0);
+        checked(call(&mut self.handle, &mut reply, &mut count))?;
+        self.outcome(reply, count).map_err(|error| if error == Error::Memory { Error::NoText } else { error })
+    }
+
+    fn named(&mut self, call: ffi::NamedCall, client: u32, name: &str) -> Result<Outcome, Error> {
+        // SAFETY: as in `message`.
+        self.made(|handle, reply, sent| unsafe { call(handle, client, name.as_ptr(), name.len(), reply, sent) })
+    }
+
+    fn outcome(&mut self, reply: u32, count: usize) -> Result<Outcome, Error> {
         let handle = &mut *self.handle;
+        let (mut reason, mut index) = (0, 0);
+        // SAFETY: reason and index are writable.
+        checked(unsafe { ffi::rolgunai_last_reason(handle, &mut reason, &mut index) })?;
         // SAFETY: `out` is writable for its length, and not null.
         let mut part = |part, out: &mut [u8], size: &mut usize| unsafe {
-            ffi::rolgunai_reply_part(handle, part, out.as_mut_ptr(), out.len(), size)
+            ffi::rolgunai_copy_reply_part(handle, part, out.as_mut_ptr(), out.len(), size)
         };
-        Ok((part_of(&mut self.out, &mut part, CONTENT)?, buffers_of(&mut self.out, &mut part)?))
-    }
-
-    fn came(&mut self, status: u32, reply: u32, count: usize) -> Result<Outcome, Error> {
-        if status != OK {
-            return Err(Error::numbered(status));
-        }
+        let comm = text_part(&mut self.out, &mut part, ID)?;
+        let target = text_part(&mut self.out, &mut part, TARGET)?;
+        let payload = match text_part(&mut self.out, &mut part, CONTENT)? {
+            Some(content) => Some(Payload { content, buffers: buffers_of(&mut self.out, &mut part)? }),
+            None => None,
+        };
         let sent = (0..count).map(|number| self.sent(number)).collect::<Result<_, _>>()?;
-        Ok(Outcome { reply: Reply::numbered(reply), sent })
+        let (reply, reason) = (Reply::numbered(reply), Reason::numbered(reason, index));
+        Ok(Outcome { reply, reason, comm, target, payload, sent })
     }
 
     fn sent(&mut self, number: usize) -> Result<Sent, Error> {
         let handle = &mut *self.handle;
         // SAFETY: `out` is writable for its length, and not null.
         let mut part = |part, out: &mut [u8], size: &mut usize| unsafe {
-            ffi::rolgunai_sent_part(handle, number, part, out.as_mut_ptr(), out.len(), size)
+            ffi::rolgunai_copy_sent_part(handle, number, part, out.as_mut_ptr(), out.len(), size)
         };
-        let mut text = |number| part_of(&mut self.out, &mut part, number);
-        let (kind, id, content, metadata) = (text(TYPE)?, text(ID)?, text(CONTENT)?, text(METADATA)?);
-        Ok(Sent { kind, id, content, metadata, buffers: buffers_of(&mut self.out, &mut part)? })
+        let mut text = |number| text_part(&mut self.out, &mut part, number)?.ok_or(Error::Other(NO_PART));
+        let (message_type, id, content, metadata) = (text(TYPE)?, text(ID)?, text(CONTENT)?, text(METADATA)?);
+        Ok(Sent { message_type, id, content, metadata, buffers: buffers_of(&mut self.out, &mut part)? })
     }
 
-    /// The answer to the last line, message or register, again.
-    pub fn text(&mut self) -> Result<&[u8], Error> {
-        self.text_of(text)
-    }
-
-    fn text_of(&mut self, call: impl FnOnce(&mut ffi::Handle, &mut [u8], &mut usize) -> u32) -> Result<&[u8], Error> {
+    fn text_of(&mut self, call: impl FnOnce(&mut ffi::Handle, &mut [u8], &mut usize) -> u32) -> Result<&str, Error> {
         let mut size = 0;
         let mut status = call(&mut self.handle, &mut self.out, &mut size);
-        // The call is made, and its text, which the library keeps, doesn't fit.
+        // The call is made, and its text, which may be asked for again, doesn't fit.
         if status == BUFFER_TOO_SMALL {
             self.out.resize(2 * size, 0);
             status = text(&mut self.handle, &mut self.out, &mut size);
         }
-        match status {
-            OK => Ok(&self.out[..size]),
-            status => Err(Error::numbered(status)),
-        }
+        checked(status)?;
+        std::str::from_utf8(&self.out[..size]).map_err(|_| Error::Other(NOT_UTF8))
     }
 }
 
-/// Has a part written into `out`, which grows to it.
-fn part_of(
+fn checked(status: u32) -> Result<(), Error> {
+    if status == OK {
+        Ok(())
+    } else {
+        Err(Error::numbered(status))
+    }
+}
+
+/// A part that is a text, where there is one. JSON is written each time that it is asked for, so that `out` grows to the
+/// longest.
+fn text_part(
     out: &mut Vec<u8>,
     part: &mut impl FnMut(usize, &mut [u8], &mut usize) -> u32,
     number: usize,
-) -> Result<Vec<u8>, Error> {
+) -> Result<Option<String>, Error> {
     let mut size = 0;
     let mut status = part(number, out, &mut size);
     if status == BUFFER_TOO_SMALL {
         out.resize(2 * size, 0);
         status = part(number, out, &mut size);
     }
-    match status {
-        OK => Ok(out[..size].to_vec()),
-        status => Err(Error::numbered(status)),
+    if status == NO_PART {
+        return Ok(None);
     }
+    checked(status)?;
+    String::from_utf8(out[..size].to_vec()).map(Some).map_err(|_| Error::Other(NOT_UTF8))
 }
 
+/// The binary buffers. A long one is copied once, to where it stays.
 fn buffers_of(
-    out: &mut Vec<u8>,
+    out: &mut [u8],
     part: &mut impl FnMut(usize, &mut [u8], &mut usize) -> u32,
 ) -> Result<Vec<Vec<u8>>, Error> {
     let mut buffers = Vec::new();
     loop {
-        match part_of(out, part, BUFFERS + buffers.len()) {
-            Ok(buffer) => buffers.push(buffer),
-            Err(Error::NoPart) => return Ok(buffers),
-            Err(error) => return Err(error),
+        let (mut size, number) = (0, BUFFERS + buffers.len());
+        match part(number, &mut out[..SHORT], &mut size) {
+            NO_PART => return Ok(buffers),
+            BUFFER_TOO_SMALL => {
+                let mut whole = vec![0; size];
+                checked(part(number, &mut whole, &mut size))?;
+                buffers.push(whole);
+            }
+            status => {
+                checked(status)?;
+                buffers.push(out[..size].to_vec());
+            }
         }
     }
 }
 
 fn text(handle: &mut ffi::Handle, out: &mut [u8], size: &mut usize) -> u32 {
     // SAFETY: `out` is writable for its length, and not null, not even where it is empty.
-    unsafe { ffi::rolgunai_last_text(handle, out.as_mut_ptr(), out.len(), size) }
+    unsafe { ffi::rolgunai_copy_last_text(handle, out.as_mut_ptr(), out.len(), size) }
 }
 
 impl Drop for Manager {
@@ -406,35 +368,4 @@ impl Drop for Manager {
         // SAFETY: only the library has used the handle since it was made.
         unsafe { ffi::rolgunai_free(&mut *self.handle) };
     }
-}
-
-/// One line of an answer, without its line feed.
-#[derive(Clone, Copy, Debug, PartialEq, Eq)]
-pub enum Answer<'a> {
-    /// A change, its number and its words.
-    Reply(u64, &'a str),
-    /// A message to send, as JSON.
-    Out(&'a str),
-    /// A state that was read, after so many changes.
-    State(u64, &'a str),
-    /// A line that can't be read, its number and why.
-    Bad(u64, &'a str),
-}
-
-/// The lines of an answer of `Manager::line` or `Manager::register`.
-pub fn answers(text: &[u8]) -> impl Iterator<Item = Answer<'_>> {
-    std::str::from_utf8(text).unwrap_or_default().lines().filter_map(|line| {
-        let (word, rest) = line.split_once(' ')?;
-        if word == "out" {
-            return Some(Answer::Out(rest));
-        }
-        let (number, words) = rest.split_once(' ')?;
-        let number = number.parse().ok()?;
-        match word {
-            "reply" => Some(Answer::Reply(number, words)),
-            "state" => Some(Answer::State(number, words)),
-            "bad" => Some(Answer::Bad(number, words)),
-            _ => None,
-        }
-    })
 }

@@ -15,12 +15,19 @@ from ipykernel.jsonutil import json_clean
 from traitlets import default
 
 import old_widgets
-from rolgunai import Answer, Kind, Manager, Reply, Sent
-from wire import command, dumps, hear, texts, words
+from rolgunai import ArgumentError, Kind, Manager, Reply, Sent
+from wire import dumps, hear
 
 WIDGET = "jupyter.widget"
-DONE = {Reply.OPENED, Reply.LAUNCHED, Reply.DELIVERED, Reply.FOR_KERNEL, Reply.CLOSED, Reply.UNREGISTERED}
-LATER = Answer(Reply.NONE, [])
+DONE = {
+    Reply.OPENED,
+    Reply.LAUNCHED,
+    Reply.DELIVERED,
+    Reply.FOR_KERNEL,
+    Reply.CLOSED,
+    Reply.UNREGISTERED,
+    Reply.COMM_INFO,
+}
 
 
 class CommRefused(ValueError):
@@ -30,45 +37,47 @@ class CommRefused(ValueError):
 class ProvedComms(CommManager):
     """What the kernel has as its `comm_manager`."""
 
-    def __init__(self, library, **kwargs):
+    def __init__(self, **kwargs):
         super().__init__(**kwargs)
-        self.proved = Manager(decimals=True, library=library)
+        self.proved = Manager(decimals=True)
         self.names = set()
         self.lock, self.is_busy, self.late = threading.RLock(), False, collections.deque()
 
     def play(self, call, parent, send):
-        """Has the manager play what the call hands it, and sends what goes out in its order. Gives its answer;
-        raises where it is a refusal."""
+        """Has the manager play what the call hands it, and sends what goes out in its order. Gives its reply, which is
+        NONE where it comes later; raises where it is a refusal."""
         with self.lock:
-            # The garbage collector ends a comm amid a call of this thread: its close is played after that.
+            # The garbage collector ends a comm between a call of this thread and what it sends: its close comes after.
             if self.is_busy:
                 self.late.append((call, parent, send))
-                return LATER
+                return Reply.NONE
             self.is_busy = True
             try:
-                answer, why = self._play(call, parent, send)
+                reply, why = self._play(call, parent, send)
                 while self.late:
                     self._play(*self.late.popleft())
             finally:
                 self.is_busy = False
         if why is not None:
             raise CommRefused(why)
-        return answer
+        return reply
 
     def _play(self, call, parent, send):
-        answer = call(self.proved)
-        for sent in answer.sent:
+        try:
+            outcome = call(self.proved)
+        except ArgumentError as error:
+            return Reply.NONE, error.status.name.lower()
+        for sent in outcome.sent:
             send(sent, parent)
-        is_done = answer.reply in DONE or (answer.reply == Reply.READ and answer.sent)
-        return answer, None if is_done else words(self.proved)
+        return outcome.reply, None if outcome.reply in DONE else outcome.words
 
     def publish(self, sent, parent, metadata=None):
         """Sends to all frontends."""
         topic = ("comm-" + sent.comm_id).encode()
         metadata = {**json.loads(sent.metadata), **(metadata or {})}
         session, socket = self.kernel.session, self.kernel.iopub_socket
-        keys = {"parent": parent, "ident": topic, "metadata": metadata, "buffers": sent.buffers}
-        session.send(socket, sent.kind, sent.content, **keys)
+        keys = {"parent": parent, "ident": topic, "metadata": metadata, "buffers": list(sent.buffers)}
+        session.send(socket, sent.msg_type, sent.content, **keys)
 
     def hear(self, message):
         """Plays a message of a frontend; tells whether the kernel's own code is to have it."""
@@ -103,7 +112,7 @@ class ProvedComms(CommManager):
 
     async def comm_info_request(self, stream, ident, parent):
         def reply(sent, to):
-            self.kernel.session.send(stream, sent.kind, sent.content, to, ident)
+            self.kernel.session.send(stream, sent.msg_type, sent.content, to, ident)
 
         try:
             self.play(lambda manager: hear(manager, parent), parent, reply)
@@ -122,12 +131,12 @@ class ProvedComms(CommManager):
         """Closes the target's comms, which ipykernel leaves open."""
 
         def unregister(manager):
-            answer = command(manager, {"call": "unregister", "name": target_name})
-            if answer.reply == Reply.UNREGISTERED:
+            outcome = manager.unregister(target_name)
+            if outcome.reply == Reply.UNREGISTERED:
                 self.names.discard(target_name)
-                for comm_id in json.loads(manager.closed()):
+                for comm_id in json.loads(outcome.content):
                     self.comms.pop(comm_id)._closed = True
-            return answer
+            return outcome
 
         self.play(unregister, self.parent_message(), self.publish)
         return super().unregister_target(target_name, f)
@@ -160,7 +169,7 @@ class ProvedComm(Comm):
             self.is_old = self.target_name == WIDGET and old_widgets.is_old(data)
         if self.is_old:
             data = old_widgets.said(msg_type, data)
-        line = self.command(msg_type, data, buffers)
+        name, arguments = self.call(msg_type, data, buffers)
         content = b"" if msg_type == "comm_msg" else dumps({"comm_id": self.comm_id, "data": data, **keys}).encode()
 
         def send(sent, parent):
@@ -169,24 +178,23 @@ class ProvedComm(Comm):
 
         parent = comms.parent_message()
         try:
-            answer = comms.play(lambda manager: command(manager, line), parent, send)
+            reply = comms.play(lambda manager: getattr(manager, name)(*arguments), parent, send)
         except CommRefused as refused:
             raise CommRefused(f"{msg_type}: {refused}") from None
-        if answer.reply == Reply.OPENED:
+        if reply == Reply.OPENED:
             comms.publish(Sent(msg_type, self.comm_id, content, b"{}", buffers), parent, metadata)
 
-    def command(self, msg_type, data, buffers):
-        """The line that the manager plays for it."""
-        shared = {"id": self.comm_id, "buffers": texts(buffers)}
-        state = {"state": data.get("state"), "buffer_paths": data.get("buffer_paths")}
+    def call(self, msg_type, data, buffers):
+        """The manager's call for it, and what that is handed."""
         if msg_type == "comm_close":
-            return {"call": "hang_up", "id": self.comm_id}
+            return "close", (self.comm_id,)
+        is_widget = self.target_name == WIDGET
+        if is_widget and (msg_type == "comm_open" or data.get("method") == "update"):
+            name, first = ("launch", (WIDGET, self.comm_id)) if msg_type == "comm_open" else ("push", (self.comm_id,))
+            return name, (*first, dumps(data.get("state")), dumps(data.get("buffer_paths") or []), buffers)
         if msg_type == "comm_msg":
-            is_update = self.target_name == WIDGET and data.get("method") == "update"
-            return {"call": "push", **shared, **state} if is_update else {"call": "send", **shared, "data": data}
-        if self.target_name == WIDGET:
-            return {"call": "launch", **shared, **state, "name": WIDGET, "uuid": self.comm_id}
-        # By a command the kernel opens only widgets: the manager opens any other comm as a frontend's, and the kernel
-        # itself sends its open.
+            return "send", (self.comm_id, dumps(data), buffers)
+        # By a call of its own the kernel opens only widgets: the manager opens any other comm as a frontend's, and the
+        # kernel itself sends its open.
         content = {"comm_id": self.comm_id, "target_name": self.target_name}
-        return {"header": {"msg_type": "comm_open"}, "content": content}
+        return "message", ('{"msg_type":"comm_open"}', "{}", dumps(content))

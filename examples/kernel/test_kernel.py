@@ -332,12 +332,11 @@ def a_comm_of_the_kernels(front):
     came = front.send("comm_msg", {"comm_id": comm_id, "data": {"y": [1]}})
     check("it hears", [got.content.get("text") for got in came], ["{'y': [1]}\n"])
     # As where the garbage collector ends something amid a call, whose end closes a comm.
-    line = f"{{'call': 'send', 'id': '{comm_id}', 'data': {{}}}}"
     amid = (
-        f"comms.play(lambda manager: command(manager, {line}), comms.parent_message(), "
+        f"comms.play(lambda manager: manager.send('{comm_id}', '{{}}'), comms.parent_message(), "
         "lambda sent, parent: k.close({'bye': 1}))"
     )
-    printed, came = front.run(f"from wire import command; print({amid}.reply.name)")
+    printed, came = front.run(f"print({amid}.name)")
     closed = ("comm_close", {"comm_id": comm_id, "data": {"bye": 1}}, {}, [])
     check("a close amid a call comes after it", (printed, [tuple(got) for got in came]), ("DELIVERED\n", [closed]))
     check("it is gone", front.info("front.target"), {})

@@ -20,6 +20,7 @@ use Rattle.comm_core.specs.contracts.manager.Core as core
 use Rattle.comm_core.specs.contracts.comms.Comms as comms
 use Rattle.comm_core.specs.contracts.comm.Comm as comm
 use Rattle.comm_messages.proofs.infos.Infos.TheSendSync as Infos
+use Rattle.comm_messages.specs.contracts.parts.PartsScratch as scratch
 use Rattle.ordered_table.proofs.table.Table.TheSendSync as Table
 use Rattle.comm_targets.proofs.Sends.{echo_sends, counter_sends, plain_sends}
 use Rattle.comm_targets.specs.contracts.counter.Counter as counter
@@ -35,9 +36,10 @@ use Rattle.comm_c.specs.contracts.counted_core.CountedCore as counted_core
 use Rattle.comm_c.specs.contracts.handle.Handle as handle
 use Rattle.comm_c.specs.contracts.held_manager.HeldManager as manager
 use Rattle.comm_c.specs.contracts.held_manager.HeldManager.TheInside as inside
-use Rattle.comm_c.specs.contracts.call_result.ChangeMade as made
+use Rattle.comm_c.specs.contracts.call_result.MadeChange as made
 use Rattle.comm_c.specs.contracts.call_result.CallResult as call_result
 use Rattle.comm_c.specs.contracts.builtin_target.BuiltinTarget as builtin_target
+use Rattle.comm_c.specs.contracts.subject.Subject as subject
 use Rattle.comm_core.specs.contracts.reply.StateAnswer as state_answer
 use Rattle.comm_script.specs.contracts.asked.LineFault as line_fault
 
@@ -72,20 +74,29 @@ counted_core_send = search (sendable, crosses, builtin_target_send, core_send) d
 counted_core_field_send : IsSend (as_row counted_core.the_field)
 counted_core_field_send = counted_core_send
 
-change_made_send : IsSend made.the_row
-change_made_send = declared_send made.the_type (
+subject_send : IsSend subject.the_row
+subject_send = search (sendable, crosses, Text.the_send) depth 40
+
+subject_field_send : IsSend (as_row subject.the_field)
+subject_field_send = subject_send
+
+made_change_send : IsSend made.the_row
+made_change_send = declared_send made.the_type (
   search (sendable, crosses) depth 40,
   (
     search (sendable, crosses) depth 40,
     (
       search (sendable, crosses) depth 40,
-      (search (sendable, crosses, reply_field_send) depth 40, (search (sendable, crosses, outgoings_send) depth 40, tt)),
+      (
+        search (sendable, crosses, subject_field_send) depth 40,
+        (search (sendable, crosses, reply_field_send) depth 40, (search (sendable, crosses, outgoings_send) depth 40, tt)),
+      ),
     ),
   ),
 )
 
-change_made_field_send : IsSend (as_row made.the_field)
-change_made_field_send = change_made_send
+made_change_field_send : IsSend (as_row made.the_field)
+made_change_field_send = made_change_send
 
 state_answer_send : IsSend state_answer.the_row
 state_answer_send = search values depth 40
@@ -100,10 +111,17 @@ line_fault_field_send : IsSend (as_row line_fault.the_field)
 line_fault_field_send = line_fault_send
 
 call_result_send : IsSend call_result.the_row
-call_result_send = variants_send call_result.enum (search (sendable, crosses, change_made_field_send, outgoings_send, state_answer_field_send, line_fault_field_send) depth 40)
+call_result_send = variants_send call_result.enum (search (sendable, crosses, made_change_field_send, outgoings_send, state_answer_field_send, line_fault_field_send) depth 40)
 
 call_result_field_send : IsSend (as_row call_result.the_field)
 call_result_field_send = call_result_send
+
+-- the memory that calls are parsed into has no arena in it, which would bind it to a thread
+scratch_send : IsSend scratch.the_row
+scratch_send = search (sendable, crosses) depth 40
+
+scratch_field_send : IsSend (as_row scratch.the_field)
+scratch_field_send = scratch_send
 
 inside_send : IsSend inside.the_row
 inside_send = declared_send inside.the_type (
@@ -111,10 +129,10 @@ inside_send = declared_send inside.the_type (
   (
     search (sendable, crosses) depth 40,
     (
-      search (sendable, crosses) depth 40,
+      search (sendable, crosses, call_result_field_send) depth 40,
       (
-        search (sendable, crosses) depth 40,
-        (search (sendable, crosses, call_result_field_send) depth 40, tt),
+        search (sendable, crosses, scratch_field_send) depth 40,
+        (search (sendable, crosses) depth 40, (search (sendable, crosses) depth 40, tt)),
       ),
     ),
   ),

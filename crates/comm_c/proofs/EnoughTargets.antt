@@ -6,7 +6,7 @@ use Rattle.comm_targets.specs.declared.kind.Kind.TheVariants as kind
 use Rattle.comm_script.specs.Stock.{has_kind, first_of, rest_of}
 use Rattle.comm_script.specs.declared.stock.StockKind.{StockKind}
 use Rattle.comm_script.specs.declared.stock.StockKind.TheVariants.{Echo, Counter, Widget, WidgetEcho}
-use Rattle.comm_c.specs.PlaysLine.{target_kind}
+use Rattle.comm_c.specs.Handles.{target_kind}
 use Rattle.comm_c.specs.Scripts.{AreFresh, HasEnough, count_in, fresh, one_if, stock_of}
 
 kind_is : (w : StockKind) (k : Kind) → has_kind w k ≡ true → k ≡ target_kind w
@@ -15,24 +15,28 @@ kind_is Echo kind.Counter h = cc
 kind_is Echo kind.Widget h = cc
 kind_is Echo kind.WidgetEcho h = cc
 kind_is Echo kind.Plain h = cc
+kind_is Echo kind.Opaque h = cc
 kind_is Echo kind.Free h = cc
 kind_is Counter kind.Echo h = cc
 kind_is Counter kind.Counter h = refl
 kind_is Counter kind.Widget h = cc
 kind_is Counter kind.WidgetEcho h = cc
 kind_is Counter kind.Plain h = cc
+kind_is Counter kind.Opaque h = cc
 kind_is Counter kind.Free h = cc
 kind_is Widget kind.Echo h = cc
 kind_is Widget kind.Counter h = cc
 kind_is Widget kind.Widget h = refl
 kind_is Widget kind.WidgetEcho h = cc
 kind_is Widget kind.Plain h = cc
+kind_is Widget kind.Opaque h = cc
 kind_is Widget kind.Free h = cc
 kind_is WidgetEcho kind.Echo h = cc
 kind_is WidgetEcho kind.Counter h = cc
 kind_is WidgetEcho kind.Widget h = cc
 kind_is WidgetEcho kind.WidgetEcho h = refl
 kind_is WidgetEcho kind.Plain h = cc
+kind_is WidgetEcho kind.Opaque h = cc
 kind_is WidgetEcho kind.Free h = cc
 
 own_kind : (w : StockKind) → one_if (has_kind w (target_kind w)) ≡ 1

@@ -1,22 +1,26 @@
 -- Each call makes one change more of a legal history, or none.
-use Rattle.std.proofs.Common.{◌≡◌, ℕ, ◌+◌, ◌<◌, List, [], ◌∷◌, ◌++◌, length, get_or, Bool, true, false, Option, Some, Ok, Err, refl, sym, ap, subst, ◌∙◌, inl, inr, length-append, append-nil, length-set, arith}
+use Rattle.std.proofs.Common.{◌≡◌, ℕ, ◌+◌, ◌<◌, List, [], ◌∷◌, ◌++◌, length, get_or, false, Option, None, Some, Ok, Err, refl, sym, ap, subst, ◌∙◌, inl, inr, length-append, append-nil, length-set, arith}
+use Rattle.std.specs.Prelude.{pos}
 use Rattle.std.proofs.lemmas.Bool.Decides.{eqb_tells}
 use Rattle.comm_core.specs.declared.call.Call.{Call}
 use Rattle.comm_core.specs.History.{mine, next_of, replay, has_end, IsLegal, Follows}
-use Rattle.comm_core.specs.Machine.{Machine}
+use Rattle.comm_core.specs.Machine.{Machine, Name}
 use Rattle.comm_core.specs.Ready.{machine}
 use Rattle.comm_core.specs.Step.{Outcome, Stepped, step, asks, Allowed}
 use Rattle.comm_core.specs.declared.entry.Entry.{Entry}
 use Rattle.comm_core.specs.declared.entry.Entry.TheVariants.{Change, End}
-use Rattle.comm_script.specs.Command.{asked}
+use Rattle.comm_messages.specs.Fields.{below}
+use Rattle.comm_messages.specs.Gives as message
+use Rattle.comm_targets.specs.declared.kind.Kind.{Kind}
 use Rattle.comm_script.specs.Line.{Reading}
-use Rattle.comm_script.specs.Lines.{is_blank}
 use Rattle.comm_script.specs.declared.asked.Request.{Request}
 use Rattle.comm_script.specs.declared.asked.Request.TheVariants as asks_for
 use Rattle.comm_c.specs.CountedCore.{Changes}
 use Rattle.comm_c.specs.Legal.{HasMade, MakesOne, CallsMakeLegalHistories}
-use Rattle.comm_c.specs.PlaysLine.{SaysOnly, PlaysRequest, AnswersLine, PlaysLineIf, PlaysLine}
+use Rattle.comm_c.specs.Handles.{AnswersIf, AnswersReading, Executes, GivesOnly, Handles, RegistersBy}
+use Rattle.comm_c.specs.declared.call_result.CallResult.{CallResult}
 use Rattle.comm_c.specs.declared.counted_core.CountedCore.{CountedCore}
+use Rattle.comm_c.specs.declared.input.Input.{Input}
 use Rattle.comm_c.proofs.Counting.{Grows, own_made, other_made, zeros}
 
 -- a legal history grows
@@ -28,8 +32,8 @@ still_open [] client number c o S none = refl
 still_open (End ∷ es) client number c o S none = cc
 still_open (Change k n a p r g ∷ es) client number c o S none = still_open es client number c o S none
 
-change_one : GrowsLegal → Grows → (h : List Entry) (d : CountedCore) (client : ℕ) (c : Call) (after : CountedCore) (said : List ℕ) → HasMade h d → Changes d client c after said → MakesOne h after
-change_one legal grows h d client c after said has ch =
+change_one : GrowsLegal → Grows → (h : List Entry) (d : CountedCore) (client : ℕ) (c : Call) (after : CountedCore) (result : CallResult) → HasMade h d → Changes d client c after result → MakesOne h after
+change_one legal grows h d client c after result has ch =
     let S : Stepped = record { reply = ch.reply; outgoing = ch.outgoing; next = machine after.core } in
     let number : ℕ = length (mine h client) + 1 in
     let e : Entry = Change client number c ch.outcome ch.reply ch.outgoing in
@@ -55,34 +59,42 @@ change_one legal grows h d client c after said has ch =
       };
     }
 
-says_none : (h : List Entry) (d after : CountedCore) (text said : List ℕ) → HasMade h d → SaysOnly d text after said → MakesOne h after
-says_none h d after text said has s = record {
+gives_none : (h : List Entry) (d after : CountedCore) (given result : CallResult) → HasMade h d → GivesOnly d given after result → MakesOne h after
+gives_none h d after given result has s = record {
   more = [];
   one = omega arith;
   has = subst (λ (es : List Entry). HasMade es after) (sym (append-nil h)) (subst (λ (e : CountedCore). HasMade h e) (sym s.0) has);
 }
 
-request_one : GrowsLegal → Grows → (h : List Entry) (d : CountedCore) (client : ℕ) (a : Request) (after : CountedCore) (said : List ℕ) → HasMade h d → PlaysRequest d client a after said → MakesOne h after
-request_one legal grows h d client (asks_for.Change c) after said has o = change_one legal grows h d client c after said has o.1
-request_one legal grows h d client (asks_for.Register kind name) after said has o = change_one legal grows h d client _ after said has o
-request_one legal grows h d client (asks_for.Infos target) after said has o = says_none h d after _ said has o
-request_one legal grows h d client (asks_for.State id) after said has o = says_none h d after _ said has o
+request_one : GrowsLegal → Grows → (h : List Entry) (d : CountedCore) (client : ℕ) (a : Request) (after : CountedCore) (result : CallResult) → HasMade h d → Executes d client a after result → MakesOne h after
+request_one legal grows h d client (asks_for.Change c) after result has o = change_one legal grows h d client c after result has o.1
+request_one legal grows h d client (asks_for.Register kind name) after result has o = change_one legal grows h d client _ after result has o
+request_one legal grows h d client (asks_for.Infos target) after result has o = gives_none h d after _ result has o
+request_one legal grows h d client (asks_for.State id) after result has o = gives_none h d after _ result has o
 
-answer_one : GrowsLegal → Grows → (h : List Entry) (d : CountedCore) (number : ℕ) (r : Reading (ℕ × Request)) (after : CountedCore) (said : List ℕ) → HasMade h d → AnswersLine d number r after said → MakesOne h after
-answer_one legal grows h d number (Ok m) after said has a = request_one legal grows h d m.0 m.1 after said has a
-answer_one legal grows h d number (Err fault) after said has a = says_none h d after _ said has a
+reading_one : GrowsLegal → Grows → (h : List Entry) (d : CountedCore) (number : ℕ) (opening : Option Name) (r : Reading (ℕ × Request)) (after : CountedCore) (result : CallResult) → HasMade h d
+    → AnswersReading d number opening r after result → MakesOne h after
+reading_one legal grows h d number opening (Ok m) after result has a = request_one legal grows h d m.0 m.1 after result has a
+reading_one legal grows h d number opening (Err fault) after result has a = gives_none h d after _ result has a
 
-line_one : GrowsLegal → Grows → (h : List Entry) (d : CountedCore) (number : ℕ) (line : List ℕ) (after : CountedCore) (said : List ℕ) → HasMade h d → (b : Bool) → PlaysLineIf b d number line after said → MakesOne h after
-line_one legal grows h d number line after said has true t = says_none h d after [] said has t
-line_one legal grows h d number line after said has false t = answer_one legal grows h d number (asked d.taken 4 line) after said has t
+asked_one : GrowsLegal → Grows → (h : List Entry) (d : CountedCore) (number : ℕ) (opening : Option Name) (asked : Option (Reading (ℕ × Request))) (after : CountedCore) (result : CallResult) → HasMade h d
+    → AnswersIf d number opening asked after result → MakesOne h after
+asked_one legal grows h d number opening None after result has a = gives_none h d after _ result has a
+asked_one legal grows h d number opening (Some r) after result has a = reading_one legal grows h d number opening r after result has a
 
-played_one : GrowsLegal → Grows → (h : List Entry) (d : CountedCore) (number : ℕ) (line : List ℕ) (after : CountedCore) (said : List ℕ) → HasMade h d → PlaysLine d number line after said → MakesOne h after
-unfolding PlaysLine
-played_one legal grows h d number line after said has t = line_one legal grows h d number line after said has (is_blank line) t
+handled_one : GrowsLegal → Grows → (h : List Entry) (d : CountedCore) (number : ℕ) (input : Input) (after : CountedCore) (result : CallResult) → HasMade h d → Handles d number input after result
+    → MakesOne h after
+unfolding Handles
+handled_one legal grows h d number input after result has t = asked_one legal grows h d number input.opening input.asked after result has t
+
+register_one : GrowsLegal → Grows → (h : List Entry) (d : CountedCore) (number : ℕ) (client : message.Reading ℕ) (kind : Kind) (name : Name) (after : CountedCore) (result : CallResult) → HasMade h d
+    → RegistersBy client d number kind name after result → MakesOne h after
+register_one legal grows h d number (Ok client) kind name after result has t = change_one legal grows h d client _ after result has t
+register_one legal grows h d number (Err fault) kind name after result has t = gives_none h d after _ result has t
 
 pub calls : GrowsLegal → Grows → CallsMakeLegalHistories
 calls legal grows = record {
-  first = λ comms taken. record {
+  first = λ comms numbers. record {
     legal = tt;
     goes_on = refl;
     machine_is = refl;
@@ -90,6 +102,7 @@ calls legal grows = record {
     made = λ c few. zeros c;
     clients = refl;
   };
-  line = λ h k line after has plays. played_one legal grows h k.counted_core (k.number + 1) line after.counted_core after.text has plays.1;
-  register = λ h k kind name after has enters. change_one legal grows h k.counted_core 0 _ after.counted_core after.text has enters.1;
+  call = λ h k input after has plays. handled_one legal grows h k.counted_core (k.number + 1) input after.counted_core after.call_result has plays.1;
+  register = λ h k client kind name after has plays.
+      register_one legal grows h k.counted_core (k.number + 1) (below 4 (Some (pos client))) kind name after.counted_core after.call_result has plays.1;
 }

@@ -1,8 +1,10 @@
+pub mod Called
 pub mod Counting
 pub mod Crossing
 pub mod EnoughTargets
 pub mod Handles
 pub mod Legal
 pub mod ScriptLines
+pub mod Tests
 pub mod Values
 pub mod Within

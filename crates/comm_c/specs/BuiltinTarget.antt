@@ -18,6 +18,7 @@ kind_of builtin.Counter = kind.Counter
 kind_of builtin.Widget = kind.Widget
 kind_of builtin.WidgetEcho = kind.WidgetEcho
 kind_of builtin.Plain = kind.Plain
+kind_of builtin.Opaque = kind.Opaque
 
 -- a built-in target means what the target in it means
 abbrev pub means_of : BuiltinTarget → Meaning

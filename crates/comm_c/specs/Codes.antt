@@ -1,7 +1,7 @@
 -- The status of an exported call: a number with a name. `rolgunai.h` has the same.
 use Rattle.std.specs.Prelude.{ℕ, ◌==◌, Option, Some, None, if◌then◌else◌}
 use Rattle.comm_targets.specs.declared.kind.Kind.{Kind}
-use Rattle.comm_targets.specs.declared.kind.Kind.TheVariants.{Widget, WidgetEcho, Plain}
+use Rattle.comm_targets.specs.declared.kind.Kind.TheVariants.{Widget, WidgetEcho, Plain, Opaque}
 
 -- the call was made
 abbrev pub ok : ℕ
@@ -23,7 +23,7 @@ bad_limit = 3
 abbrev pub already_open : ℕ
 already_open = 4
 
--- the call was made, and its text, which is kept, is longer than the caller's buffer
+-- the call was made, and what is asked for is longer than the caller's buffer
 abbrev pub buffer_too_small : ℕ
 buffer_too_small = 5
 
@@ -31,7 +31,7 @@ buffer_too_small = 5
 abbrev pub exhausted : ℕ
 exhausted = 6
 
--- the name isn't UTF-8
+-- an id, a name or a UUID isn't UTF-8
 abbrev pub bad_name : ℕ
 bad_name = 7
 
@@ -43,7 +43,7 @@ bad_kind = 8
 abbrev pub bad_sizes : ℕ
 bad_sizes = 9
 
--- a part of the message isn't JSON
+-- a part isn't JSON
 abbrev pub not_json : ℕ
 not_json = 10
 
@@ -51,10 +51,15 @@ not_json = 10
 abbrev pub no_part : ℕ
 no_part = 11
 
+-- the line was played, and out of memory for its text
+abbrev pub no_text : ℕ
+no_text = 12
+
 -- the kinds of targets that C registers, by their numbers
 abbrev pub kind_numbered : ℕ → Option Kind
 kind_numbered n =
     if n == 2 then Some Widget
     else if n == 3 then Some Plain
     else if n == 4 then Some WidgetEcho
+    else if n == 5 then Some Opaque
     else None

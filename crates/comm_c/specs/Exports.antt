@@ -1,23 +1,29 @@
 -- What an exported call does: to the manager behind a handle, and to the caller's buffers.
-use Rattle.std.specs.Prelude.{◌≡◌, ℕ, ◌<◌, ◌≤◌, ◌^◌, List, ◌++◌, length, drop, Option, Some, None}
+use Rattle.std.specs.Prelude.{◌≡◌, ◌≢◌, ◌⊎◌, ◌↔◌, ℕ, ◌<◌, ◌≤◌, ◌^◌, List, ◌++◌, length, drop}
+use Rattle.std.specs.Prelude.{Option, Some, None, Err}
 use Rattle.comm_targets.specs.declared.kind.Kind.{Kind}
 use Rattle.comm_core.specs.Machine.{Name}
-use Rattle.comm_c.specs.ManagerState.{ManagerState, Plays, RegistersTarget, Shows}
-use Rattle.comm_c.specs.CallResult.{part_replied, part_sent, sent, result_number}
+use Rattle.comm_c.specs.CallResult.{result_number, result_text, sent}
+use Rattle.comm_c.specs.Codes.{ok, closed, memory, exhausted, bad_name, bad_sizes, not_json}
+use Rattle.comm_c.specs.Inputs.{Tested, line_input}
+use Rattle.comm_c.specs.ManagerState.{ManagerState, Plays, PlaysTested, RegistersTarget}
+use Rattle.comm_c.specs.Parts.{part_replied, part_sent}
+use Rattle.comm_c.specs.Reasons.{reason_of}
+use Rattle.comm_c.specs.declared.counted_core.CountedCore.{CountedCore}
+use Rattle.comm_c.specs.declared.input.CallFault.{CallFault}
+use Rattle.comm_c.specs.declared.input.CallFault.TheVariants.{BadName, BadSizes, NotJson}
 
--- the text stands at the beginning of the buffer, and the rest is as it was
-abbrev pub Fills : List ℕ → List ℕ → List ℕ → Type 0
-Fills text before now = now ≡ text ++ drop (length text) before
-
--- a manager is there, whose values are what its text says
-abbrev pub HasShown : Option ManagerState → Type 0
-HasShown (Some k) = Shows k
-HasShown None = ⊥
+-- ---- what a manager gives
 
 -- a manager is there, and this is the number of its last call's result, and how many messages that call sends
 abbrev pub HasLastResult : Option ManagerState → (reply count : ℕ) → Type 0
 HasLastResult (Some k) reply count = (reply ≡ result_number k.call_result) × (count ≡ length (sent k.call_result))
 HasLastResult None reply count = ⊥
+
+-- a manager is there, and this is why its last call's reply is bad, refused or a fault
+abbrev pub HasLastReason : Option ManagerState → (reason index : ℕ) → Type 0
+HasLastReason (Some k) reason index = (reason, index) ≡ reason_of k.call_result
+HasLastReason None reason index = ⊥
 
 -- a part of a message that the last call sends, where there is one
 abbrev pub sent_part_of : Option ManagerState → (message part : ℕ) → Option (List ℕ)
@@ -29,44 +35,77 @@ abbrev pub reply_part_of : Option ManagerState → (part : ℕ) → Option (List
 reply_part_of (Some k) part = part_replied k.call_result part
 reply_part_of None part = None
 
--- there is such a part, and it is in the buffer, with its size
+-- the text of the last call
+abbrev pub text_of : Option ManagerState → Option (List ℕ)
+text_of (Some k) = Some (result_text k.call_result)
+text_of None = None
+
+-- ---- the caller's buffers
+
+-- the bytes stand at the beginning of the buffer, and the rest is as it was
+abbrev pub Fills : List ℕ → List ℕ → List ℕ → Type 0
+Fills bytes before now = now ≡ bytes ++ drop (length bytes) before
+
+-- there are such bytes, and they are in the buffer, with their size
 abbrev pub FillsPart : Option (List ℕ) → (before now : List ℕ) → ℕ → Type 0
-FillsPart (Some text) before now n = Fills text before now × (n ≡ length text)
+FillsPart (Some bytes) before now n = Fills bytes before now × (n ≡ length bytes)
 FillsPart None before now n = ⊥
 
--- there is such a part of this size, which is longer than the buffer
+-- there are such bytes of this size, which is more than the buffer has room for
 abbrev pub IsLongerPart : Option (List ℕ) → (buffer : List ℕ) → ℕ → Type 0
-IsLongerPart (Some text) buffer n = (n ≡ length text) × (length buffer < n)
+IsLongerPart (Some bytes) buffer n = (n ≡ length bytes) × (length buffer < n)
 IsLongerPart None buffer n = ⊥
 
--- a manager is there, and the text of its last call is in the buffer, with its size
-abbrev pub FillsText : Option ManagerState → (before now : List ℕ) → ℕ → Type 0
-FillsText (Some k) before now n = Fills k.text before now × (n ≡ length k.text)
-FillsText None before now n = ⊥
+-- ---- a call that asks for something
 
--- a manager is there, and the text of its last call has this size, which is longer than the buffer
-abbrev pub IsLongerText : Option ManagerState → (buffer : List ℕ) → ℕ → Type 0
-IsLongerText (Some k) buffer n = (n ≡ length k.text) × (length buffer < n)
-IsLongerText None buffer n = ⊥
+-- what it asks for of the core that it comes to
+abbrev pub Ask : Type 0
+Ask = CountedCore → Tested
+
+-- a manager was there, is there, and has done what was asked for
+abbrev pub HasPlayed : Ask → Option ManagerState → Option ManagerState → Type 0
+HasPlayed ask (Some k) (Some after) = PlaysTested k (ask k.counted_core) after
+HasPlayed ask (Some k) None = ⊥
+HasPlayed ask None after = ⊥
+
+-- a manager is there, and this is the first test that what is asked for fails
+abbrev pub FailsTest : Ask → Option ManagerState → CallFault → Type 0
+FailsTest ask (Some k) fault = ask k.counted_core ≡ Err fault
+FailsTest ask None fault = ⊥
 
 -- a manager is there, and has had as many calls as it takes
 abbrev pub IsExhausted : Option ManagerState → Type 0
 IsExhausted (Some k) = 2 ^ 62 ≤ k.number
 IsExhausted None = ⊥
 
+-- What such a call does, by its status, to the manager, and to the numbers of its result that the caller gets. After
+-- `memory` nothing is known of what was asked for.
+pub record HasCalled (ask : Ask) (old new : Option ManagerState) (status reply count : ℕ) : Type 0 where
+  pub played : status ≡ ok → HasPlayed ask old new
+  pub result_is : status ≡ ok → HasLastResult new reply count
+  pub same : status ≢ ok → new ≡ old
+  pub nothing : status ≢ ok → (reply ≡ 0) × (count ≡ 0)
+  pub closed_is : (status ≡ closed) ↔ (old ≡ None)
+  pub sizes : status ≡ bad_sizes → FailsTest ask old BadSizes
+  pub name : status ≡ bad_name → FailsTest ask old BadName
+  pub json : status ≡ not_json → FailsTest ask old NotJson
+  pub full : status ≡ exhausted → IsExhausted old
+  pub codes : (status ≡ ok) ⊎ (status ≡ closed) ⊎ (status ≡ memory) ⊎ (status ≡ exhausted) ⊎ (status ≡ bad_sizes)
+      ⊎ (status ≡ bad_name) ⊎ (status ≡ not_json)
+
 -- a manager was there, is there, and has played the line
-abbrev pub HasHandled : Option ManagerState → List ℕ → Option ManagerState → Type 0
-HasHandled (Some k) line (Some after) = Plays k line after
-HasHandled (Some k) line None = ⊥
-HasHandled None line after = ⊥
+abbrev pub HasPlayedLine : Option ManagerState → List ℕ → Option ManagerState → Type 0
+HasPlayedLine (Some k) line (Some after) = Plays k (line_input k.counted_core.numbers line) after
+HasPlayedLine (Some k) line None = ⊥
+HasPlayedLine None line after = ⊥
 
 -- it registers a target, where there is such a kind
-abbrev pub RegistersKind : ManagerState → Option Kind → Name → ManagerState → Type 0
-RegistersKind k (Some kind) name after = RegistersTarget k kind name after
-RegistersKind k None name after = ⊥
+abbrev pub RegistersKind : ManagerState → ℕ → Option Kind → Name → ManagerState → Type 0
+RegistersKind k client (Some kind) name after = RegistersTarget k client kind name after
+RegistersKind k client None name after = ⊥
 
 -- a manager was there, is there, and has registered a target
-abbrev pub HasRegisteredTarget : Option ManagerState → Option Kind → Name → Option ManagerState → Type 0
-HasRegisteredTarget (Some k) kind name (Some after) = RegistersKind k kind name after
-HasRegisteredTarget (Some k) kind name None = ⊥
-HasRegisteredTarget None kind name after = ⊥
+abbrev pub HasRegistered : Option ManagerState → ℕ → Option Kind → Name → Option ManagerState → Type 0
+HasRegistered (Some k) client kind name (Some after) = RegistersKind k client kind name after
+HasRegistered (Some k) client kind name None = ⊥
+HasRegistered None client kind name after = ⊥

@@ -9,6 +9,7 @@ use Rattle.comm_core.specs.Ready.{machine}
 use Rattle.comm_core.specs.declared.entry.Entry.{Entry}
 use Rattle.comm_c.specs.ManagerState.{ManagerState, Plays, RegistersTarget, new_manager}
 use Rattle.comm_c.specs.declared.counted_core.CountedCore.{CountedCore}
+use Rattle.comm_c.specs.declared.input.Input.{Input}
 
 -- it is in the state after this legal history, and has counted its changes
 pub record HasMade (history : List Entry) (d : CountedCore) : Type 0 where
@@ -25,9 +26,12 @@ pub record MakesOne (history : List Entry) (after : CountedCore) : Type 0 where
   pub one : length more ≤ 1
   pub has : HasMade (history ++ more) after
 
+-- each call is one of these: what it asks for is an input, whether it came as a line, as a message or from the kernel
 pub record CallsMakeLegalHistories : Type 0 where
-  pub first : (comms : ℕ) (taken : Numbers) → HasMade [] (new_manager comms taken).counted_core
-  pub line : (history : List Entry) (k : ManagerState) (line : List ℕ) (after : ManagerState)
-      → HasMade history k.counted_core → Plays k line after → MakesOne history after.counted_core
-  pub register : (history : List Entry) (k : ManagerState) (kind : Kind) (name : Name) (after : ManagerState)
-      → HasMade history k.counted_core → RegistersTarget k kind name after → MakesOne history after.counted_core
+  pub first : (comms : ℕ) (numbers : Numbers) → HasMade [] (new_manager comms numbers).counted_core
+  pub call : (history : List Entry) (k : ManagerState) (input : Input) (after : ManagerState)
+      → HasMade history k.counted_core → Plays k input after → MakesOne history after.counted_core
+  pub register : (history : List Entry) (k : ManagerState) (client : ℕ) (kind : Kind) (name : Name)
+      (after : ManagerState)
+      → HasMade history k.counted_core → RegistersTarget k client kind name after
+      → MakesOne history after.counted_core

@@ -4,10 +4,14 @@ pub mod Codes
 pub mod CountedCore
 pub mod Exports
 pub mod Handle
-pub mod IncomingParts
+pub mod Handles
+pub mod Inputs
 pub mod Legal
 pub mod ManagerState
 pub mod ManagerStateCode
+pub mod Opaque
 pub mod PartBytes
-pub mod PlaysLine
+pub mod Parts
+pub mod Reasons
 pub mod Scripts
+pub mod Subject

@@ -1,21 +1,25 @@
 -- The lines that a manager has played since it was made, and what it said to them: a script, and what
--- `played` gives for it.
+-- `played` gives for it. The same of calls that ask for anything.
 use Rattle.std.specs.Prelude.{◌≡◌, ℕ, ◌+◌, ◌≤◌, List, [], ◌∷◌, ◌++◌, map, replicate, Bool, true, false}
-use Rattle.std.specs.Prelude.{Ok, Err, if◌then◌else◌}
+use Rattle.std.specs.Prelude.{Option, Some, None, Ok, Err, if◌then◌else◌}
 use Rattle.comm_value.specs.declared.from_json.Numbers.{Numbers}
 use Rattle.comm_targets.specs.declared.kind.Kind.{Kind}
 use Rattle.comm_core.specs.Machine.{Registered}
+use Rattle.comm_core.specs.declared.limits.Limits.{Limits}
 use Rattle.comm_script.specs.Command.{asked}
 use Rattle.comm_script.specs.Line.{Reading}
 use Rattle.comm_script.specs.Lines.{is_blank, lines_of}
-use Rattle.comm_script.specs.Played.{played}
+use Rattle.comm_script.specs.Played.{Standing, Turn, answered, played, says}
 use Rattle.comm_script.specs.Stock.{has_kind}
 use Rattle.comm_script.specs.declared.asked.Request.{Request}
 use Rattle.comm_script.specs.declared.asked.Request.TheVariants.{Change, Register, Infos, State}
 use Rattle.comm_script.specs.declared.stock.StockKind.{StockKind}
 use Rattle.comm_script.specs.declared.stock.StockKind.TheVariants.{Echo, Counter, Widget, WidgetEcho}
+use Rattle.comm_c.specs.CallResult.{result_text}
+use Rattle.comm_c.specs.Handles.{target_kind}
+use Rattle.comm_c.specs.Inputs.{line_input}
 use Rattle.comm_c.specs.ManagerState.{ManagerState, Plays, limits_of, new_manager}
-use Rattle.comm_c.specs.PlaysLine.{target_kind}
+use Rattle.comm_c.specs.declared.input.Input.{Input}
 
 -- a line, and the manager once it has played it
 abbrev pub PlayedLine : Type 0
@@ -24,7 +28,7 @@ PlayedLine = List ℕ × ManagerState
 -- it plays these lines, one after the other
 abbrev pub Runs : ManagerState → List PlayedLine → Type 0
 Runs k [] = Unit {0}
-Runs k (p ∷ ps) = Plays k p.0 p.1 × Runs p.1 ps
+Runs k (p ∷ ps) = Plays k (line_input k.counted_core.numbers p.0) p.1 × Runs p.1 ps
 
 abbrev pub lines_in : List PlayedLine → List (List ℕ)
 lines_in ps = map (λ p. p.0) ps
@@ -32,7 +36,7 @@ lines_in ps = map (λ p. p.0) ps
 -- what it says to them in all
 abbrev pub said_in : List PlayedLine → List ℕ
 said_in [] = []
-said_in (p ∷ ps) = p.1.text ++ said_in ps
+said_in (p ∷ ps) = result_text p.1.call_result ++ said_in ps
 
 -- ---- the targets that the lines register
 
@@ -52,9 +56,48 @@ registered_by_reading w (Err fault) = 0
 
 -- how many targets of the kind these lines register
 abbrev pub registered_by : Numbers → StockKind → List (List ℕ) → ℕ
-registered_by taken w [] = 0
-registered_by taken w (line ∷ lines) =
-    (if is_blank line then 0 else registered_by_reading w (asked taken 4 line)) + registered_by taken w lines
+registered_by numbers w [] = 0
+registered_by numbers w (line ∷ lines) =
+    (if is_blank line then 0 else registered_by_reading w (asked numbers 4 line)) + registered_by numbers w lines
+
+-- ---- calls that ask for anything
+
+-- what a call asks for, and the manager once it has done it
+abbrev pub PlayedCall : Type 0
+PlayedCall = Input × ManagerState
+
+-- it does what these ask for, one after the other
+abbrev pub RunsCalls : ManagerState → List PlayedCall → Type 0
+RunsCalls k [] = Unit {0}
+RunsCalls k (p ∷ ps) = Plays k p.0 p.1 × RunsCalls p.1 ps
+
+abbrev pub inputs_in : List PlayedCall → List Input
+inputs_in ps = map (λ p. p.0) ps
+
+-- what it says to them in all
+abbrev pub said_to : List PlayedCall → List ℕ
+said_to [] = []
+said_to (p ∷ ps) = result_text p.1.call_result ++ said_to ps
+
+abbrev pub registered_if : StockKind → Option (Reading (ℕ × Request)) → ℕ
+registered_if w None = 0
+registered_if w (Some reading) = registered_by_reading w reading
+
+-- how many targets of the kind these register
+abbrev pub registered_by_inputs : StockKind → List Input → ℕ
+registered_by_inputs w [] = 0
+registered_by_inputs w (i ∷ is) = registered_if w i.asked + registered_by_inputs w is
+
+-- what a script says to a line that was read so
+abbrev pub turn_if : Limits → Standing → ℕ → Option (Reading (ℕ × Request)) → Turn
+turn_if limits now number None = says now []
+turn_if limits now number (Some reading) = answered limits now number reading
+
+-- what it says to lines that were read so, numbered from n on
+abbrev pub said_from : Limits → Standing → ℕ → List Input → List ℕ
+said_from limits now n [] = []
+said_from limits now n (i ∷ is) =
+    let first = turn_if limits now (n + 1) i.asked in first.text ++ said_from limits first.after (n + 1) is
 
 -- ---- stocks for scripts
 
@@ -89,10 +132,17 @@ pub record HasEnough (stock : List Registered) (wanted : StockKind → ℕ) : Ty
 -- gives: over a stock of just as many new targets of each kind as they register, and over any stock that has
 -- at least as many.
 pub record LinesPlayScripts : Type 0 where
-  pub exact : (comms : ℕ) (taken : Numbers) (ps : List PlayedLine) (input : List ℕ) → Runs (new_manager comms taken) ps
-      → lines_of input ≡ lines_in ps
-      → said_in ps ≡ played taken (limits_of comms) (stock_of (λ w. registered_by taken w (lines_in ps))) input
-  pub at_least : (comms : ℕ) (taken : Numbers) (ps : List PlayedLine) (input : List ℕ) (stock : List Registered)
-      → Runs (new_manager comms taken) ps → lines_of input ≡ lines_in ps
-      → HasEnough stock (λ w. registered_by taken w (lines_in ps))
-      → said_in ps ≡ played taken (limits_of comms) stock input
+  pub exact : (comms : ℕ) (numbers : Numbers) (ps : List PlayedLine) (input : List ℕ)
+      → Runs (new_manager comms numbers) ps → lines_of input ≡ lines_in ps
+      → said_in ps ≡ played numbers (limits_of comms) (stock_of (λ w. registered_by numbers w (lines_in ps))) input
+  pub at_least : (comms : ℕ) (numbers : Numbers) (ps : List PlayedLine) (input : List ℕ) (stock : List Registered)
+      → Runs (new_manager comms numbers) ps → lines_of input ≡ lines_in ps
+      → HasEnough stock (λ w. registered_by numbers w (lines_in ps))
+      → said_in ps ≡ played numbers (limits_of comms) stock input
+
+-- What was said to calls that ask for anything, since the manager was made, is what a script says to lines that were
+-- read so, over any stock that has as many new targets of each kind as they register.
+abbrev pub CallsPlayScripts : Type 0
+CallsPlayScripts = (comms : ℕ) (numbers : Numbers) (ps : List PlayedCall) (stock : List Registered)
+    → RunsCalls (new_manager comms numbers) ps → HasEnough stock (λ w. registered_by_inputs w (inputs_in ps))
+    → said_to ps ≡ said_from (limits_of comms) (record { history = []; stock = stock }) 0 (inputs_in ps)

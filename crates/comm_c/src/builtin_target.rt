@@ -15,9 +15,10 @@ pub enum BuiltinKind {
     Widget,
     WidgetEcho,
     Plain,
+    Opaque,
 }
 
-/// A target of any of the five kinds.
+/// A target of any of the six kinds.
 #[derive(Drop)]
 pub enum BuiltinTarget {
     Echo(Echo),
@@ -38,6 +39,7 @@ impl BuiltinTarget {
             BuiltinKind::Widget => BuiltinTarget::Widget(WidgetTarget::new(alloc)),
             BuiltinKind::WidgetEcho => BuiltinTarget::Widget(WidgetTarget::with_echo(alloc)),
             BuiltinKind::Plain => BuiltinTarget::Plain(PlainTarget::new(alloc)),
+            BuiltinKind::Opaque => BuiltinTarget::Plain(PlainTarget::opaque(alloc)),
         }
     }
 }

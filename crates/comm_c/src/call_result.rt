@@ -1,32 +1,37 @@
-//! The result of a call, kept as values, so that C can take it by its parts.
-ghost use Rattle.std.specs.Prelude.{◌≡◌, option_map};
-ghost use Rattle.comm_c.specs.CallResult.{sent, result_number, reply_number, delivered_number, replied};
+//! The result of a call, kept as values: its text and its parts are written when they are asked for.
+ghost use Rattle.std.specs.Prelude.{◌≡◌, [], OnOk};
+ghost use Rattle.comm_c.specs.CallResult.{delivered_number, reply_number, result_number, result_text, sent};
+ghost use Rattle.comm_c.specs.CallResult.{state_number};
 
+use crate::subject::Subject;
 use comm_core::{Outgoings, Reply, StateAnswer};
-use comm_messages::Outgoing;
-use comm_script::LineFault;
+use comm_messages::{Outgoing, Parent};
+use comm_script::{LineFault, append_bad, append_outs, append_reply, append_state_line};
 use comm_targets::Custom;
+use std::alloc::{AllocError, Global};
 
-/// A change that was made: `number` among all changes, `call` among those of its client, its reply, and the
-/// messages that it sends.
+/// A change that was made: `number` among all changes, `call` among those of its client, what it is about, its reply,
+/// and the messages that it sends.
 #[derive(Drop)]
-pub struct ChangeMade {
+pub struct MadeChange {
     pub number: u64,
     pub client: u8,
     pub call: u64,
+    pub subject: Subject,
     pub reply: Reply,
     pub sent: Outgoings,
 }
 
-/// What the last call gave, from which its text and its parts are taken.
+/// What the last call gave.
 #[derive(Drop)]
 pub enum CallResult {
     /// Of a blank line, or before the first call.
     Nothing,
-    /// Of a line of this number that can't be read.
+    /// Of the call of this number, which can't be read. A frontend that opens a comm by it is told to close it.
     Bad {
         number: u64,
         fault: LineFault,
+        closes: Outgoings,
     },
     /// The open comms, in one message.
     Infos {
@@ -39,7 +44,7 @@ pub enum CallResult {
         front: u64,
         answer: StateAnswer,
     },
-    Change(ChangeMade),
+    Change(MadeChange),
 }
 
 fn delivered_number(custom: &Option<Custom>) -> u32
@@ -71,6 +76,16 @@ fn reply_number(reply: &Reply) -> u32
     }
 }
 
+fn state_number(answer: &StateAnswer) -> u32
+    ensures { result ≡ state_number answer.now }
+{
+    match answer {
+        StateAnswer::NoComm => 11,
+        StateAnswer::NoState => 18,
+        StateAnswer::State(_) => 17,
+    }
+}
+
 impl CallResult {
     /// Its number for C. `rolgunai.h` has the same.
     pub fn number(&self) -> u32
@@ -79,7 +94,8 @@ impl CallResult {
         match self {
             CallResult::Nothing => 0,
             CallResult::Bad { .. } => 1,
-            CallResult::Infos { .. } | CallResult::State { .. } => 2,
+            CallResult::Infos { .. } => 2,
+            CallResult::State { answer, .. } => state_number(answer),
             CallResult::Change(made) => reply_number(&made.reply),
         }
     }
@@ -89,22 +105,42 @@ impl CallResult {
         ensures { result.now ≡ sent self.now }
     {
         match self {
+            CallResult::Bad { closes, .. } => closes.as_slice(),
             CallResult::Infos { sent, .. } => sent.as_slice(),
             CallResult::Change(made) => made.sent.as_slice(),
-            CallResult::Nothing | CallResult::Bad { .. } | CallResult::State { .. } => &[],
+            CallResult::Nothing | CallResult::State { .. } => &[],
         }
     }
 
-    /// The reply, where it is of a change.
-    pub fn reply(&self) -> Option<&Reply>
-        ensures { option_map (λ r. r.now) result ≡ replied self.now }
+    /// Writes its text to an empty `text`. Err: memory; `text` may have a part of it.
+    pub fn write_text(&self, alloc: Global, text: &mut Vec<u8>) -> Result<(), AllocError>
+        requires { text.old.items ≡ [] }
+        ensures { OnOk result (text.new.items ≡ result_text self.now) }
     {
         match self {
-            CallResult::Change(made) => Some(&made.reply),
-            CallResult::Nothing
-            | CallResult::Bad { .. }
-            | CallResult::Infos { .. }
-            | CallResult::State { .. } => None,
+            CallResult::Nothing => {}
+            CallResult::Bad { number, fault, .. } => append_bad(*number, *fault, text)?,
+            CallResult::Infos {
+                client,
+                front,
+                sent,
+            } => {
+                let parent = Parent::Read {
+                    client: *client,
+                    front: *front,
+                };
+                append_outs(alloc, sent.as_slice(), &parent, text)?;
+            }
+            CallResult::State { front, answer } => append_state_line(alloc, *front, answer, text)?,
+            CallResult::Change(made) => {
+                let parent = Parent::Call {
+                    client: made.client,
+                    number: made.call,
+                };
+                append_reply(alloc, made.number, &made.reply, text)?;
+                append_outs(alloc, made.sent.as_slice(), &parent, text)?;
+            }
         }
+        Ok(())
     }
 }

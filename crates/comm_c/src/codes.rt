@@ -20,13 +20,13 @@ pub const BAD_LIMIT: u32 = 3;
 /// The handle has a manager already.
 pub const ALREADY_OPEN: u32 = 4;
 
-/// The call was made, and its text, which the manager keeps, is longer than the caller's buffer.
+/// The call was made, and what is asked for, which the manager keeps, is longer than the caller's buffer.
 pub const BUFFER_TOO_SMALL: u32 = 5;
 
 /// The manager has had as many calls as it takes.
 pub const EXHAUSTED: u32 = 6;
 
-/// The name isn't UTF-8.
+/// An id, a name or a UUID isn't UTF-8.
 pub const BAD_NAME: u32 = 7;
 
 /// No kind of target has the number.
@@ -35,11 +35,14 @@ pub const BAD_KIND: u32 = 8;
 /// The sizes aren't those of the binary buffers.
 pub const BAD_SIZES: u32 = 9;
 
-/// A part of the message isn't JSON.
+/// A part isn't JSON.
 pub const NOT_JSON: u32 = 10;
 
 /// There is no such message, or it has no such part.
 pub const NO_PART: u32 = 11;
+
+/// The line was played, and out of memory for its text, which may be asked for again.
+pub const NO_TEXT: u32 = 12;
 
 /// The kind of target that has this number; `Echo` and `Counter` have none, since they are for scripts and
 /// tests.
@@ -52,6 +55,8 @@ pub fn kind_numbered(number: u32) -> Option<BuiltinKind>
         Some(BuiltinKind::Plain)
     } else if number == 4 {
         Some(BuiltinKind::WidgetEcho)
+    } else if number == 5 {
+        Some(BuiltinKind::Opaque)
     } else {
         None
     }

@@ -1,29 +1,43 @@
 //! A manager that stays between the calls of a kernel.
-ghost use Rattle.std.specs.Prelude.{◌≡◌, ◌<◌, ◌^◌, ◌↔◌, ◌≤◌, IsTrue, IfOk, IfErr, IsOk, OnOk, OnErr};
+ghost use Rattle.std.specs.Prelude.{◌≡◌, ◌≢◌, ◌⊎◌, ◌<◌, ◌+◌, ◌^◌, ◌↔◌, ◌≤◌, Some, IsTrue, IfOk, IfErr, IsOk};
+ghost use Rattle.std.specs.Prelude.{OnOk, OnErr};
 ghost use Rattle.comm_core.specs.Limits.{AreAllowed};
+ghost use Rattle.comm_core.specs.Ready.{machine};
 ghost use Rattle.comm_c.specs.BuiltinTarget.{kind_of};
-ghost use Rattle.comm_c.specs.ManagerState.{Plays, RegistersTarget, Shows, limits_of, new_manager};
+ghost use Rattle.comm_c.specs.CallResult.{result_text};
+ghost use Rattle.comm_c.specs.Codes.{buffer_too_small, memory, ok};
+ghost use Rattle.comm_c.specs.CountedCore.{Registers};
+ghost use Rattle.comm_c.specs.Exports.{FillsPart, IsLongerPart};
+ghost use Rattle.comm_c.specs.Handles.{IsAllowed};
+ghost use Rattle.comm_c.specs.Inputs.{Gives, launch_input, line_input, message_input, push_input, send_input};
+ghost use Rattle.comm_c.specs.ManagerState.{Plays, limits_of, new_manager};
 
 use crate::builtin_target::BuiltinKind;
 use crate::call_result::CallResult;
+use crate::codes::MEMORY;
+use crate::copying::copy_to_buffer;
 use crate::counted_core::CountedCore;
+use crate::input::{CallFault, Input};
+use crate::inputs::{launch_input, line_input, push_input, send_input};
 use comm_core::{Core, Limits, NewFault};
+use comm_messages::PartsScratch;
 use comm_value::{Numbers, Text};
 use std::alloc::{AllocError, Global};
 use std::marker::Model;
 use std::mem;
 
-/// How many calls a manager takes: lines, messages and registers.
+/// How many calls a manager takes.
 pub const MAX_CALLS: u64 = 4_611_686_018_427_387_904;
 
-/// A core with its counts, how many calls were made, and the result of the last one, as a text and as values.
-/// The next text is written to `spare`, so that the last one stays where memory runs out.
+/// A core with its counts, how many calls were made, and the result of the last one. The memory that calls are parsed
+/// into is kept; so is the result's text, once it was asked for.
 pub struct HeldManager {
     counted_core: CountedCore,
     number: u64,
-    text: Vec<u8>,
-    spare: Vec<u8>,
     call_result: CallResult,
+    scratch: PartsScratch,
+    text: Vec<u8>,
+    is_written: bool,
 }
 
 impl Model for HeldManager {
@@ -37,18 +51,18 @@ impl Model for HeldManager {
     ghost view = { λ m. record {
       counted_core = m.counted_core;
       number = m.number;
-      text = m.text.items;
       call_result = m.call_result;
     } };
 
-    ghost invariant = { λ m. IsUsable m.counted_core m.number };
+    ghost invariant = { λ m.
+        IsUsable m.counted_core m.number m.call_result m.is_written m.text.items };
 }
 
 impl HeldManager {
     /// A manager that has had no call, of which at most `comms` comms are open at a time, and that takes these
     /// numbers as values. BadLimits exactly where `comms` isn't from 1 to 4,096.
-    pub fn new(alloc: Global, comms: usize, taken: Numbers) -> Result<HeldManager, NewFault>
-        ensures opened { IfOk result (λ m. m ≡ new_manager comms taken) }
+    pub fn new(alloc: Global, comms: usize, numbers: Numbers) -> Result<HeldManager, NewFault>
+        ensures opened { IfOk result (λ m. m ≡ new_manager comms numbers) }
         ensures allowed { IsOk result ↔ AreAllowed (limits_of comms) }
         ensures fault { IfErr result (λ e. e ≡ NewFault.BadLimits) }
     {
@@ -64,12 +78,13 @@ impl HeldManager {
                 core,
                 changes: 0,
                 made: [0; 4],
-                taken,
+                numbers,
             },
             number: 0,
-            text: Vec::new(alloc),
-            spare: Vec::new(alloc),
             call_result: CallResult::Nothing,
+            scratch: PartsScratch::new(alloc),
+            text: Vec::new(alloc),
+            is_written: false,
         })
     }
 
@@ -80,58 +95,209 @@ impl HeldManager {
         self.number >= MAX_CALLS
     }
 
-    /// The lines of the last call's answer.
-    pub fn text(&self) -> &[u8]
-        ensures { result.now ≡ self.now.text }
-    {
-        &self.text
-    }
-
-    /// The result of the last call as values; `text` is its text.
+    /// The result of the last call.
     pub fn call_result(&self) -> &CallResult
         ensures { result.now ≡ self.now.call_result }
     {
         &self.call_result
     }
 
-    /// Plays a line. Err: memory; nothing has changed.
-    pub fn line(&mut self, alloc: Global, line: &[u8]) -> Result<(), AllocError>
-        requires { self.old.number < 2 ^ 62 }
-        ensures plays { OnOk result (Plays self.old line.now self.new) }
-        ensures shows { OnOk result (Shows self.new) }
+    // ---- what calls ask for; Err: the first test that fails, or Memory
+
+    /// What a message by its parts asks for.
+    pub fn message(
+        &mut self,
+        alloc: Global,
+        client: u32,
+        header: &[u8],
+        metadata: &[u8],
+        content: &[u8],
+        buffers: &[u8],
+        sizes: &[usize],
+    ) -> Result<Input, CallFault>
+        ensures input { Gives (λ i. i) result
+            (message_input (machine self.new.counted_core.core) self.new.counted_core.numbers client
+            header.now metadata.now content.now buffers.now sizes.now) }
+        ensures allowed { IfOk result IsAllowed }
+        ensures same { self.new ≡ self.old }
+    {
+        self.counted_core.message_input(
+            alloc,
+            client,
+            header,
+            metadata,
+            content,
+            buffers,
+            sizes,
+            &mut self.scratch,
+        )
+    }
+
+    /// What a launch by its parts asks for.
+    pub fn launch(
+        &mut self,
+        alloc: Global,
+        client: u32,
+        target: &[u8],
+        uuid: &[u8],
+        state: &[u8],
+        paths: &[u8],
+        buffers: &[u8],
+        sizes: &[usize],
+    ) -> Result<Input, CallFault>
+        ensures input { Gives (λ i. i) result
+            (launch_input self.new.counted_core.numbers client target.now uuid.now state.now
+            paths.now buffers.now sizes.now) }
+        ensures allowed { IfOk result IsAllowed }
+        ensures same { self.new ≡ self.old }
+    {
+        launch_input(
+            alloc,
+            self.counted_core.numbers,
+            client,
+            target,
+            uuid,
+            state,
+            paths,
+            buffers,
+            sizes,
+            &mut self.scratch,
+        )
+    }
+
+    /// What a push by its parts asks for.
+    pub fn push(
+        &mut self,
+        alloc: Global,
+        client: u32,
+        id: &[u8],
+        state: &[u8],
+        paths: &[u8],
+        buffers: &[u8],
+        sizes: &[usize],
+    ) -> Result<Input, CallFault>
+        ensures input { Gives (λ i. i) result
+            (push_input self.new.counted_core.numbers client id.now state.now paths.now buffers.now
+            sizes.now) }
+        ensures allowed { IfOk result IsAllowed }
+        ensures same { self.new ≡ self.old }
+    {
+        push_input(
+            alloc,
+            self.counted_core.numbers,
+            client,
+            id,
+            state,
+            paths,
+            buffers,
+            sizes,
+            &mut self.scratch,
+        )
+    }
+
+    /// What a send by its parts asks for.
+    pub fn send(
+        &mut self,
+        alloc: Global,
+        client: u32,
+        id: &[u8],
+        content: &[u8],
+        buffers: &[u8],
+        sizes: &[usize],
+    ) -> Result<Input, CallFault>
+        ensures input { Gives (λ i. i) result
+            (send_input self.new.counted_core.numbers client id.now content.now buffers.now
+            sizes.now) }
+        ensures allowed { IfOk result IsAllowed }
+        ensures same { self.new ≡ self.old }
+    {
+        send_input(
+            alloc,
+            self.counted_core.numbers,
+            client,
+            id,
+            content,
+            buffers,
+            sizes,
+            &mut self.scratch.content,
+        )
+    }
+
+    // ---- calls
+
+    /// Does what is asked for as the next call. Err: memory; nothing has changed.
+    pub fn play(&mut self, alloc: Global, input: Input) -> Result<(), AllocError>
+        requires room { self.old.number < 2 ^ 62 }
+        requires allowed { IsAllowed input }
+        ensures plays { OnOk result (Plays self.old input self.new) }
         ensures same { OnErr result (self.new ≡ self.old) }
     {
-        self.spare.clear();
         let number = self.number + 1;
-        let call_result = self
-            .counted_core
-            .line(alloc, number, line, &mut self.spare)?;
+        let call_result = self.counted_core.handle(alloc, number, input)?;
         drop(mem::replace(&mut self.call_result, call_result));
         self.number = number;
-        mem::swap(&mut self.text, &mut self.spare);
+        self.is_written = false;
         Ok(())
     }
 
-    /// Registers a new target of the kind, for the first client. Err: memory; nothing has changed.
+    /// Plays a line as the next call. Err: memory; nothing has changed.
+    pub fn line(&mut self, alloc: Global, line: &[u8]) -> Result<(), AllocError>
+        requires { self.old.number < 2 ^ 62 }
+        ensures plays { OnOk result
+            (Plays self.old (line_input self.old.counted_core.numbers line.now) self.new) }
+        ensures same { OnErr result (self.new ≡ self.old) }
+    {
+        let input = line_input(
+            alloc,
+            self.counted_core.numbers,
+            line,
+            &mut self.scratch.content,
+        )?;
+        self.play(alloc, input)
+    }
+
+    /// Registers a new target of the kind as the next call. Err: memory; nothing has changed.
     pub fn register(
         &mut self,
         alloc: Global,
+        client: u8,
         kind: BuiltinKind,
         name: Text,
     ) -> Result<(), AllocError>
-        requires { self.old.number < 2 ^ 62 }
-        ensures registers { OnOk result (RegistersTarget self.old (kind_of kind) name self.new) }
-        ensures shows { OnOk result (Shows self.new) }
+        requires room { self.old.number < 2 ^ 62 }
+        requires client { client < 4 }
+        ensures number { OnOk result (self.new.number ≡ self.old.number + 1) }
+        ensures registers { OnOk result (Registers self.old.counted_core client (kind_of kind) name
+            self.new.counted_core self.new.call_result) }
         ensures same { OnErr result (self.new ≡ self.old) }
     {
-        self.spare.clear();
-        let call_result = self
-            .counted_core
-            .register(alloc, 0, kind, name, &mut self.spare)?;
+        let call_result = self.counted_core.register(alloc, client, kind, name)?;
         drop(mem::replace(&mut self.call_result, call_result));
         self.number += 1;
-        mem::swap(&mut self.text, &mut self.spare);
+        self.is_written = false;
         Ok(())
+    }
+
+    /// Copies the text of the last result to `out`. It is written when it is first asked for. MEMORY: nothing is lost,
+    /// and it may be asked for again.
+    pub fn copy_text(&mut self, alloc: Global, out: &mut [u8], size: &mut usize) -> u32
+        ensures whole { result ≡ ok
+            → FillsPart (Some (result_text self.old.call_result)) out.old out.new size.new }
+        ensures longer { result ≡ buffer_too_small
+            → IsLongerPart (Some (result_text self.old.call_result)) out.old size.new }
+        ensures kept { result ≢ ok → out.new ≡ out.old }
+        ensures size_stays { result ≢ ok → result ≢ buffer_too_small → size.new ≡ size.old }
+        ensures same { self.new ≡ self.old }
+        ensures codes { (result ≡ ok) ⊎ (result ≡ memory) ⊎ (result ≡ buffer_too_small) }
+    {
+        if !self.is_written {
+            self.text.clear();
+            if self.call_result.write_text(alloc, &mut self.text).is_err() {
+                return MEMORY;
+            }
+            self.is_written = true;
+        }
+        copy_to_buffer(&self.text, out, size)
     }
 }
 
@@ -140,16 +306,17 @@ impl Drop for HeldManager {
         let HeldManager {
             counted_core,
             number: _,
-            text: _,
-            spare: _,
             call_result,
+            scratch: _,
+            text: _,
+            is_written: _,
         } = self;
         drop(call_result);
         let CountedCore {
             core,
             changes: _,
             made: _,
-            taken: _,
+            numbers: _,
         } = counted_core;
         core.stop_all();
     }

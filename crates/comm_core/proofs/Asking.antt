@@ -11,7 +11,7 @@ use Rattle.comm_targets.specs.Meaning.{Meaning, IsAskable, has_id, is_widget, af
 use Rattle.comm_targets.specs.Answers.{Answers, Refuses}
 use Rattle.comm_targets.specs.Widget as widget
 use Rattle.comm_targets.specs.declared.kind.Kind.{Kind}
-use Rattle.comm_targets.specs.declared.kind.Kind.TheVariants.{Echo, Counter, Widget, WidgetEcho, Plain, Free}
+use Rattle.comm_targets.specs.declared.kind.Kind.TheVariants.{Echo, Counter, Widget, WidgetEcho, Plain, Opaque, Free}
 use Rattle.comm_targets.specs.declared.event.Event.{Event}
 use Rattle.comm_targets.specs.declared.event.Event.TheVariants as event
 use Rattle.comm_targets.specs.declared.answer.Answer.{Answer}
@@ -59,26 +59,26 @@ open_id id (e ∷ es) o h =
           ]
     ]) refl h
 
-module _ (boxes : Targets) (comms : Opens) (agrees : Agrees (unstaged boxes) comms) where
-  new_id : (t id : Name) (m : Meaning) → at boxes t ≡ Some m → at comms id ≡ None → has_id m.ids id ≡ false
-  new_id t id m is none = ap (λ l. has_id l id) (agrees.ids t (after_abandon m) (unstaged-at boxes t m is)) ∙ no_id t id comms none
+module _ (targets : Targets) (comms : Opens) (agrees : Agrees (unstaged targets) comms) where
+  new_id : (t id : Name) (m : Meaning) → at targets t ≡ Some m → at comms id ≡ None → has_id m.ids id ≡ false
+  new_id t id m is none = ap (λ l. has_id l id) (agrees.ids t (after_abandon m) (unstaged-at targets t m is)) ∙ no_id t id comms none
 
   -- a comm's target is there
-  pub comm_there : (id : Name) (o : Comm) → at comms id ≡ Some o → is_some (at boxes o.target) ≡ true
-  comm_there id o is = sym (unstaged-there boxes o.target) ∙ agrees.named id o is
+  pub comm_there : (id : Name) (o : Comm) → at comms id ≡ Some o → is_some (at targets o.target) ≡ true
+  comm_there id o is = sym (unstaged-there targets o.target) ∙ agrees.named id o is
 
   -- and has the comm's id
-  pub comm_open : (id : Name) (o : Comm) (m : Meaning) → at comms id ≡ Some o → at boxes o.target ≡ Some m → has_id m.ids id ≡ true
-  comm_open id o m is there = ap (λ l. has_id l id) (agrees.ids o.target (after_abandon m) (unstaged-at boxes o.target m there)) ∙ open_id id comms o is
+  pub comm_open : (id : Name) (o : Comm) (m : Meaning) → at comms id ≡ Some o → at targets o.target ≡ Some m → has_id m.ids id ≡ true
+  comm_open id o m is there = ap (λ l. has_id l id) (agrees.ids o.target (after_abandon m) (unstaged-at targets o.target m there)) ∙ open_id id comms o is
 
-  widget_there : (t : Name) (m : Meaning) → at boxes t ≡ Some m → holds_widget (at (targets_of boxes) t) ≡ true → is_widget m.kind ≡ true
-  widget_there t m is w = sym (ap holds_widget (target_at boxes t ∙ ap (option_map registered_of) is)) ∙ w
+  widget_there : (t : Name) (m : Meaning) → at targets t ≡ Some m → holds_widget (at (targets_of targets) t) ≡ true → is_widget m.kind ≡ true
+  widget_there t m is w = sym (ap holds_widget (target_at targets t ∙ ap (option_map registered_of) is)) ∙ w
 
-  pub askable : (t : Name) (e : Event) → SuitsComms comms t e → SuitsKind boxes t e → (m : Meaning) → at boxes t ≡ Some m → IsAskable m e
+  pub askable : (t : Name) (e : Event) → SuitsComms comms t e → SuitsKind targets t e → (m : Meaning) → at targets t ≡ Some m → IsAskable m e
   askable t (event.Open id version body) s k m is = new_id t id m is s
-  askable t (event.Msg id body) s k m is = comm_open id s.0 m s.1 (ap (at boxes) s.2 ∙ is)
+  askable t (event.Msg id body) s k m is = comm_open id s.0 m s.1 (ap (at targets) s.2 ∙ is)
   askable t (event.Launch id state) s k m is = (new_id t id m is s, widget_there t m is k)
-  askable t (event.Push id state) s k m is = (comm_open id s.0 m s.1 (ap (at boxes) s.2 ∙ is), widget_there t m is k)
+  askable t (event.Push id state) s k m is = (comm_open id s.0 m s.1 (ap (at targets) s.2 ∙ is), widget_there t m is k)
 
   never_refused : {P : Type 0} (k : Kind) (n : ℕ) (now : Option Members) (e : Event) (f : TargetFault) → is_widget k ≡ true
       → (a : Answer) → ((echoing : Bool) → widget.answer_of echoing (unwrap_or now no_members) e ≡ Ok a) → Refuses k n now e f → P
@@ -87,9 +87,10 @@ module _ (boxes : Targets) (comms : Opens) (agrees : Agrees (unstaged boxes) com
   never_refused Echo n now e f is a ok refuses = absurd (true≢false (sym is))
   never_refused Counter n now e f is a ok refuses = absurd (true≢false (sym is))
   never_refused Plain n now e f is a ok refuses = absurd (true≢false (sym is))
+  never_refused Opaque n now e f is a ok refuses = absurd (true≢false (sym is))
   never_refused Free n now e f is a ok refuses = absurd (true≢false (sym is))
 
-  pub can_refuse : (t : Name) (e : Event) → SuitsKind boxes t e → (m : Meaning) → at boxes t ≡ Some m → (now : Option Members) (f : TargetFault) → Refuses m.kind m.notes now e f → CanRefuse e
+  pub can_refuse : (t : Name) (e : Event) → SuitsKind targets t e → (m : Meaning) → at targets t ≡ Some m → (now : Option Members) (f : TargetFault) → Refuses m.kind m.notes now e f → CanRefuse e
   can_refuse t (event.Open id version body) k m is now f r = tt
   can_refuse t (event.Msg id body) k m is now f r = tt
   can_refuse t (event.Launch id state) k m is now f r = never_refused m.kind m.notes now (event.Launch id state) f (widget_there t m is k) _ (λ _. refl) r
@@ -132,7 +133,7 @@ module _ (b : Targets) (c : Opens) (q : TargetRequest) (can : CanAsk b c q) (non
 
 -- ---- what comes of a call
 
-pub nothing_staged : (plan : TableUpdate) (name : Name) → staged_by plan None name ≡ None
+pub nothing_staged : (table_update : TableUpdate) (name : Name) → staged_by table_update None name ≡ None
 nothing_staged Nothing name = refl
 nothing_staged (Register n kind notes) name = refl
 nothing_staged (Replace n kind notes) name = refl
@@ -141,22 +142,22 @@ nothing_staged (Close id) name = refl
 nothing_staged (Commit q) name = refl
 
 module _ (l : ℕ) (b : Targets) (c : Opens) (k : Call) where
-  pub came_done : (r : Reply) (out : List Outgoing) (plan : TableUpdate) → Done r out (planned (machine_of b c) plan None) ≡ judged l (machine_of b c) k → HaveStaged b (λ _. None)
-      → Suits (unstaged b) c None plan None → ended_by b plan ≡ ended_of b k → HasCome l b c k None r out plan b
-  came_done r out plan e none suits ended =
+  pub came_done : (r : Reply) (out : List Outgoing) (table_update : TableUpdate) → Done r out (planned (machine_of b c) table_update None) ≡ judged l (machine_of b c) k → HaveStaged b (λ _. None)
+      → Suits (unstaged b) c None table_update None → ended_by b table_update ≡ ended_of b k → HasCome l b c k None r out table_update b
+  came_done r out table_update e none suits ended =
       record {
         step_is = ap (λ v. stepped (machine_of b c) v None) (sym e);
         allowed = subst (λ v. Allowed (machine_of b c) (request_of v) None) e tt;
         staged = none;
-        stages = λ name m there. none name m there ∙ sym (nothing_staged plan name);
+        stages = λ name m there. none name m there ∙ sym (nothing_staged table_update name);
         unstaged_is = refl;
         suits = suits;
         ended = ended;
       }
 
-  pub came_asked : (q : TargetRequest) (o : Option Outcome) (r : Reply) (out : List Outgoing) (plan : TableUpdate) (after : Targets) → AskTarget q ≡ judged l (machine_of b c) k
-      → ((bs : Targets) → ended_of bs k ≡ None) → HasAnswered b c q o r out plan after → HasCome l b c k o r out plan after
-  came_asked q o r out plan after e nobody h =
+  pub came_asked : (q : TargetRequest) (o : Option Outcome) (r : Reply) (out : List Outgoing) (table_update : TableUpdate) (after : Targets) → AskTarget q ≡ judged l (machine_of b c) k
+      → ((bs : Targets) → ended_of bs k ≡ None) → HasAnswered b c q o r out table_update after → HasCome l b c k o r out table_update after
+  came_asked q o r out table_update after e nobody h =
       record {
         step_is = ap (λ v. stepped (machine_of b c) v o) (sym e) ∙ h.step_is;
         allowed = subst (λ v. Allowed (machine_of b c) (request_of v) o) e h.allowed;

@@ -1,10 +1,10 @@
--- The tables after a plan is carried out.
+-- The tables after an update of the table is carried out.
 use Rattle.std.proofs.Common.{◌≡◌, ℕ, true, false, cond, List, [], ◌∷◌, ◌++◌, Option, None, Some, option_map, refl, ap, sym, ◌∙◌, subst}
 use Rattle.std.specs.Str.{bytes_eq}
 use Rattle.comm_value.specs.Tree.{Members}
 use Rattle.comm_targets.specs.Meaning.{Meaning, IsIdle, after_abandon, after_commit, after_close, ids_after, notes_after}
 use Rattle.comm_targets.specs.declared.kind.Kind.{Kind}
-use Rattle.comm_targets.specs.declared.kind.Kind.TheVariants.{Echo, Counter, Widget, WidgetEcho, Plain, Free}
+use Rattle.comm_targets.specs.declared.kind.Kind.TheVariants.{Echo, Counter, Widget, WidgetEcho, Plain, Opaque, Free}
 use Rattle.comm_targets.specs.declared.staged_event.StagedEvent.{StagedEvent}
 use Rattle.comm_targets.specs.declared.event.Event.{Event}
 use Rattle.comm_targets.specs.declared.event.Event.TheVariants as event
@@ -149,6 +149,7 @@ open_notes Counter n id version body = refl
 open_notes Widget n id version body = refl
 open_notes WidgetEcho n id version body = refl
 open_notes Plain n id version body = refl
+open_notes Opaque n id version body = refl
 open_notes Free n id version body = refl
 
 pub launch_notes : (k : Kind) (n : ℕ) (id : Name) (state : Members) → notes_after k n (event.Launch id state) ≡ n
@@ -157,6 +158,7 @@ launch_notes Counter n id state = refl
 launch_notes Widget n id state = refl
 launch_notes WidgetEcho n id state = refl
 launch_notes Plain n id state = refl
+launch_notes Opaque n id state = refl
 launch_notes Free n id state = refl
 
 pub gone_carried : (b : Targets) (c : Opens) → Agrees (unstaged b) c → HaveStaged b (λ _. None) → (b2 : Targets) (c2 : Opens) (id : Name) → at c id ≡ None → b2 ≡ b → c2 ≡ without c id

@@ -55,7 +55,7 @@ module _ (b : Targets) (c : Opens) (h : Agrees (unstaged b) c) (q : TargetReques
       let r = told_carried b c h q.name q.event a staged here.0 here.1 b2 c2 eb id s.0 (ap (ids_after here.0.ids) e) s.1 s.2 (ec s.0 s.1 ∙ ap (λ t. stated c id t a.state) s.2) in
       subst Goal (sym e) (subst (λ k. Carried b2 c2 (with_answer (machine_of b c) id q.name k a)) e r)
 
--- ---- the plan of a register
+-- ---- the update of the table of a register
 
 none≢some : {X : Type 0} (x : X) {P : Type 0} → ◌≡◌ {A = Option X} None (Some x) → P
 none≢some x e = cc
@@ -63,56 +63,56 @@ none≢some x e = cc
 some_same : {X : Type 0} (x y : X) → Some x ≡ Some y → x ≡ y
 some_same x y e = cc
 
-module _ (b : Targets) (c : Opens) (h : Agrees (unstaged b) c) (plan : TableUpdate) (o : Option Outcome) (name : Name) (kind : Kind) (notes : ℕ) (is : plan ≡ Register name kind notes)
-    (staged : HaveStaged b (staged_by plan o)) where
+module _ (b : Targets) (c : Opens) (h : Agrees (unstaged b) c) (table_update : TableUpdate) (o : Option Outcome) (name : Name) (kind : Kind) (notes : ℕ) (is : table_update ≡ Register name kind notes)
+    (staged : HaveStaged b (staged_by table_update o)) where
   none : HaveStaged b (λ _. None)
   none n m there = staged n m there ∙ ap (λ p. staged_by p o n) is
 
-  pub register_made : (boxed : Option Meaning) (m : Meaning) → Suits (unstaged b) c boxed plan o → boxed ≡ Some m → (b2 : Targets) (c2 : Opens) → b2 ≡ b ++ (name, m) ∷ [] → c2 ≡ c
-      → Carried b2 c2 (planned (machine_of b c) plan o)
-  register_made boxed m suits there b2 c2 eb ec =
-      let s : Suits (unstaged b) c boxed (Register name kind notes) o = subst (λ p. Suits (unstaged b) c boxed p o) is suits in
+  pub register_made : (registered : Option Meaning) (m : Meaning) → Suits (unstaged b) c registered table_update o → registered ≡ Some m → (b2 : Targets) (c2 : Opens) → b2 ≡ b ++ (name, m) ∷ [] → c2 ≡ c
+      → Carried b2 c2 (planned (machine_of b c) table_update o)
+  register_made registered m suits there b2 c2 eb ec =
+      let s : Suits (unstaged b) c registered (Register name kind notes) o = subst (λ p. Suits (unstaged b) c registered p o) is suits in
       let same : s.0 ≡ m = some_same s.0 m (sym s.1.0 ∙ there) in
       let fresh : at b name ≡ None = none_of (at b name) (sym (unstaged-there b name) ∙ ap is_some s.1.1) in
       let made = registered_carried b c h none b2 c2 name m kind notes (ap (λ (k : Meaning). k.kind) (sym same) ∙ s.2) (ap (λ (k : Meaning). k.notes) (sym same) ∙ s.3) (subst IsIdle same s.1.2) s.1.1 fresh eb ec in
       subst (λ p. Carried b2 c2 (planned (machine_of b c) p o)) (sym is) made
 
   -- it hands a target in
-  pub register_hands : (boxed : Option Meaning) {P : Type 0} → Suits (unstaged b) c boxed plan o → boxed ≡ None → P
-  register_hands boxed suits nothing =
-      let s : Suits (unstaged b) c boxed (Register name kind notes) o = subst (λ p. Suits (unstaged b) c boxed p o) is suits in
+  pub register_hands : (registered : Option Meaning) {P : Type 0} → Suits (unstaged b) c registered table_update o → registered ≡ None → P
+  register_hands registered suits nothing =
+      let s : Suits (unstaged b) c registered (Register name kind notes) o = subst (λ p. Suits (unstaged b) c registered p o) is suits in
       none≢some s.0 (sym nothing ∙ s.1.0)
 
-  pub register_idle : (boxed : Option Meaning) (m : Meaning) → Suits (unstaged b) c boxed plan o → boxed ≡ Some m → IsIdle m
-  register_idle boxed m suits there =
-      let s : Suits (unstaged b) c boxed (Register name kind notes) o = subst (λ p. Suits (unstaged b) c boxed p o) is suits in
+  pub register_idle : (registered : Option Meaning) (m : Meaning) → Suits (unstaged b) c registered table_update o → registered ≡ Some m → IsIdle m
+  register_idle registered m suits there =
+      let s : Suits (unstaged b) c registered (Register name kind notes) o = subst (λ p. Suits (unstaged b) c registered p o) is suits in
       subst IsIdle (some_same s.0 m (sym s.1.0 ∙ there)) s.1.2
 
--- ---- the plan to replace a target
+-- ---- the update of the table to replace a target
 
-module _ (b : Targets) (c : Opens) (plan : TableUpdate) (o : Option Outcome) (name : Name) (kind : Kind) (notes : ℕ) (is : plan ≡ Replace name kind notes) where
-  pub replace_stages : HaveStaged b (staged_by plan o) → HaveStaged b (λ _. None)
+module _ (b : Targets) (c : Opens) (table_update : TableUpdate) (o : Option Outcome) (name : Name) (kind : Kind) (notes : ℕ) (is : table_update ≡ Replace name kind notes) where
+  pub replace_stages : HaveStaged b (staged_by table_update o) → HaveStaged b (λ _. None)
   replace_stages staged n m there = staged n m there ∙ ap (λ p. staged_by p o n) is
 
-  module _ (boxed : Option Meaning) (suits : Suits (unstaged b) c boxed plan o) where
-    abbrev successor : Suits (unstaged b) c boxed (Replace name kind notes) o
-    successor = subst (λ p. Suits (unstaged b) c boxed p o) is suits
+  module _ (registered : Option Meaning) (suits : Suits (unstaged b) c registered table_update o) where
+    abbrev successor : Suits (unstaged b) c registered (Replace name kind notes) o
+    successor = subst (λ p. Suits (unstaged b) c registered p o) is suits
 
     pub replace_here : IsSome (at b name)
     replace_here = some-is (at b name) (sym (unstaged-there b name) ∙ successor.1.1)
 
     -- it hands a target in
-    pub replace_hands : {P : Type 0} → boxed ≡ None → P
+    pub replace_hands : {P : Type 0} → registered ≡ None → P
     replace_hands nothing = none≢some successor.0 (sym nothing ∙ successor.1.0)
 
-    module _ (m : Meaning) (there : boxed ≡ Some m) where
+    module _ (m : Meaning) (there : registered ≡ Some m) where
       successor_is : successor.0 ≡ m
       successor_is = some_same successor.0 m (sym successor.1.0 ∙ there)
 
       pub replace_idle : IsIdle m
       replace_idle = subst IsIdle successor_is successor.1.2
 
-      pub replace_made : (b2 : Targets) (c2 : Opens) → Carried b2 c2 (with_another (machine_of b c) name m.kind m.notes) → Carried b2 c2 (planned (machine_of b c) plan o)
+      pub replace_made : (b2 : Targets) (c2 : Opens) → Carried b2 c2 (with_another (machine_of b c) name m.kind m.notes) → Carried b2 c2 (planned (machine_of b c) table_update o)
       replace_made b2 c2 made =
           let kinds : m.kind ≡ kind = ap (λ (k : Meaning). k.kind) (sym successor_is) ∙ successor.2 in
           let noted : m.notes ≡ notes = ap (λ (k : Meaning). k.notes) (sym successor_is) ∙ successor.3 in
@@ -120,17 +120,17 @@ module _ (b : Targets) (c : Opens) (plan : TableUpdate) (o : Option Outcome) (na
           subst (λ n. Carried b2 c2 (with_another (machine_of b c) name kind n)) noted (subst (λ k. Carried b2 c2 (with_another (machine_of b c) name k m.notes)) kinds made) in
           subst (λ p. Carried b2 c2 (planned (machine_of b c) p o)) (sym is) same
 
--- ---- a plan that makes what a target staged has its answer
+-- ---- an update of the table that makes what a target staged has its answer
 
-module _ (b : Targets) (c : Opens) (boxed : Option Meaning) (plan : TableUpdate) (o : Option Outcome) (q : TargetRequest) (is : plan ≡ Commit q) (suits : Suits (unstaged b) c boxed plan o) where
-  abbrev suits' : Suits (unstaged b) c boxed (Commit q) o
-  suits' = subst (λ p. Suits (unstaged b) c boxed p o) is suits
+module _ (b : Targets) (c : Opens) (registered : Option Meaning) (table_update : TableUpdate) (o : Option Outcome) (q : TargetRequest) (is : table_update ≡ Commit q) (suits : Suits (unstaged b) c registered table_update o) where
+  abbrev suits' : Suits (unstaged b) c registered (Commit q) o
+  suits' = subst (λ p. Suits (unstaged b) c registered p o) is suits
 
   pub commit_answers : (a : Answer) → o ≡ Some (Ok a) → Suits (unstaged b) c None (Commit q) (Some (Ok a))
-  commit_answers a e = let s : Suits (unstaged b) c boxed (Commit q) (Some (Ok a)) = subst (Suits (unstaged b) c boxed (Commit q)) e suits' in s
+  commit_answers a e = let s : Suits (unstaged b) c registered (Commit q) (Some (Ok a)) = subst (Suits (unstaged b) c registered (Commit q)) e suits' in s
 
   pub commit_fails : {P : Type 0} (f : TargetFault) → o ≡ Some (Err f) → P
-  commit_fails f e = absurd (subst (Suits (unstaged b) c boxed (Commit q)) e suits')
+  commit_fails f e = absurd (subst (Suits (unstaged b) c registered (Commit q)) e suits')
 
   pub commit_lacks : {P : Type 0} → o ≡ None → P
-  commit_lacks e = absurd (subst (Suits (unstaged b) c boxed (Commit q)) e suits')
+  commit_lacks e = absurd (subst (Suits (unstaged b) c registered (Commit q)) e suits')

@@ -6,7 +6,7 @@ use Rattle.comm_value.specs.Tree.{Members}
 use Rattle.comm_targets.specs.Answers.{Answers, Refuses, answer_of}
 use Rattle.comm_targets.specs.Meaning.{notes_after}
 use Rattle.comm_targets.specs.declared.kind.Kind.{Kind}
-use Rattle.comm_targets.specs.declared.kind.Kind.TheVariants.{Echo, Counter, Widget, WidgetEcho, Plain, Free}
+use Rattle.comm_targets.specs.declared.kind.Kind.TheVariants.{Echo, Counter, Widget, WidgetEcho, Plain, Opaque, Free}
 use Rattle.comm_targets.specs.declared.event.Event.{Event}
 use Rattle.comm_targets.specs.declared.event.Event.TheVariants as event
 use Rattle.comm_targets.specs.declared.answer.Answer.{Answer}
@@ -44,6 +44,7 @@ answers_one Counter n now e a h x = x
 answers_one Widget n now e a h x = x
 answers_one WidgetEcho n now e a h x = x
 answers_one Plain n now e a h x = x
+answers_one Opaque n now e a h x = x
 answers_one Free n now e a h x = absurd (true≢false (sym h))
 
 refuses_one : (k : Kind) (n : ℕ) (now : Option Members) (e : Event) (f : TargetFault) → not (is_free k) ≡ true → Refuses k n now e f → answer_of k n now e ≡ Err f
@@ -52,6 +53,7 @@ refuses_one Counter n now e f h x = x
 refuses_one Widget n now e f h x = x
 refuses_one WidgetEcho n now e f h x = x
 refuses_one Plain n now e f h x = x
+refuses_one Opaque n now e f h x = x
 refuses_one Free n now e f h x = absurd (true≢false (sym h))
 
 gives_one : (t : Option Registered) (q : TargetRequest) (g : Outcome) → ((r : Registered) → t ≡ Some r → not (is_free r.kind) ≡ true) → Gives t q g → Some g ≡ outcome_by t q

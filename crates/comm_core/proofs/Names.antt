@@ -1,4 +1,4 @@
--- The machine's targets are those of the boxes.
+-- The machine's targets are those of the targets.
 use Rattle.std.proofs.Common.{◌≡◌, Option, None, Some, is_some, option_map, refl, ap, ◌∙◌}
 use Rattle.std.specs.Str.{bytes_eq}
 use Rattle.comm_core.specs.Machine.{Name, at, has}
@@ -9,8 +9,8 @@ pub is_some-map : {X Y : Type 0} (f : X → Y) (o : Option X) → is_some (optio
 is_some-map f None = refl
 is_some-map f (Some x) = refl
 
-pub target_at : (boxes : Targets) (name : Name) → at (targets_of boxes) name ≡ option_map registered_of (at boxes name)
-target_at boxes name = lookup-map (λ k. k) registered_of (bytes_eq name) boxes
+pub target_at : (targets : Targets) (name : Name) → at (targets_of targets) name ≡ option_map registered_of (at targets name)
+target_at targets name = lookup-map (λ k. k) registered_of (bytes_eq name) targets
 
-pub has_target : (boxes : Targets) (name : Name) → has (targets_of boxes) name ≡ has boxes name
-has_target boxes name = ap is_some (target_at boxes name) ∙ is_some-map registered_of (at boxes name)
+pub has_target : (targets : Targets) (name : Name) → has (targets_of targets) name ≡ has targets name
+has_target targets name = ap is_some (target_at targets name) ∙ is_some-map registered_of (at targets name)

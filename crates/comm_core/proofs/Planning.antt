@@ -1,4 +1,4 @@
--- The row that a plan says is the one of the call.
+-- The row that an update of the table says is the one of the call.
 use Rattle.std.proofs.Common.{◌≡◌, ℕ, Bool, true, false, not, cond, [], Option, None, Some, Ok, Err, option_map, refl, ap, sym, ◌∙◌, subst}
 use Rattle.std.specs.Str.{bytes_eq}
 use Rattle.comm_value.specs.Tree.{Members}
@@ -12,7 +12,7 @@ use Rattle.comm_core.specs.Machine.{Name, Machine, at, has}
 use Rattle.comm_core.specs.Step.{Outcome, Verdict, Done, AskTarget, Allowed, Gives, asks, judged, request_of, of_comm, is_full, holds_widget, comm_id}
 use Rattle.comm_core.specs.Tables.{Targets, HaveStaged, registered_of, staged_as}
 use Rattle.comm_core.specs.Plans.{staged_by}
-use Rattle.comm_core.specs.Planned.{answered_row, done_row, planned_row}
+use Rattle.comm_core.specs.Planned.{answered_row, done_row, updated_row}
 use Rattle.comm_core.specs.Ready.{CoreValue, IsReady, Readied, machine}
 use Rattle.comm_core.specs.Row.{row_in, told_row}
 use Rattle.comm_core.specs.declared.comm.Comm.{Comm}
@@ -22,7 +22,7 @@ use Rattle.comm_core.specs.declared.call.Call.TheVariants.{Register, Open, Msg, 
 use Rattle.comm_core.specs.declared.reply.Reply.{Reply}
 use Rattle.comm_core.specs.declared.reply.Reply.TheVariants as reply
 use Rattle.comm_core.specs.declared.table_update.TableUpdate.{TableUpdate}
-use Rattle.comm_core.specs.declared.table_update.TableUpdate.TheVariants as plan
+use Rattle.comm_core.specs.declared.table_update.TableUpdate.TheVariants as table_update
 use Rattle.comm_core.proofs.Keys.{same_text, text_itself}
 use Rattle.comm_core.proofs.Entries.{lookup-map}
 use Rattle.comm_core.proofs.Gone.{none≢some}
@@ -55,21 +55,21 @@ refused m (Push id state) f r = quiet m id (at m.comms id) f
 refused m (Send id body) f r = refl
 refused m (HangUp id) f r = refl
 
-planned_silent : (p : TableUpdate) (call : Call) (r : Reply) → planned_row p None call r ≡ done_row call r
-planned_silent plan.Nothing call r = refl
-planned_silent (plan.Register name kind notes) call r = refl
-planned_silent (plan.Replace name kind notes) call r = refl
-planned_silent (plan.Unregister name) call r = refl
-planned_silent (plan.Close id) call r = refl
-planned_silent (plan.Commit q) call r = refl
+planned_silent : (p : TableUpdate) (call : Call) (r : Reply) → updated_row p None call r ≡ done_row call r
+planned_silent table_update.Nothing call r = refl
+planned_silent (table_update.Register name kind notes) call r = refl
+planned_silent (table_update.Replace name kind notes) call r = refl
+planned_silent (table_update.Unregister name) call r = refl
+planned_silent (table_update.Close id) call r = refl
+planned_silent (table_update.Commit q) call r = refl
 
-planned_refused : (p : TableUpdate) (f : TargetFault) (call : Call) (r : Reply) → planned_row p (Some (Err f)) call r ≡ done_row call r
-planned_refused plan.Nothing f call r = refl
-planned_refused (plan.Register name kind notes) f call r = refl
-planned_refused (plan.Replace name kind notes) f call r = refl
-planned_refused (plan.Unregister name) f call r = refl
-planned_refused (plan.Close id) f call r = refl
-planned_refused (plan.Commit q) f call r = refl
+planned_refused : (p : TableUpdate) (f : TargetFault) (call : Call) (r : Reply) → updated_row p (Some (Err f)) call r ≡ done_row call r
+planned_refused table_update.Nothing f call r = refl
+planned_refused (table_update.Register name kind notes) f call r = refl
+planned_refused (table_update.Replace name kind notes) f call r = refl
+planned_refused (table_update.Unregister name) f call r = refl
+planned_refused (table_update.Close id) f call r = refl
+planned_refused (table_update.Commit q) f call r = refl
 
 -- ---- where a target answered
 
@@ -127,25 +127,25 @@ module _ (m : Machine) (q : TargetRequest) (a : Answer) (r : Reply) where
   asked_row limit (Send id body) = asks_comm _ (at m.comms id) _ (λ x. refl)
   asked_row limit (HangUp id) = asks_comm _ (at m.comms id) _ (λ x. refl)
 
--- ---- what stands staged tells the plan
+-- ---- what stands staged tells the update of the table
 
 abbrev staged_event : Event → Answer → Option StagedEvent
 staged_event e a = Some (record { event = e; answer = a })
 
--- where an answer to this question stands staged, the plan is to commit it
-planned_asked : (boxes : Targets) (q : TargetRequest) (a : Answer) (p : TableUpdate) (call : Call) (r : Reply) (m : Meaning) → at boxes q.name ≡ Some m
-    → HaveStaged boxes (staged_as (Some (Ok a)) (Some q)) → HaveStaged boxes (staged_by p (Some (Ok a))) → planned_row p (Some (Ok a)) call r ≡ answered_row q.name q.event a
-planned_asked boxes q a p call r m there asked by =
+-- where an answer to this question stands staged, the update of the table is to commit it
+planned_asked : (targets : Targets) (q : TargetRequest) (a : Answer) (p : TableUpdate) (call : Call) (r : Reply) (m : Meaning) → at targets q.name ≡ Some m
+    → HaveStaged targets (staged_as (Some (Ok a)) (Some q)) → HaveStaged targets (staged_by p (Some (Ok a))) → updated_row p (Some (Ok a)) call r ≡ answered_row q.name q.event a
+planned_asked targets q a p call r m there asked by =
     let staged : m.staged ≡ staged_event q.event a = asked q.name m there ∙ ap (λ b. cond b (staged_event q.event a) None) (text_itself q.name) in
     planned_by p (sym (by q.name m there) ∙ staged)
   where
-    planned_by : (p : TableUpdate) → staged_by p (Some (Ok a)) q.name ≡ staged_event q.event a → planned_row p (Some (Ok a)) call r ≡ answered_row q.name q.event a
-    planned_by plan.Nothing e = absurd (none≢some _ e)
-    planned_by (plan.Register name kind notes) e = absurd (none≢some _ e)
-    planned_by (plan.Replace name kind notes) e = absurd (none≢some _ e)
-    planned_by (plan.Unregister name) e = absurd (none≢some _ e)
-    planned_by (plan.Close id) e = absurd (none≢some _ e)
-    planned_by (plan.Commit g) e =
+    planned_by : (p : TableUpdate) → staged_by p (Some (Ok a)) q.name ≡ staged_event q.event a → updated_row p (Some (Ok a)) call r ≡ answered_row q.name q.event a
+    planned_by table_update.Nothing e = absurd (none≢some _ e)
+    planned_by (table_update.Register name kind notes) e = absurd (none≢some _ e)
+    planned_by (table_update.Replace name kind notes) e = absurd (none≢some _ e)
+    planned_by (table_update.Unregister name) e = absurd (none≢some _ e)
+    planned_by (table_update.Close id) e = absurd (none≢some _ e)
+    planned_by (table_update.Commit g) e =
         (elim (bytes_eq q.name g.name) as (λ b. bytes_eq q.name g.name ≡ b → cond b (staged_event g.event a) None ≡ staged_event q.event a → answered_row g.name g.event a ≡ answered_row q.name q.event a) [
           | true ↦ λ is l.
               let whole : ◌≡◌ {A = StagedEvent} (record { event = g.event; answer = a }) (record { event = q.event; answer = a }) = cc in
@@ -156,16 +156,16 @@ planned_asked boxes q a p call r m there asked by =
 
 -- with the question or without
 planned_so : (s : CoreValue) (p : TableUpdate) (call : Call) (r : Reply) (asked : Option TargetRequest) (o : Option Outcome) → asks s.limit (machine s) call ≡ asked → Allowed (machine s) asked o
-    → HaveStaged s.boxes (staged_as o asked) → HaveStaged s.boxes (staged_by p o) → planned_row p o call r ≡ row_in (machine s) call o r
+    → HaveStaged s.targets (staged_as o asked) → HaveStaged s.targets (staged_by p o) → updated_row p o call r ≡ row_in (machine s) call o r
 planned_so s p call r None None e allowed staged by = planned_silent p call r ∙ sym (silent (machine s) call r)
 planned_so s p call r None (Some o) e allowed staged by = absurd allowed
 planned_so s p call r (Some q) None e allowed staged by = absurd allowed
 planned_so s p call r (Some q) (Some (Err f)) e allowed staged by = planned_refused p f call r ∙ sym (refused (machine s) call f r ∙ silent (machine s) call r)
 planned_so s p call r (Some q) (Some (Ok a)) e allowed staged by =
-    (elim (at s.boxes q.name) as (λ o. at s.boxes q.name ≡ o → planned_row p (Some (Ok a)) call r ≡ row_in (machine s) call (Some (Ok a)) r) [
-      | None ↦ λ none. absurd (subst (λ g. Gives g q (Ok a)) (lookup-map (λ k. k) registered_of (bytes_eq q.name) s.boxes ∙ ap (option_map registered_of) none) allowed)
-      | Some m ↦ λ there. planned_asked s.boxes q a p call r m there staged by ∙ asked_row (machine s) q a r s.limit call e
+    (elim (at s.targets q.name) as (λ o. at s.targets q.name ≡ o → updated_row p (Some (Ok a)) call r ≡ row_in (machine s) call (Some (Ok a)) r) [
+      | None ↦ λ none. absurd (subst (λ g. Gives g q (Ok a)) (lookup-map (λ k. k) registered_of (bytes_eq q.name) s.targets ∙ ap (option_map registered_of) none) allowed)
+      | Some m ↦ λ there. planned_asked s.targets q a p call r m there staged by ∙ asked_row (machine s) q a r s.limit call e
     ]) refl
 
-pub planned_is : (s : CoreValue) (r : Readied) → IsReady s r → planned_row r.plan r.outcome r.call r.reply ≡ row_in (machine s) r.call r.outcome r.reply
-planned_is s r h = planned_so s r.plan r.call r.reply (asks s.limit (machine s) r.call) r.outcome refl h.allowed h.staged h.stages
+pub planned_is : (s : CoreValue) (r : Readied) → IsReady s r → updated_row r.table_update r.outcome r.call r.reply ≡ row_in (machine s) r.call r.outcome r.reply
+planned_is s r h = planned_so s r.table_update r.call r.reply (asks s.limit (machine s) r.call) r.outcome refl h.allowed h.staged h.stages

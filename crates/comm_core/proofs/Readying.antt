@@ -46,15 +46,15 @@ sound_unstaged b b2 r c s h e = sound_after b2 r c s (rw (e, unstaged-twice b) h
 -- ---- what stands ready
 
 -- a call that hands no target in
-pub call_ready : (l : ℕ) (b b' : Targets) (c : Opens) (k : Call) (o : Option Outcome) (r : Reply) (out : List Outgoing) (plan : TableUpdate)
-    → HasCome l b c k o r out plan b' → IsReady (state l b' c false) (readied k o r out plan None)
-call_ready l b b' c k o r out plan h =
+pub call_ready : (l : ℕ) (b b' : Targets) (c : Opens) (k : Call) (o : Option Outcome) (r : Reply) (out : List Outgoing) (table_update : TableUpdate)
+    → HasCome l b c k o r out table_update b' → IsReady (state l b' c false) (readied k o r out table_update None)
+call_ready l b b' c k o r out table_update h =
     let same : machine_of b c ≡ machine_of b' c = sym (machine-unstaged b b' c h.unstaged_is) in
     record {
       prepared = refl;
       allowed = subst (λ (m : Machine). Allowed m (asks l m k) o) same h.allowed;
       staged = subst (λ (m : Machine). AnswerIsStaged b' (asks l m k) o) same h.staged;
-      step_is = subst (λ (m : Machine). step l m k o ≡ Some (record { reply = r; outgoing = out; next = planned m plan o })) same h.step_is;
+      step_is = subst (λ (m : Machine). step l m k o ≡ Some (record { reply = r; outgoing = out; next = planned m table_update o })) same h.step_is;
       stages = h.stages;
       suits = h.suits;
       ended = h.ended;
@@ -68,9 +68,9 @@ undone_is S l b b1 b' r c c' s z es settled h e1 ec eb =
     ap (λ x. state l x c' true) b3 ∙ ap (λ x. state l b x true) ec ∙ ap (λ x. state l b c x) (sym t) ∙ es
 
 -- what stands ready, by its parts
-pub ready_of : (S : CoreValue) (D : Readied) (l : ℕ) (b : Targets) (c : Opens) (z : Bool) (k : Call) (o : Option Outcome) (r : Reply) (out : List Outgoing) (plan : TableUpdate) (m : Option Meaning)
-    → state l b c z ≡ S → readied k o r out plan m ≡ D → IsReady S D → IsReady (state l b c false) (readied k o r out plan m)
-ready_of S D l b c z k o r out plan m es ed R =
+pub ready_of : (S : CoreValue) (D : Readied) (l : ℕ) (b : Targets) (c : Opens) (z : Bool) (k : Call) (o : Option Outcome) (r : Reply) (out : List Outgoing) (table_update : TableUpdate) (m : Option Meaning)
+    → state l b c z ≡ S → readied k o r out table_update m ≡ D → IsReady S D → IsReady (state l b c false) (readied k o r out table_update m)
+ready_of S D l b c z k o r out table_update m es ed R =
     let e : z ≡ false = ap (λ (x : CoreValue). x.settled) es ∙ R.prepared in
     let s1 : state l b c false ≡ S = ap (λ x. state l b c x) (sym e) ∙ es in
     subst (λ x. IsReady (state l b c false) x) (sym ed) (subst (λ x. IsReady x D) (sym s1) R)
@@ -90,7 +90,7 @@ module _ (S : CoreValue) (l : ℕ) (b : Targets) (c : Opens) (D : Readied) (R : 
 
   pub ready_step : (s : Stepped) × (step S.limit (machine S) D.call D.outcome ≡ Some s) × (D.reply ≡ s.reply) × (D.outgoing ≡ s.outgoing)
   ready_step =
-      let s : Stepped = record { reply = D.reply; outgoing = D.outgoing; next = planned (machine_of b c) D.plan D.outcome } in
+      let s : Stepped = record { reply = D.reply; outgoing = D.outgoing; next = planned (machine_of b c) D.table_update D.outcome } in
       (s, subst (λ m. step S.limit m D.call D.outcome ≡ Some s) same (subst (λ n. step n (machine_of b c) D.call D.outcome ≡ Some s) limit R.step_is), refl, refl)
 
 -- ---- a register
@@ -104,30 +104,30 @@ module _ (l : ℕ) (b : Targets) (c : Opens) (name : Name) (k : Kind) (n : ℕ) 
   ends true e = refl
   ends false e = sym (nobody_ends b name e)
 
-  pub register_ready : (r : Reply) (out : List Outgoing) (plan : TableUpdate) → ((limit : ℕ) → Done r out (planned (machine_of b c) plan None) ≡ judged limit (machine_of b c) (call.Register name k n))
-      → plan ≡ registering b name k n → IsReady (state l b c false) (readied (call.Register name k n) None r out plan (Some m))
-  register_ready r out plan e ep =
+  pub register_ready : (r : Reply) (out : List Outgoing) (table_update : TableUpdate) → ((limit : ℕ) → Done r out (planned (machine_of b c) table_update None) ≡ judged limit (machine_of b c) (call.Register name k n))
+      → table_update ≡ registering b name k n → IsReady (state l b c false) (readied (call.Register name k n) None r out table_update (Some m))
+  register_ready r out table_update e ep =
       record {
         prepared = refl;
         allowed = subst (λ v. Allowed (machine_of b c) (request_of v) None) (e l) tt;
         staged = none;
         step_is = ap (λ v. stepped (machine_of b c) v None) (sym (e l));
-        stages = λ name m there. none name m there ∙ sym (nothing_staged plan name);
+        stages = λ name m there. none name m there ∙ sym (nothing_staged table_update name);
         suits = subst (λ p. Suits (unstaged b) c (Some m) p None) (sym ep) (suited (has (targets_of b) name) refl);
         ended = ap (ended_by b) ep ∙ ends (has (targets_of b) name) refl;
       }
 
 -- ---- what `finish` says
 
-module _ (S : CoreValue) (D : Readied) (l : ℕ) (b : Targets) (c : Opens) (z : Bool) (k : Call) (o : Option Outcome) (r : Reply) (out : List Outgoing) (plan : TableUpdate) (m : Option Meaning)
-    (es : state l b c z ≡ S) (ed : readied k o r out plan m ≡ D) (R : IsReady S D) where
-  parts : IsReady (state l b c false) (readied k o r out plan m)
-  parts = ready_of S D l b c z k o r out plan m es ed R
+module _ (S : CoreValue) (D : Readied) (l : ℕ) (b : Targets) (c : Opens) (z : Bool) (k : Call) (o : Option Outcome) (r : Reply) (out : List Outgoing) (table_update : TableUpdate) (m : Option Meaning)
+    (es : state l b c z ≡ S) (ed : readied k o r out table_update m ≡ D) (R : IsReady S D) where
+  parts : IsReady (state l b c false) (readied k o r out table_update m)
+  parts = ready_of S D l b c z k o r out table_update m es ed R
 
   whole_state : state l b c false ≡ S
   whole_state = ap (λ x. state l b c x) (sym (ap (λ (x : CoreValue). x.settled) es ∙ R.prepared)) ∙ es
 
-  pub finished_step : (b2 : Targets) (c2 : Opens) → Carried b2 c2 (planned (machine_of b c) plan o)
+  pub finished_step : (b2 : Targets) (c2 : Opens) → Carried b2 c2 (planned (machine_of b c) table_update o)
       → step S.limit (machine S) D.call D.outcome ≡ Some (record { reply = r; outgoing = out; next = machine_of b2 c2 })
   finished_step b2 c2 carried =
       let one : step l (machine_of b c) k o ≡ Some (record { reply = r; outgoing = out; next = machine_of b2 c2 }) =
@@ -135,11 +135,11 @@ module _ (S : CoreValue) (D : Readied) (l : ℕ) (b : Targets) (c : Opens) (z : 
       subst (λ (x : Readied). step S.limit (machine S) x.call x.outcome ≡ Some (record { reply = r; outgoing = out; next = machine_of b2 c2 })) ed
       (subst (λ (x : CoreValue). step x.limit (machine x) k o ≡ Some (record { reply = r; outgoing = out; next = machine_of b2 c2 })) whole_state one)
 
-  pub finished_ended : (ended : Option Meaning) → ended ≡ ended_by b plan → ended ≡ ended_of S.boxes D.call
-  finished_ended ended e = e ∙ parts.ended ∙ ap (λ (x : CoreValue). ended_of x.boxes k) whole_state ∙ ap (λ (x : Readied). ended_of S.boxes x.call) ed
+  pub finished_ended : (ended : Option Meaning) → ended ≡ ended_by b table_update → ended ≡ ended_of S.targets D.call
+  finished_ended ended e = e ∙ parts.ended ∙ ap (λ (x : CoreValue). ended_of x.targets k) whole_state ∙ ap (λ (x : Readied). ended_of S.targets x.call) ed
 
-  pub staged_now : HaveStaged b (staged_by plan o)
+  pub staged_now : HaveStaged b (staged_by table_update o)
   staged_now = parts.stages
 
-  pub suits_now : Suits (unstaged b) c m plan o
+  pub suits_now : Suits (unstaged b) c m table_update o
   suits_now = parts.suits

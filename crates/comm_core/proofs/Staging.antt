@@ -7,7 +7,7 @@ use Rattle.comm_targets.specs.declared.answer.Answer.{Answer}
 use Rattle.comm_targets.specs.declared.fault.TargetFault.{TargetFault}
 use Rattle.comm_targets.specs.declared.fault.TargetFault.TheVariants.{Memory}
 use Rattle.comm_core.specs.Machine.{Name, Registered, at, with_at, AreDistinct}
-use Rattle.comm_core.specs.Tables.{Targets, Opens, registered_of, targets_of, machine_of, Agrees, BoxesMean, HaveStaged, unstaged}
+use Rattle.comm_core.specs.Tables.{Targets, Opens, registered_of, targets_of, machine_of, Agrees, TargetsMean, HaveStaged, unstaged}
 use Rattle.comm_core.specs.Machine.{Machine}
 use Rattle.comm_core.specs.Plans.{is_memory}
 use Rattle.comm_core.proofs.Entries.{lookup-map, none-from_map, set-map}
@@ -27,15 +27,15 @@ pub not_memory : (f : TargetFault) {P : Type 0} → is_memory f ≡ false → (f
 not_memory f h (inr p) = p
 not_memory f h (inl e) = absurd (true≢false (sym (ap is_memory e) ∙ h))
 
--- ---- the boxes without what is staged
+-- ---- the targets without what is staged
 
-pub unstaged-at : (boxes : Targets) (t : Name) (m : Meaning) → at boxes t ≡ Some m → at (unstaged boxes) t ≡ Some (after_abandon m)
-unstaged-at boxes t m is = lookup-map (λ k. k) after_abandon (bytes_eq t) boxes ∙ ap (option_map after_abandon) is
+pub unstaged-at : (targets : Targets) (t : Name) (m : Meaning) → at targets t ≡ Some m → at (unstaged targets) t ≡ Some (after_abandon m)
+unstaged-at targets t m is = lookup-map (λ k. k) after_abandon (bytes_eq t) targets ∙ ap (option_map after_abandon) is
 
-pub unstaged-there : (boxes : Targets) (t : Name) → is_some (at (unstaged boxes) t) ≡ is_some (at boxes t)
-unstaged-there boxes t = ap is_some (lookup-map (λ k. k) after_abandon (bytes_eq t) boxes) ∙ is_some-map after_abandon (at boxes t)
+pub unstaged-there : (targets : Targets) (t : Name) → is_some (at (unstaged targets) t) ≡ is_some (at targets t)
+unstaged-there targets t = ap is_some (lookup-map (λ k. k) after_abandon (bytes_eq t) targets) ∙ is_some-map after_abandon (at targets t)
 
-targets-unstaged : (boxes : Targets) → targets_of (unstaged boxes) ≡ targets_of boxes
+targets-unstaged : (targets : Targets) → targets_of (unstaged targets) ≡ targets_of targets
 targets-unstaged [] = refl
 targets-unstaged (e ∷ es) = ap (λ l. (e.0, registered_of e.1) ∷ l) (targets-unstaged es)
 
@@ -64,8 +64,8 @@ unstaged-same (e ∷ es) d h =
     ]) refl) in
     ap (λ m. (e.0, m) ∷ es) same ∙ ap (λ l. (e.0, after_abandon e.1) ∷ l) rest
 
-pub boxes_mean : (b : Targets) (c : Opens) → Agrees (unstaged b) c → HaveStaged b (λ _. None) → BoxesMean b c
-boxes_mean b c h none = record { agrees = subst (λ l. Agrees l c) (sym (unstaged-same b (distinct-unstaged b h.names) none)) h; nothing_staged = none }
+pub targets_mean : (b : Targets) (c : Opens) → Agrees (unstaged b) c → HaveStaged b (λ _. None) → TargetsMean b c
+targets_mean b c h none = record { agrees = subst (λ l. Agrees l c) (sym (unstaged-same b (distinct-unstaged b h.names) none)) h; nothing_staged = none }
 
 pub unstaged-twice : (b : Targets) → unstaged (unstaged b) ≡ unstaged b
 unstaged-twice [] = refl
@@ -82,36 +82,36 @@ all_unstaged (y ∷ ys) name m there =
 
 -- ---- a target that is asked
 
-pub unstaged-staged : (boxes : Targets) (t : Name) (m : Meaning) (e : Event) (a : Answer) → at boxes t ≡ Some m → unstaged (with_at boxes t (after_prepare m e a)) ≡ unstaged boxes
-unstaged-staged boxes t m e a is =
-    sym (set-map (λ k. k) after_abandon (bytes_eq t) boxes (after_prepare m e a)) ∙ set-map (λ k. k) after_abandon (bytes_eq t) boxes m ∙ ap unstaged (with_at-same t boxes m is)
+pub unstaged-staged : (targets : Targets) (t : Name) (m : Meaning) (e : Event) (a : Answer) → at targets t ≡ Some m → unstaged (with_at targets t (after_prepare m e a)) ≡ unstaged targets
+unstaged-staged targets t m e a is =
+    sym (set-map (λ k. k) after_abandon (bytes_eq t) targets (after_prepare m e a)) ∙ set-map (λ k. k) after_abandon (bytes_eq t) targets m ∙ ap unstaged (with_at-same t targets m is)
 
-back-staged : (boxes : Targets) (t : Name) (m : Meaning) (e : Event) (a : Answer) → at boxes t ≡ Some m → m.staged ≡ None
-    → with_at (with_at boxes t (after_prepare m e a)) t (after_abandon (after_prepare m e a)) ≡ boxes
-back-staged boxes t m e a is none =
-    with_at-twice t boxes (after_prepare m e a) (after_abandon m) ∙ ap (with_at boxes t) (let s : after_abandon m ≡ m = ap (λ s. record { kind = m.kind; notes = m.notes; ids = m.ids; staged = s }) (sym none) in s) ∙ with_at-same t boxes m is
+back-staged : (targets : Targets) (t : Name) (m : Meaning) (e : Event) (a : Answer) → at targets t ≡ Some m → m.staged ≡ None
+    → with_at (with_at targets t (after_prepare m e a)) t (after_abandon (after_prepare m e a)) ≡ targets
+back-staged targets t m e a is none =
+    with_at-twice t targets (after_prepare m e a) (after_abandon m) ∙ ap (with_at targets t) (let s : after_abandon m ≡ m = ap (λ s. record { kind = m.kind; notes = m.notes; ids = m.ids; staged = s }) (sym none) in s) ∙ with_at-same t targets m is
 
-pub one-staged : (boxes : Targets) (t : Name) (m : Meaning) (e : Event) (a : Answer) → at boxes t ≡ Some m → HaveStaged boxes (λ _. None)
-    → HaveStaged (with_at boxes t (after_prepare m e a)) (λ name. cond (bytes_eq name t) (Some (record { event = e; answer = a })) None)
-one-staged boxes t m e a is none name n there =
+pub one-staged : (targets : Targets) (t : Name) (m : Meaning) (e : Event) (a : Answer) → at targets t ≡ Some m → HaveStaged targets (λ _. None)
+    → HaveStaged (with_at targets t (after_prepare m e a)) (λ name. cond (bytes_eq name t) (Some (record { event = e; answer = a })) None)
+one-staged targets t m e a is none name n there =
     (elim (bytes_eq name t) as (λ b. bytes_eq name t ≡ b → n.staged ≡ cond b (Some (record { event = e; answer = a })) None) [
       | true ↦ λ p.
-          let s : at (with_at boxes t (after_prepare m e a)) t ≡ Some n = subst (λ k. at (with_at boxes t (after_prepare m e a)) k ≡ Some n) (same_text name t p) there in
-          let q = at-with_at t boxes m (after_prepare m e a) is in
+          let s : at (with_at targets t (after_prepare m e a)) t ≡ Some n = subst (λ k. at (with_at targets t (after_prepare m e a)) k ≡ Some n) (same_text name t p) there in
+          let q = at-with_at t targets m (after_prepare m e a) is in
           let r : after_prepare m e a ≡ n = cc in ap (λ (k : Meaning). k.staged) (sym r)
-      | false ↦ λ p. none name n (sym (at-with_at-other t boxes (after_prepare m e a) name p) ∙ there)
+      | false ↦ λ p. none name n (sym (at-with_at-other t targets (after_prepare m e a) name p) ∙ there)
     ]) refl
 
-module _ (boxes after : Targets) (t : Name) (m : Meaning) (e : Event) (a : Answer) (is : at boxes t ≡ Some m) (is_after : after ≡ with_at boxes t (after_prepare m e a)) where
+module _ (targets after : Targets) (t : Name) (m : Meaning) (e : Event) (a : Answer) (is : at targets t ≡ Some m) (is_after : after ≡ with_at targets t (after_prepare m e a)) where
   staged-now : at after t ≡ Some (after_prepare m e a)
-  staged-now = ap (λ l. at l t) is_after ∙ at-with_at t boxes m (after_prepare m e a) is
+  staged-now = ap (λ l. at l t) is_after ∙ at-with_at t targets m (after_prepare m e a) is
 
   pub is_staged : (n : Meaning) → at after t ≡ Some n → IsSome n.staged
   is_staged n there = let q = staged-now in let r : after_prepare m e a ≡ n = cc in subst (λ (k : Meaning). IsSome k.staged) r refl
 
-  pub taken_back : (last : Targets) → m.staged ≡ None → ((n : Meaning) → at after t ≡ Some n → last ≡ with_at after t (after_abandon n)) → last ≡ boxes
+  pub taken_back : (last : Targets) → m.staged ≡ None → ((n : Meaning) → at after t ≡ Some n → last ≡ with_at after t (after_abandon n)) → last ≡ targets
   taken_back last none back =
-      back (after_prepare m e a) staged-now ∙ ap (λ l. with_at l t (after_abandon (after_prepare m e a))) is_after ∙ back-staged boxes t m e a is none
+      back (after_prepare m e a) staged-now ∙ ap (λ l. with_at l t (after_abandon (after_prepare m e a))) is_after ∙ back-staged targets t m e a is none
 
 -- one stage is dropped, and the others had none
 pub abandoned : (b : Targets) (t : Name) (m : Meaning) → AreDistinct (unstaged b) → at b t ≡ Some m → ((name : Name) (n : Meaning) → bytes_eq name t ≡ false → at b name ≡ Some n → n.staged ≡ None)

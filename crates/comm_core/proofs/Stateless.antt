@@ -5,7 +5,7 @@ use Rattle.std.specs.List.{list_any}
 use Rattle.comm_value.specs.Tree.{Members}
 use Rattle.comm_targets.specs.Answers.{Answers, echo_of, count_answer, plain_of}
 use Rattle.comm_targets.specs.declared.kind.Kind.{Kind}
-use Rattle.comm_targets.specs.declared.kind.Kind.TheVariants.{Echo, Counter, Widget, WidgetEcho, Plain, Free}
+use Rattle.comm_targets.specs.declared.kind.Kind.TheVariants.{Echo, Counter, Widget, WidgetEcho, Plain, Opaque, Free}
 use Rattle.comm_targets.specs.declared.event.Event.{Event}
 use Rattle.comm_targets.specs.declared.event.Event.TheVariants as event
 use Rattle.comm_targets.specs.declared.answer.Answer.{Answer}
@@ -49,6 +49,7 @@ no_state Counter notes now e a h w = state_is (count_answer notes e) a w ∙ cou
 no_state Widget notes now e a h w = absurd (true≢false (sym h))
 no_state WidgetEcho notes now e a h w = absurd (true≢false (sym h))
 no_state Plain notes now e a h w = state_is (plain_of e) a w ∙ plain_state e
+no_state Opaque notes now e a h w = state_is (plain_of e) a w ∙ plain_state e
 no_state Free notes now e a h w = absurd (true≢false (sym h))
 
 -- the target of this name is asked, of a comm with this state

@@ -3,7 +3,7 @@ use Rattle.std.proofs.Common.{◌≡◌, ◌<◌, ℕ, true, false, List, [], �
 use Rattle.std.specs.Str.{bytes_eq}
 use Rattle.comm_targets.specs.Meaning.{Meaning}
 use Rattle.comm_core.specs.Machine.{at, ids_of, AreDistinct}
-use Rattle.comm_core.specs.Tables.{Targets, Opens, BoxesMean, HaveStaged}
+use Rattle.comm_core.specs.Tables.{Targets, Opens, TargetsMean, HaveStaged}
 use Rattle.comm_core.proofs.Keys.{same_text, text_itself}
 
 -- each target has the ids of its comms, and nothing staged
@@ -22,7 +22,7 @@ each (e ∷ es) c d ids none =
     ]) refl in
     (ids e.0 e.1 one, none e.0 e.1 one, each es c d.1 (λ name m there. ids name m (later name m there)) (λ name m there. none name m (later name m there)))
 
-pub all_agree : (b : Targets) (c : Opens) → BoxesMean b c → AllAgree b c
+pub all_agree : (b : Targets) (c : Opens) → TargetsMean b c → AllAgree b c
 all_agree b c h = each b c h.agrees.names h.agrees.ids h.nothing_staged
 
 pub all_but : (b : Targets) (n : List ℕ) (m : Meaning) (c : Opens) → AllAgree (b ++ (n, m) ∷ []) c → AllAgree b c × (m.ids ≡ ids_of n c) × (m.staged ≡ None)

@@ -12,7 +12,7 @@ use Rattle.comm_targets.specs.Widget.{state_of, message_answer, method_answer, u
 use Rattle.comm_targets.specs.Answers.{Answers}
 use Rattle.comm_targets.specs.Meaning.{is_widget}
 use Rattle.comm_targets.specs.declared.kind.Kind.{Kind}
-use Rattle.comm_targets.specs.declared.kind.Kind.TheVariants.{Echo, Counter, Widget, WidgetEcho, Plain, Free}
+use Rattle.comm_targets.specs.declared.kind.Kind.TheVariants.{Echo, Counter, Widget, WidgetEcho, Plain, Opaque, Free}
 use Rattle.comm_targets.specs.declared.event.Event.{Event}
 use Rattle.comm_targets.specs.declared.event.Event.TheVariants as event
 use Rattle.comm_targets.specs.declared.answer.Answer.{Answer}
@@ -121,6 +121,7 @@ tells WidgetEcho notes now e a h w = (true, w)
 tells Echo notes now e a h w = absurd (true≢false (sym h))
 tells Counter notes now e a h w = absurd (true≢false (sym h))
 tells Plain notes now e a h w = absurd (true≢false (sym h))
+tells Opaque notes now e a h w = absurd (true≢false (sym h))
 tells Free notes now e a h w = absurd (true≢false (sym h))
 
 pub same_comm : (x y : Comm) → Some x ≡ Some y → x ≡ y

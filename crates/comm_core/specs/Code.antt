@@ -15,8 +15,8 @@ table_code {X} x =
 abbrev pub open_code : Coded (List ℕ × Comm)
 open_code = coded× (coded_list coded_ℕ) comm.the_row.coded
 
-abbrev pub boxes_code : Coded (Table Meaning)
-boxes_code = table_code meaning_code
+abbrev pub targets_code : Coded (Table Meaning)
+targets_code = table_code meaning_code
 
 abbrev pub comms_code : Coded (Table Comm)
 comms_code = table_code comm.the_row.coded

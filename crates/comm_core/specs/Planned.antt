@@ -1,4 +1,4 @@
--- The row of a change that stands ready, by its plan; for private clauses.
+-- The row of a change that stands ready, by its update of the table; for private clauses.
 use Rattle.std.specs.Prelude.{Option, Some, Ok}
 use Rattle.comm_targets.specs.declared.event.Event.{Event}
 use Rattle.comm_targets.specs.declared.event.Event.TheVariants as event
@@ -29,6 +29,6 @@ done_row (Unregister name) r = ended_row r
 done_row (Register name kind notes) r = ended_row r
 done_row call r = Same
 
-abbrev pub planned_row : TableUpdate → Option Outcome → Call → Reply → Row
-planned_row (Commit q) (Some (Ok a)) call r = answered_row q.name q.event a
-planned_row plan o call r = done_row call r
+abbrev pub updated_row : TableUpdate → Option Outcome → Call → Reply → Row
+updated_row (Commit q) (Some (Ok a)) call r = answered_row q.name q.event a
+updated_row table_update o call r = done_row call r

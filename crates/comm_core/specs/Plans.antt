@@ -1,4 +1,4 @@
--- How a call is planned, and how the plan is carried out; for proofs and private clauses.
+-- How a call is planned, and how the update of the table is carried out; for proofs and private clauses.
 use Rattle.std.specs.Prelude.{◌≡◌, ◌<◌, ℕ, Bool, true, false, List, Option, None, Some, Ok, is_some}
 use Rattle.std.specs.Prelude.{option_map, if◌then◌else◌}
 use Rattle.std.specs.Str.{bytes_eq}
@@ -30,34 +30,34 @@ use Rattle.comm_core.specs.declared.decision.Decision.TheVariants as decision
 
 -- the tables agree; where no call stands ready nothing is staged, else there is room for one more target and one more
 -- comm
-pub record IsSound (boxes : Targets) (free : ℕ) (comms : Opens) (spare : ℕ) (settled : Bool) : Type 0 where
-  pub agrees : Agrees (unstaged boxes) comms
-  pub nothing_staged : settled ≡ true → HaveStaged boxes (λ _. None)
+pub record IsSound (targets : Targets) (free : ℕ) (comms : Opens) (spare : ℕ) (settled : Bool) : Type 0 where
+  pub agrees : Agrees (unstaged targets) comms
+  pub nothing_staged : settled ≡ true → HaveStaged targets (λ _. None)
   pub room : settled ≡ false → 0 < free
   pub space : settled ≡ false → 0 < spare
 
 -- the tables agree, nothing is staged, and they mean this machine
 abbrev pub Carried : Targets → Opens → Machine → Type 0
-Carried boxes comms m = Agrees (unstaged boxes) comms × HaveStaged boxes (λ _. None) × (machine_of boxes comms ≡ m)
+Carried targets comms m = Agrees (unstaged targets) comms × HaveStaged targets (λ _. None) × (machine_of targets comms ≡ m)
 
--- ---- a plan
+-- ---- an update of the table
 
--- the machine after the plan is carried out
+-- the machine after the update of the table is carried out
 abbrev pub planned : Machine → TableUpdate → Option Outcome → Machine
 planned m (Register name kind notes) o = with_target m name kind notes
 planned m (Replace name kind notes) o = with_another m name kind notes
 planned m (Unregister name) o = without_target m name
 planned m (Close id) o = without_comm m id
 planned m (Commit q) (Some (Ok a)) = (answer_step m q.name q.event a).next
-planned m plan o = m
+planned m table_update o = m
 
 abbrev pub verdict_of : Machine → Decision → Verdict
-verdict_of m (decision.Done r out plan) = Done r out.items (planned m plan None)
+verdict_of m (decision.Done r out table_update) = Done r out.items (planned m table_update None)
 verdict_of m (decision.AskTarget q) = AskTarget q
 
 -- the decision is what the definition says of the call
 abbrev pub HasVerdict : ℕ → Targets → Opens → Call → Decision → Type 0
-HasVerdict limit boxes comms c d = verdict_of (machine_of boxes comms) d ≡ judged limit (machine_of boxes comms) c
+HasVerdict limit targets comms c d = verdict_of (machine_of targets comms) d ≡ judged limit (machine_of targets comms) c
 
 -- the step has this reply, and this goes out by it
 abbrev pub GivesReply : Stepped → Reply → List Outgoing → Type 0
@@ -67,7 +67,7 @@ GivesReply s reply outgoing = s ≡ record { reply = reply; outgoing = outgoing;
 abbrev pub staged_by : TableUpdate → Option Outcome → Name → Option StagedEvent
 staged_by (Commit q) (Some (Ok a)) name =
     if bytes_eq name q.name then Some (record { event = q.event; answer = a }) else None
-staged_by plan o name = None
+staged_by table_update o name = None
 
 -- a comm is opened that isn't there, or told that is the target's
 abbrev pub SuitsComms : Opens → Name → Event → Type 0
@@ -78,10 +78,10 @@ SuitsComms comms name (event.Push id state) = (c : Comm) × (at comms id ≡ Som
 
 -- the kernel's own events are for widgets
 abbrev pub SuitsKind : Targets → Name → Event → Type 0
-SuitsKind boxes name (event.Open id version body) = Unit {0}
-SuitsKind boxes name (event.Msg id body) = Unit {0}
-SuitsKind boxes name (event.Launch id state) = holds_widget (at (targets_of boxes) name) ≡ true
-SuitsKind boxes name (event.Push id state) = holds_widget (at (targets_of boxes) name) ≡ true
+SuitsKind targets name (event.Open id version body) = Unit {0}
+SuitsKind targets name (event.Msg id body) = Unit {0}
+SuitsKind targets name (event.Launch id state) = holds_widget (at (targets_of targets) name) ≡ true
+SuitsKind targets name (event.Push id state) = holds_widget (at (targets_of targets) name) ≡ true
 
 -- a widget refuses neither of the kernel's own events
 abbrev pub CanRefuse : Event → Type 0
@@ -90,71 +90,71 @@ CanRefuse (event.Push id state) = ⊥
 CanRefuse e = Unit {0}
 
 -- the target is there, and may be asked this
-pub record CanAsk (boxes : Targets) (comms : Opens) (q : TargetRequest) : Type 0 where
-  pub here : has (targets_of boxes) q.name ≡ true
+pub record CanAsk (targets : Targets) (comms : Opens) (q : TargetRequest) : Type 0 where
+  pub here : has (targets_of targets) q.name ≡ true
   pub comms_suit : SuitsComms comms q.name q.event
-  pub kind_suits : SuitsKind boxes q.name q.event
+  pub kind_suits : SuitsKind targets q.name q.event
 
 -- the target that a register hands in is idle, and of the kind and with the notes of the call
 abbrev pub IsNewcomer : Targets → Name → Option Meaning → Meaning → Type 0
-IsNewcomer boxes name boxed m = (boxed ≡ Some m) × (at boxes name ≡ None) × IsIdle m
+IsNewcomer targets name registered m = (registered ≡ Some m) × (at targets name ≡ None) × IsIdle m
 
 -- so is one that replaces the target of the name
 abbrev pub IsSuccessor : Targets → Name → Option Meaning → Meaning → Type 0
-IsSuccessor boxes name boxed m = (boxed ≡ Some m) × (is_some (at boxes name) ≡ true) × IsIdle m
+IsSuccessor targets name registered m = (registered ≡ Some m) × (is_some (at targets name) ≡ true) × IsIdle m
 
--- the plan can be carried out on these tables
+-- the update of the table can be carried out on these tables
 abbrev pub Suits : Targets → Opens → Option Meaning → TableUpdate → Option Outcome → Type 0
-Suits boxes comms boxed (Register name kind notes) o =
-    (m : Meaning) × IsNewcomer boxes name boxed m × (m.kind ≡ kind) × (m.notes ≡ notes)
-Suits boxes comms boxed (Replace name kind notes) o =
-    (m : Meaning) × IsSuccessor boxes name boxed m × (m.kind ≡ kind) × (m.notes ≡ notes)
-Suits boxes comms boxed (Commit q) (Some (Ok a)) = (is_some (at boxes q.name) ≡ true) × SuitsComms comms q.name q.event
-Suits boxes comms boxed (Commit q) o = ⊥
-Suits boxes comms boxed plan o = Unit {0}
+Suits targets comms registered (Register name kind notes) o =
+    (m : Meaning) × IsNewcomer targets name registered m × (m.kind ≡ kind) × (m.notes ≡ notes)
+Suits targets comms registered (Replace name kind notes) o =
+    (m : Meaning) × IsSuccessor targets name registered m × (m.kind ≡ kind) × (m.notes ≡ notes)
+Suits targets comms registered (Commit q) (Some (Ok a)) = (is_some (at targets q.name) ≡ true) × SuitsComms comms q.name q.event
+Suits targets comms registered (Commit q) o = ⊥
+Suits targets comms registered table_update o = Unit {0}
 
--- the plan of a register
+-- the update of the table of a register
 abbrev pub registering : Targets → Name → Kind → ℕ → TableUpdate
-registering boxes name kind notes =
-    if has (targets_of boxes) name then Replace name kind notes else Register name kind notes
+registering targets name kind notes =
+    if has (targets_of targets) name then Replace name kind notes else Register name kind notes
 
--- the target that a plan ends, with its comms closed
+-- the target that an update of the table ends, with its comms closed
 abbrev pub ended_by : Targets → TableUpdate → Option Meaning
-ended_by boxes (Unregister name) = option_map emptied (at boxes name)
-ended_by boxes (Replace name kind notes) = option_map emptied (at boxes name)
-ended_by boxes plan = None
+ended_by targets (Unregister name) = option_map emptied (at targets name)
+ended_by targets (Replace name kind notes) = option_map emptied (at targets name)
+ended_by targets table_update = None
 
 -- ---- what comes of a call
 
 -- what a call comes to can be carried out, or asked
 abbrev pub IsFeasible : Targets → Opens → Call → Decision → Type 0
-IsFeasible boxes comms c (decision.Done r out plan) =
-    Suits (unstaged boxes) comms None plan None × (ended_by boxes plan ≡ ended_of boxes c)
-IsFeasible boxes comms c (decision.AskTarget q) = CanAsk boxes comms q × ((bs : Targets) → ended_of bs c ≡ None)
+IsFeasible targets comms c (decision.Done r out table_update) =
+    Suits (unstaged targets) comms None table_update None × (ended_by targets table_update ≡ ended_of targets c)
+IsFeasible targets comms c (decision.AskTarget q) = CanAsk targets comms q × ((bs : Targets) → ended_of bs c ≡ None)
 
 -- What came of a question: reply and outgoing of the step, an outcome that is allowed, and what is staged now.
 pub record HasAnswered (old : Targets) (comms : Opens) (q : TargetRequest) (o : Option Outcome) (r : Reply)
-    (out : List Outgoing) (plan : TableUpdate) (new : Targets) : Type 0 where
+    (out : List Outgoing) (table_update : TableUpdate) (new : Targets) : Type 0 where
   pub step_is : stepped (machine_of old comms) (AskTarget q) o
-      ≡ Some (record { reply = r; outgoing = out; next = planned (machine_of old comms) plan o })
+      ≡ Some (record { reply = r; outgoing = out; next = planned (machine_of old comms) table_update o })
   pub allowed : Allowed (machine_of old comms) (Some q) o
   pub staged : AnswerIsStaged new (Some q) o
-  pub stages : HaveStaged new (staged_by plan o)
+  pub stages : HaveStaged new (staged_by table_update o)
   pub unstaged_is : unstaged new ≡ unstaged old
-  pub suits : Suits (unstaged new) comms None plan o
-  pub ended : ended_by new plan ≡ None
+  pub suits : Suits (unstaged new) comms None table_update o
+  pub ended : ended_by new table_update ≡ None
 
 -- What came of a call: reply and outgoing of the step, an outcome that is allowed, and what is staged now.
 pub record HasCome (limit : ℕ) (old : Targets) (comms : Opens) (c : Call) (o : Option Outcome) (r : Reply)
-    (out : List Outgoing) (plan : TableUpdate) (new : Targets) : Type 0 where
+    (out : List Outgoing) (table_update : TableUpdate) (new : Targets) : Type 0 where
   pub step_is : step limit (machine_of old comms) c o
-      ≡ Some (record { reply = r; outgoing = out; next = planned (machine_of old comms) plan o })
+      ≡ Some (record { reply = r; outgoing = out; next = planned (machine_of old comms) table_update o })
   pub allowed : Allowed (machine_of old comms) (asks limit (machine_of old comms) c) o
   pub staged : AnswerIsStaged new (asks limit (machine_of old comms) c) o
-  pub stages : HaveStaged new (staged_by plan o)
+  pub stages : HaveStaged new (staged_by table_update o)
   pub unstaged_is : unstaged new ≡ unstaged old
-  pub suits : Suits (unstaged new) comms None plan o
-  pub ended : ended_by new plan ≡ ended_of new c
+  pub suits : Suits (unstaged new) comms None table_update o
+  pub ended : ended_by new table_update ≡ ended_of new c
 
 abbrev pub is_memory : TargetFault → Bool
 is_memory fault.Memory = true

@@ -18,20 +18,20 @@ use Rattle.comm_core.specs.declared.table_update.TableUpdate.{TableUpdate}
 -- at most `limit` comms are open; `settled` says that no call stands ready
 pub record CoreValue : Type 0 where
   pub limit : ℕ
-  pub boxes : Targets
+  pub targets : Targets
   pub comms : Opens
   pub settled : Bool
 
 -- the machine that it means
 abbrev pub machine : CoreValue → Machine
-machine s = machine_of s.boxes s.comms
+machine s = machine_of s.targets s.comms
 
 abbrev pub state : ℕ → Targets → Opens → Bool → CoreValue
-state limit boxes comms settled = record { limit = limit; boxes = boxes; comms = comms; settled = settled }
+state limit targets comms settled = record { limit = limit; targets = targets; comms = comms; settled = settled }
 
 -- the state before the call that stands ready
 abbrev pub undone : CoreValue → CoreValue
-undone s = state s.limit (unstaged s.boxes) s.comms true
+undone s = state s.limit (unstaged s.targets) s.comms true
 
 -- the call hands no target in
 abbrev pub HandsNothingIn : Call → Type 0
@@ -62,11 +62,11 @@ pub record Readied : Type 0 where
   pub outcome : Option Outcome
   pub reply : Reply
   pub outgoing : List Outgoing
-  pub plan : TableUpdate
-  pub boxed : Option Meaning
+  pub table_update : TableUpdate
+  pub registered : Option Meaning
 
 abbrev pub readied : Call → Option Outcome → Reply → List Outgoing → TableUpdate → Option Meaning → Readied
-readied c o r out plan boxed = record { call = c; outcome = o; reply = r; outgoing = out; plan = plan; boxed = boxed }
+readied c o r out table_update registered = record { call = c; outcome = o; reply = r; outgoing = out; table_update = table_update; registered = registered }
 
 -- in this state, its outcome is one that the target that is asked may give
 abbrev pub HasAllowedOutcome : CoreValue → Readied → Type 0
@@ -89,13 +89,13 @@ row_at s r = row_in (machine s) r.call r.outcome r.reply
 -- It was made by a `prepare` of this manager, whose state it is now. This is a token: `prepare`, `begin` and
 -- `begin_register` give it, `commit`, `abort`, `finish` and `withdraw` take it, and a caller needn't read it. The
 -- outcome is allowed and stands staged where it is an answer, the reply and what goes out are those of the step, and
--- the plan, which is private, makes the step's machine of the tables.
+-- the update of the table, which is private, makes the step's machine of the tables.
 pub record IsReady (s : CoreValue) (r : Readied) : Type 0 where
   pub prepared : s.settled ≡ false
   pub allowed : Allowed (machine s) (asks s.limit (machine s) r.call) r.outcome
-  pub staged : AnswerIsStaged s.boxes (asks s.limit (machine s) r.call) r.outcome
+  pub staged : AnswerIsStaged s.targets (asks s.limit (machine s) r.call) r.outcome
   pub step_is : step s.limit (machine s) r.call r.outcome
-      ≡ Some (record { reply = r.reply; outgoing = r.outgoing; next = planned (machine s) r.plan r.outcome })
-  pub stages : HaveStaged s.boxes (staged_by r.plan r.outcome)
-  pub suits : Suits (unstaged s.boxes) s.comms r.boxed r.plan r.outcome
-  pub ended : ended_by s.boxes r.plan ≡ ended_of s.boxes r.call
+      ≡ Some (record { reply = r.reply; outgoing = r.outgoing; next = planned (machine s) r.table_update r.outcome })
+  pub stages : HaveStaged s.targets (staged_by r.table_update r.outcome)
+  pub suits : Suits (unstaged s.targets) s.comms r.registered r.table_update r.outcome
+  pub ended : ended_by s.targets r.table_update ≡ ended_of s.targets r.call

@@ -13,7 +13,7 @@ use Rattle.comm_core.specs.contracts.call.Call as call
 use Rattle.comm_core.specs.declared.reply.Reply.{Reply}
 use Rattle.comm_core.specs.contracts.reply.Reply as reply
 use Rattle.comm_core.specs.declared.table_update.TableUpdate.{TableUpdate}
-use Rattle.comm_core.specs.contracts.table_update.TableUpdate as plan
+use Rattle.comm_core.specs.contracts.table_update.TableUpdate as table_update
 use Rattle.comm_core.specs.Step.{Outcome}
 use Rattle.comm_core.specs.Tables.{Targets, Opens}
 use Rattle.comm_core.specs.Ready.{CoreValue, Readied, readied}
@@ -27,14 +27,14 @@ opens_code = coded_list (coded× (coded_list coded_ℕ) comm.the_row.coded)
 abbrev pub core_code : Coded CoreValue
 core_code =
     code_by ((ℕ × Bool) × (Targets × Opens)) (coded× (coded× coded_ℕ coded_bool) (coded× targets_code opens_code))
-    (λ s. ((s.limit, s.settled), (s.boxes, s.comms)))
-    (λ p. record { limit = p.0.0; boxes = p.1.0; comms = p.1.1; settled = p.0.1 }) (λ _. refl)
+    (λ s. ((s.limit, s.settled), (s.targets, s.comms)))
+    (λ p. record { limit = p.0.0; targets = p.1.0; comms = p.1.1; settled = p.0.1 }) (λ _. refl)
 
 abbrev pub readied_code : Coded Readied
 readied_code =
     code_by ((Call × Option Outcome) × ((Reply × List Outgoing) × (TableUpdate × Option Meaning)))
     (coded× (coded× call.the_row.coded (coded_option (coded_result answer.the_row.coded fault.the_row.coded)))
     (coded× (coded× reply.the_row.coded (coded_list outgoing.the_row.coded))
-    (coded× plan.the_row.coded (coded_option meaning_code))))
-    (λ r. ((r.call, r.outcome), ((r.reply, r.outgoing), (r.plan, r.boxed))))
+    (coded× table_update.the_row.coded (coded_option meaning_code))))
+    (λ r. ((r.call, r.outcome), ((r.reply, r.outgoing), (r.table_update, r.registered))))
     (λ p. readied p.0.0 p.0.1 p.1.0.0 p.1.0.1 p.1.1.0 p.1.1.1) (λ _. refl)

@@ -39,7 +39,7 @@ MergesUpdates history m =
     → IsRegistered before target kind → is_widget kind ≡ true
     → (s : Members) × OpensWith opener s × (state_of m id ≡ State (fold merged s (updates id after)))
 
--- the comms of an Echo, a Counter or a Plain target have no state
+-- the comms of an Echo, a Counter, a Plain or an Opaque target have no state
 abbrev pub LeavesSomeStateless : List Entry → Machine → Type 0
 LeavesSomeStateless history m =
     (before : List Entry) (opener : Entry) (after : List Entry) (id target : Name) (kind : Kind)

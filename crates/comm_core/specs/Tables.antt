@@ -28,10 +28,10 @@ abbrev pub registered_of : Meaning → Registered
 registered_of m = record { kind = m.kind; notes = m.notes }
 
 abbrev pub targets_of : Targets → List (Name × Registered)
-targets_of boxes = map (λ e. (e.0, registered_of e.1)) boxes
+targets_of targets = map (λ e. (e.0, registered_of e.1)) targets
 
 abbrev pub machine_of : Targets → Opens → Machine
-machine_of boxes comms = record { targets = targets_of boxes; comms = comms }
+machine_of targets comms = record { targets = targets_of targets; comms = comms }
 
 -- an entry, if there is one
 abbrev pub entry_of : Option (Name × Meaning) → Targets
@@ -42,24 +42,24 @@ entry_of (Some e) = e ∷ []
 
 -- no name and no id stands twice; each target has the ids of its comms, in the order of opening; and each comm's
 -- target is there
-pub record Agrees (boxes : Targets) (comms : Opens) : Type 0 where
-  pub names : AreDistinct boxes
+pub record Agrees (targets : Targets) (comms : Opens) : Type 0 where
+  pub names : AreDistinct targets
   pub distinct : AreDistinct comms
-  pub ids : (name : Name) (m : Meaning) → at boxes name ≡ Some m → m.ids ≡ ids_of name comms
-  pub named : (id : Name) (c : Comm) → at comms id ≡ Some c → is_some (at boxes c.target) ≡ true
+  pub ids : (name : Name) (m : Meaning) → at targets name ≡ Some m → m.ids ≡ ids_of name comms
+  pub named : (id : Name) (c : Comm) → at comms id ≡ Some c → is_some (at targets c.target) ≡ true
 
 -- the targets have this staged, and nothing else
 abbrev pub HaveStaged : Targets → (Name → Option StagedEvent) → Type 0
-HaveStaged boxes staged = (name : Name) (m : Meaning) → at boxes name ≡ Some m → m.staged ≡ staged name
+HaveStaged targets staged = (name : Name) (m : Meaning) → at targets name ≡ Some m → m.staged ≡ staged name
 
--- the boxes mean the machine: the tables agree, and nothing is staged
-pub record BoxesMean (boxes : Targets) (comms : Opens) : Type 0 where
-  pub agrees : Agrees boxes comms
-  pub nothing_staged : HaveStaged boxes (λ _. None)
+-- the targets mean the machine: the tables agree, and nothing is staged
+pub record TargetsMean (targets : Targets) (comms : Opens) : Type 0 where
+  pub agrees : Agrees targets comms
+  pub nothing_staged : HaveStaged targets (λ _. None)
 
 -- the targets, with nothing staged
 abbrev pub unstaged : Targets → Targets
-unstaged boxes = map (λ e. (e.0, after_abandon e.1)) boxes
+unstaged targets = map (λ e. (e.0, after_abandon e.1)) targets
 
 -- what is staged in the target of this name: the answer of the one that was asked, with its event
 abbrev pub staged_as : Option Outcome → Option TargetRequest → Name → Option StagedEvent
@@ -69,7 +69,7 @@ staged_as o q name = None
 
 -- an answer stands staged in the target that was asked, and nothing else is staged
 abbrev pub AnswerIsStaged : Targets → Option TargetRequest → Option Outcome → Type 0
-AnswerIsStaged boxes asked outcome = HaveStaged boxes (staged_as outcome asked)
+AnswerIsStaged targets asked outcome = HaveStaged targets (staged_as outcome asked)
 
 -- ---- a target that ends
 
@@ -79,9 +79,9 @@ emptied m = record { kind = m.kind; notes = m.notes; ids = []; staged = m.staged
 
 -- the target that a call ends
 abbrev pub ended_of : Targets → Call → Option Meaning
-ended_of boxes (Unregister name) = option_map emptied (at boxes name)
-ended_of boxes (Register name kind notes) = option_map emptied (at boxes name)
-ended_of boxes call = None
+ended_of targets (Unregister name) = option_map emptied (at targets name)
+ended_of targets (Register name kind notes) = option_map emptied (at targets name)
+ended_of targets call = None
 
 abbrev pub IdleWhere : Option Meaning → Type 0
 IdleWhere None = Unit {0}

@@ -9,7 +9,7 @@ use Rattle.comm_messages.specs.Content.{Content}
 use Rattle.comm_targets.specs.Widget as widget
 use Rattle.comm_targets.specs.Widget.{state_of}
 use Rattle.comm_targets.specs.declared.kind.Kind.{Kind}
-use Rattle.comm_targets.specs.declared.kind.Kind.TheVariants.{Echo, Counter, Plain}
+use Rattle.comm_targets.specs.declared.kind.Kind.TheVariants.{Echo, Counter, Plain, Opaque}
 use Rattle.comm_targets.specs.declared.fault.TargetFault.{TargetFault}
 use Rattle.comm_core.specs.Machine.{Name}
 use Rattle.comm_core.specs.declared.entry.Entry.{Entry}
@@ -55,6 +55,7 @@ abbrev pub is_stateless : Kind → Bool
 is_stateless Echo = true
 is_stateless Counter = true
 is_stateless Plain = true
+is_stateless Opaque = true
 is_stateless kind = false
 
 -- ---- what a widget is told ('Jupyter widgets messaging protocol' 2.1.0)

@@ -18,66 +18,69 @@ use comm_value::{Dict, Text};
 use std::alloc::AllocError;
 
 /// Makes room for what an update may add: a target, or a comm. Err: memory.
-pub fn make_room<T: Target>(boxes: &mut TargetTable<T>, comms: &mut Comms) -> Result<(), AllocError>
-    ensures boxes { boxes.new.all ≡ boxes.old.all }
+pub fn make_room<T: Target>(
+    targets: &mut TargetTable<T>,
+    comms: &mut Comms,
+) -> Result<(), AllocError>
+    ensures targets { targets.new.all ≡ targets.old.all }
     ensures comms { comms.new.all ≡ comms.old.all }
-    ensures room { OnOk result (0 < boxes.new.room) }
+    ensures room { OnOk result (0 < targets.new.room) }
     ensures space { OnOk result (0 < comms.new.room) }
 {
-    boxes.reserve()?;
+    targets.reserve()?;
     comms.reserve()
 }
 
 /// Updates the tables, and gives the target that ends by it.
 pub fn apply<T: Target>(
-    boxes: &mut TargetTable<T>,
+    targets: &mut TargetTable<T>,
     comms: &mut Comms,
-    plan: TableUpdate,
+    table_update: TableUpdate,
     outcome: Option<Result<Answer, TargetFault>>,
-    boxed: Option<T>,
+    registered: Option<T>,
 ) -> Option<Held<T>>
-    requires room { 0 < boxes.old.room }
+    requires room { 0 < targets.old.room }
     requires space { 0 < comms.old.room }
-    requires agrees { Agrees (unstaged boxes.old.all) comms.old.all }
-    requires staged { HaveStaged boxes.old.all (staged_by plan outcome) }
-    requires suits { Suits (unstaged boxes.old.all) comms.old.all
-        (option_map T.means boxed) plan outcome }
-    ensures carried { Carried boxes.new.all comms.new.all
-        (planned (machine_of boxes.old.all comms.old.all) plan outcome) }
-    ensures ended { result ≡ ended_by boxes.old.all plan }
+    requires agrees { Agrees (unstaged targets.old.all) comms.old.all }
+    requires staged { HaveStaged targets.old.all (staged_by table_update outcome) }
+    requires suits { Suits (unstaged targets.old.all) comms.old.all
+        (option_map T.means registered) table_update outcome }
+    ensures carried { Carried targets.new.all comms.new.all
+        (planned (machine_of targets.old.all comms.old.all) table_update outcome) }
+    ensures ended { result ≡ ended_by targets.old.all table_update }
     ensures idle { IdleWhere result }
 {
-    match plan {
+    match table_update {
         TableUpdate::Nothing => {
-            drop((outcome, boxed));
+            drop((outcome, registered));
             None
         }
         TableUpdate::Register { name, .. } => {
             drop(outcome);
-            let Some(target) = boxed else {
+            let Some(target) = registered else {
                 return None;
             };
-            boxes.push(name, Held::new(target));
+            targets.push(name, Held::new(target));
             None
         }
         TableUpdate::Replace { name, .. } => {
             drop(outcome);
-            let Some(target) = boxed else {
+            let Some(target) = registered else {
                 return None;
             };
-            replace(boxes, comms, &name, Held::new(target))
+            replace(targets, comms, &name, Held::new(target))
         }
         TableUpdate::Unregister { name } => {
-            drop((outcome, boxed));
-            unregister(boxes, comms, &name)
+            drop((outcome, registered));
+            unregister(targets, comms, &name)
         }
         TableUpdate::Close { id } => {
-            drop((outcome, boxed));
-            close(boxes, comms, &id);
+            drop((outcome, registered));
+            close(targets, comms, &id);
             None
         }
         TableUpdate::Commit(request) => {
-            commit_outcome(boxes, comms, request, outcome, boxed);
+            commit_outcome(targets, comms, request, outcome, registered);
             None
         }
     }
@@ -86,23 +89,23 @@ pub fn apply<T: Target>(
 /// Makes the change that the target staged, where it gave an answer.
 #[inline(always)]
 fn commit_outcome<T: Target>(
-    boxes: &mut TargetTable<T>,
+    targets: &mut TargetTable<T>,
     comms: &mut Comms,
     request: TargetRequest,
     outcome: Option<Result<Answer, TargetFault>>,
-    boxed: Option<T>,
+    registered: Option<T>,
 )
     requires space { 0 < comms.old.room }
-    requires agrees { Agrees (unstaged boxes.old.all) comms.old.all }
-    requires staged { HaveStaged boxes.old.all (staged_by (Commit request) outcome) }
-    requires suits { Suits (unstaged boxes.old.all) comms.old.all
-        (option_map T.means boxed) (Commit request) outcome }
-    ensures { Carried boxes.new.all comms.new.all
-        (planned (machine_of boxes.old.all comms.old.all) (Commit request) outcome) }
+    requires agrees { Agrees (unstaged targets.old.all) comms.old.all }
+    requires staged { HaveStaged targets.old.all (staged_by (Commit request) outcome) }
+    requires suits { Suits (unstaged targets.old.all) comms.old.all
+        (option_map T.means registered) (Commit request) outcome }
+    ensures { Carried targets.new.all comms.new.all
+        (planned (machine_of targets.old.all comms.old.all) (Commit request) outcome) }
 {
-    drop(boxed);
+    drop(registered);
     match outcome {
-        Some(Ok(answer)) => commit(boxes, comms, request, answer),
+        Some(Ok(answer)) => commit(targets, comms, request, answer),
         Some(Err(_)) => drop(request),
         None => drop(request),
     }
@@ -110,20 +113,20 @@ fn commit_outcome<T: Target>(
 
 /// Makes the change that the target staged, and notes its comm.
 fn commit<T: Target>(
-    boxes: &mut TargetTable<T>,
+    targets: &mut TargetTable<T>,
     comms: &mut Comms,
     request: TargetRequest,
     answer: Answer,
 )
     requires space { 0 < comms.old.room }
-    requires agrees { Agrees (unstaged boxes.old.all) comms.old.all }
-    requires staged { HaveStaged boxes.old.all (staged_by (Commit request) (Some (Ok answer))) }
-    requires suits { Suits (unstaged boxes.old.all) comms.old.all
+    requires agrees { Agrees (unstaged targets.old.all) comms.old.all }
+    requires staged { HaveStaged targets.old.all (staged_by (Commit request) (Some (Ok answer))) }
+    requires suits { Suits (unstaged targets.old.all) comms.old.all
         None (Commit request) (Some (Ok answer)) }
-    ensures { Carried boxes.new.all comms.new.all
-        (planned (machine_of boxes.old.all comms.old.all) (Commit request) (Some (Ok answer))) }
+    ensures { Carried targets.new.all comms.new.all
+        (planned (machine_of targets.old.all comms.old.all) (Commit request) (Some (Ok answer))) }
 {
-    boxes.commit(&request.name);
+    targets.commit(&request.name);
     let TargetRequest {
         name,
         state: before,
@@ -177,32 +180,32 @@ fn note_state(comms: &mut Comms, id: &Text, state: Option<Dict>)
 }
 
 /// Takes a comm out, in its target first.
-fn close<T: Target>(boxes: &mut TargetTable<T>, comms: &mut Comms, id: &Text)
-    requires agrees { Agrees (unstaged boxes.old.all) comms.old.all }
-    requires none { HaveStaged boxes.old.all (λ _. None) }
-    ensures { Carried boxes.new.all comms.new.all
-        (without_comm (machine_of boxes.old.all comms.old.all) id.now) }
+fn close<T: Target>(targets: &mut TargetTable<T>, comms: &mut Comms, id: &Text)
+    requires agrees { Agrees (unstaged targets.old.all) comms.old.all }
+    requires none { HaveStaged targets.old.all (λ _. None) }
+    ensures { Carried targets.new.all comms.new.all
+        (without_comm (machine_of targets.old.all comms.old.all) id.now) }
 {
     if let Some(comm) = comms.take(id) {
-        boxes.close(&comm.target, id);
+        targets.close(&comm.target, id);
         drop(comm);
     }
 }
 
 /// Takes a target out with its comms, which are closed in it.
 fn unregister<T: Target>(
-    boxes: &mut TargetTable<T>,
+    targets: &mut TargetTable<T>,
     comms: &mut Comms,
     name: &Text,
 ) -> Option<Held<T>>
-    requires agrees { Agrees (unstaged boxes.old.all) comms.old.all }
-    requires none { HaveStaged boxes.old.all (λ _. None) }
-    ensures tables { Carried boxes.new.all comms.new.all
-        (without_target (machine_of boxes.old.all comms.old.all) name.now) }
-    ensures ended { result ≡ option_map emptied (at boxes.old.all name.now) }
+    requires agrees { Agrees (unstaged targets.old.all) comms.old.all }
+    requires none { HaveStaged targets.old.all (λ _. None) }
+    ensures tables { Carried targets.new.all comms.new.all
+        (without_target (machine_of targets.old.all comms.old.all) name.now) }
+    ensures ended { result ≡ option_map emptied (at targets.old.all name.now) }
     ensures idle { IdleWhere result }
 {
-    let taken = match boxes.take(name) {
+    let taken = match targets.take(name) {
         Some(mut held) => {
             comms.close_those_of(name, &mut held);
             Some(held)
@@ -215,36 +218,36 @@ fn unregister<T: Target>(
 
 /// Puts a target in the place of the one of this name, whose comms are closed in it and taken out.
 fn replace<T: Target>(
-    boxes: &mut TargetTable<T>,
+    targets: &mut TargetTable<T>,
     comms: &mut Comms,
     name: &Text,
     held: Held<T>,
 ) -> Option<Held<T>>
-    requires agrees { Agrees (unstaged boxes.old.all) comms.old.all }
-    requires none { HaveStaged boxes.old.all (λ _. None) }
-    requires here { IsSome (at boxes.old.all name.now) }
+    requires agrees { Agrees (unstaged targets.old.all) comms.old.all }
+    requires none { HaveStaged targets.old.all (λ _. None) }
+    requires here { IsSome (at targets.old.all name.now) }
     requires idle { IsIdle held }
-    ensures tables { Carried boxes.new.all comms.new.all
-        (with_another (machine_of boxes.old.all comms.old.all) name.now held.kind held.notes) }
-    ensures ended { result ≡ option_map emptied (at boxes.old.all name.now) }
+    ensures tables { Carried targets.new.all comms.new.all
+        (with_another (machine_of targets.old.all comms.old.all) name.now held.kind held.notes) }
+    ensures ended { result ≡ option_map emptied (at targets.old.all name.now) }
     ensures idle { IdleWhere result }
 {
-    let mut replaced = boxes.replace(name, held);
+    let mut replaced = targets.replace(name, held);
     comms.close_those_of(name, &mut replaced);
     comms.remove_those_of(name); // The new target has none of them.
     Some(replaced)
 }
 
 /// Takes back what the target of the update staged.
-pub fn revert<T: Target>(boxes: &mut TargetTable<T>, plan: &TableUpdate)
-    requires distinct { AreDistinct (unstaged boxes.old.all) }
-    requires staged { (c : Opens) × (boxed : Option Meaning) × (o : Option Outcome)
-        × Suits (unstaged boxes.old.all) c boxed plan.now o
-        × HaveStaged boxes.old.all (staged_by plan.now o) }
-    ensures { boxes.new.all ≡ unstaged boxes.old.all }
+pub fn revert<T: Target>(targets: &mut TargetTable<T>, table_update: &TableUpdate)
+    requires distinct { AreDistinct (unstaged targets.old.all) }
+    requires staged { (c : Opens) × (registered : Option Meaning) × (o : Option Outcome)
+        × Suits (unstaged targets.old.all) c registered table_update.now o
+        × HaveStaged targets.old.all (staged_by table_update.now o) }
+    ensures { targets.new.all ≡ unstaged targets.old.all }
 {
-    match plan {
-        TableUpdate::Commit(request) => boxes.abandon(&request.name),
+    match table_update {
+        TableUpdate::Commit(request) => targets.abandon(&request.name),
         TableUpdate::Nothing => {}
         TableUpdate::Register { .. } => {}
         TableUpdate::Replace { .. } => {}

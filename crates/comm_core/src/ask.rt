@@ -23,56 +23,56 @@ use std::alloc::{AllocError, Global};
 
 /// What comes of a call that hands no target in.
 pub fn evaluate<T: Target>(
-    boxes: &mut TargetTable<T>,
+    targets: &mut TargetTable<T>,
     comms: &Comms,
     limit: usize,
     alloc: Global,
     call: Call,
 ) -> Result<Evaluation, AllocError>
-    requires none { HaveStaged boxes.old.all (λ _. None) }
-    requires agrees { Agrees (unstaged boxes.old.all) comms.now.all }
+    requires none { HaveStaged targets.old.all (λ _. None) }
+    requires agrees { Agrees (unstaged targets.old.all) comms.now.all }
     requires call { HandsNothingIn call }
-    ensures came { IfOk result (λ r. HasCome limit boxes.old.all comms.now.all call
-        r.outcome r.reply r.outgoing.items r.plan boxes.new.all) }
-    ensures err { OnErr result (boxes.new.all ≡ boxes.old.all) }
-    ensures room { boxes.new.room ≡ boxes.old.room }
+    ensures came { IfOk result (λ r. HasCome limit targets.old.all comms.now.all call
+        r.outcome r.reply r.outgoing.items r.table_update targets.new.all) }
+    ensures err { OnErr result (targets.new.all ≡ targets.old.all) }
+    ensures room { targets.new.room ≡ targets.old.room }
 {
-    match judge(boxes, comms, limit, alloc, call)? {
-        Decision::Done(reply, outgoing, plan) => Ok(Evaluation {
+    match judge(targets, comms, limit, alloc, call)? {
+        Decision::Done(reply, outgoing, table_update) => Ok(Evaluation {
             outcome: None,
             reply,
             outgoing,
-            plan,
+            table_update,
         }),
-        Decision::AskTarget(request) => ask(boxes, comms, alloc, request),
+        Decision::AskTarget(request) => ask(targets, comms, alloc, request),
     }
 }
 
 /// Asks a target.
 fn ask<T: Target>(
-    boxes: &mut TargetTable<T>,
+    targets: &mut TargetTable<T>,
     comms: &Comms,
     alloc: Global,
     request: TargetRequest,
 ) -> Result<Evaluation, AllocError>
-    requires none { HaveStaged boxes.old.all (λ _. None) }
-    requires agrees { Agrees (unstaged boxes.old.all) comms.now.all }
-    requires asked { CanAsk boxes.old.all comms.now.all request }
-    ensures came { IfOk result (λ r. HasAnswered boxes.old.all comms.now.all request
-        r.outcome r.reply r.outgoing.items r.plan boxes.new.all) }
-    ensures err { OnErr result (boxes.new.all ≡ boxes.old.all) }
-    ensures room { boxes.new.room ≡ boxes.old.room }
+    requires none { HaveStaged targets.old.all (λ _. None) }
+    requires agrees { Agrees (unstaged targets.old.all) comms.now.all }
+    requires asked { CanAsk targets.old.all comms.now.all request }
+    ensures came { IfOk result (λ r. HasAnswered targets.old.all comms.now.all request
+        r.outcome r.reply r.outgoing.items r.table_update targets.new.all) }
+    ensures err { OnErr result (targets.new.all ≡ targets.old.all) }
+    ensures room { targets.new.room ≡ targets.old.room }
 {
-    match boxes.prepare(&request.name, &request.event, request.state.as_ref()) {
+    match targets.prepare(&request.name, &request.event, request.state.as_ref()) {
         Ok(answer) => match answer_step(alloc, &request, &answer) {
             Ok((reply, outgoing)) => Ok(Evaluation {
                 outcome: Some(Ok(answer)),
                 reply,
                 outgoing,
-                plan: TableUpdate::Commit(request),
+                table_update: TableUpdate::Commit(request),
             }),
             Err(_) => {
-                boxes.abandon(&request.name);
+                targets.abandon(&request.name);
                 drop(request);
                 drop(answer);
                 Err(AllocError)
@@ -90,7 +90,7 @@ fn ask<T: Target>(
                 outcome: Some(Err(fault)),
                 reply,
                 outgoing,
-                plan: TableUpdate::Nothing,
+                table_update: TableUpdate::Nothing,
             })
         }
     }

@@ -11,5 +11,5 @@ pub struct Evaluation {
     pub reply: Reply,
     /// What goes out, in its order.
     pub outgoing: Vec<Outgoing>,
-    pub plan: TableUpdate,
+    pub table_update: TableUpdate,
 }

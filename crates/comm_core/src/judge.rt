@@ -30,16 +30,16 @@ use uuid::Uuid;
 /// The first of a call's tests that holds, or else what the call does. What the call has in it goes on to the target,
 /// or out.
 pub fn judge<T: Target>(
-    boxes: &TargetTable<T>,
+    targets: &TargetTable<T>,
     comms: &Comms,
     limit: usize,
     alloc: Global,
     call: Call,
 ) -> Result<Decision, AllocError>
     requires call { HandsNothingIn call }
-    requires agrees { Agrees (unstaged boxes.now.all) comms.now.all }
-    ensures verdict { IfOk result (λ j. HasVerdict limit boxes.now.all comms.now.all call j) }
-    ensures feasible { IfOk result (λ j. IsFeasible boxes.now.all comms.now.all call j) }
+    requires agrees { Agrees (unstaged targets.now.all) comms.now.all }
+    ensures verdict { IfOk result (λ j. HasVerdict limit targets.now.all comms.now.all call j) }
+    ensures feasible { IfOk result (λ j. IsFeasible targets.now.all comms.now.all call j) }
 {
     match call {
         Call::Open {
@@ -47,18 +47,18 @@ pub fn judge<T: Target>(
             target,
             version,
             body,
-        } => judge_open(boxes, comms, limit, alloc, id, target, version, body),
-        Call::Msg { id, body } => judge_msg(boxes, comms, alloc, id, body),
+        } => judge_open(targets, comms, limit, alloc, id, target, version, body),
+        Call::Msg { id, body } => judge_msg(targets, comms, alloc, id, body),
         Call::Close { id } => Ok(judge_close(comms, alloc, id)),
-        Call::Unregister { name } => judge_unregister(boxes, comms, alloc, name),
-        Call::Launch { id, target, state } => match launch_names(boxes, alloc, &id, target) {
-            Ok((id, target)) => Ok(judge_launch(boxes, comms, limit, alloc, id, target, state)),
+        Call::Unregister { name } => judge_unregister(targets, comms, alloc, name),
+        Call::Launch { id, target, state } => match launch_names(targets, alloc, &id, target) {
+            Ok((id, target)) => Ok(judge_launch(targets, comms, limit, alloc, id, target, state)),
             Err(fault) => {
                 drop(state);
                 Err(fault)
             }
         },
-        Call::Push { id, state } => judge_push(boxes, comms, alloc, id, state),
+        Call::Push { id, state } => judge_push(targets, comms, alloc, id, state),
         Call::Send { id, body } => judge_send(comms, alloc, id, body),
         Call::HangUp { id } => judge_hang_up(comms, alloc, id),
         Call::Register { .. } => unreachable!(),
@@ -68,8 +68,8 @@ pub fn judge<T: Target>(
 /// The reply to a call that changes nothing and sends nothing.
 fn stays(alloc: Global, reply: Reply) -> Decision
     ensures verdict { (m : Machine) → verdict_of m result ≡ stays m reply }
-    ensures feasible { (boxes : Targets) (comms : Opens) (c : Call) → ended_of boxes c ≡ None
-        → IsFeasible boxes comms c result }
+    ensures feasible { (targets : Targets) (comms : Opens) (c : Call) → ended_of targets c ≡ None
+        → IsFeasible targets comms c result }
 {
     Decision::Done(reply, Vec::new(alloc), TableUpdate::Nothing)
 }
@@ -77,15 +77,15 @@ fn stays(alloc: Global, reply: Reply) -> Decision
 /// The reply to an open that is refused before its target is asked.
 fn refused_open(alloc: Global, id: Text, why: Refusal) -> Result<Decision, AllocError>
     ensures verdict { IfOk result (λ j. (m : Machine) → verdict_of m j ≡ refused_open m id why) }
-    ensures feasible { IfOk result (λ j. (boxes : Targets) (comms : Opens) (c : Call)
-        → ended_of boxes c ≡ None → IsFeasible boxes comms c j) }
+    ensures feasible { IfOk result (λ j. (targets : Targets) (comms : Opens) (c : Call)
+        → ended_of targets c ≡ None → IsFeasible targets comms c j) }
 {
     let outgoing = one(alloc, Outgoing::Close { id })?;
     Ok(Decision::Done(Reply::OpenRefused(why), outgoing, TableUpdate::Nothing))
 }
 
 fn judge_open<T: Target>(
-    boxes: &TargetTable<T>,
+    targets: &TargetTable<T>,
     comms: &Comms,
     limit: usize,
     alloc: Global,
@@ -95,15 +95,15 @@ fn judge_open<T: Target>(
     body: Body,
 ) -> Result<Decision, AllocError>
     ensures verdict { IfOk result
-        (λ j. HasVerdict limit boxes.now.all comms.now.all (call.Open id target version body) j) }
+        (λ j. HasVerdict limit targets.now.all comms.now.all (call.Open id target version body) j) }
     ensures feasible { IfOk result
-        (λ j. IsFeasible boxes.now.all comms.now.all (call.Open id target version body) j) }
+        (λ j. IsFeasible targets.now.all comms.now.all (call.Open id target version body) j) }
 {
     if comms.contains(&id) {
         drop((version, body));
         return Ok(stays(alloc, Reply::IdInUse));
     }
-    if !boxes.contains(&target) {
+    if !targets.contains(&target) {
         drop((version, body));
         return refused_open(alloc, id, Refusal::NoTarget);
     }
@@ -112,7 +112,7 @@ fn judge_open<T: Target>(
         return refused_open(alloc, id, Refusal::TooManyComms);
     }
     let event = Event::Open { id, version, body };
-    match boxes.shared(target) {
+    match targets.shared(target) {
         Ok(name) => Ok(Decision::AskTarget(TargetRequest {
             name,
             state: None,
@@ -126,17 +126,17 @@ fn judge_open<T: Target>(
 }
 
 fn judge_msg<T: Target>(
-    boxes: &TargetTable<T>,
+    targets: &TargetTable<T>,
     comms: &Comms,
     alloc: Global,
     id: Text,
     body: Body,
 ) -> Result<Decision, AllocError>
-    requires { Agrees (unstaged boxes.now.all) comms.now.all }
+    requires { Agrees (unstaged targets.now.all) comms.now.all }
     ensures verdict { (limit : ℕ) → IfOk result
-        (λ j. HasVerdict limit boxes.now.all comms.now.all (call.Msg id body) j) }
+        (λ j. HasVerdict limit targets.now.all comms.now.all (call.Msg id body) j) }
     ensures feasible { IfOk result
-        (λ j. IsFeasible boxes.now.all comms.now.all (call.Msg id body) j) }
+        (λ j. IsFeasible targets.now.all comms.now.all (call.Msg id body) j) }
 {
     match comms.get(&id) {
         Some(comm) => ask_target(comm, Event::Msg { id, body }),
@@ -181,9 +181,9 @@ pub fn state_copy(comm: &Comm) -> Result<Option<Dict>, AllocError>
 }
 
 fn judge_close(comms: &Comms, alloc: Global, id: Text) -> Decision
-    ensures verdict { (limit : ℕ) (boxes : Targets)
-        → HasVerdict limit boxes comms.now.all (call.Close id) result }
-    ensures feasible { (boxes : Targets) → IsFeasible boxes comms.now.all (call.Close id) result }
+    ensures verdict { (limit : ℕ) (targets : Targets)
+        → HasVerdict limit targets comms.now.all (call.Close id) result }
+    ensures feasible { (targets : Targets) → IsFeasible targets comms.now.all (call.Close id) result }
 {
     if !comms.contains(&id) {
         return stays(alloc, Reply::NoComm);
@@ -192,17 +192,17 @@ fn judge_close(comms: &Comms, alloc: Global, id: Text) -> Decision
 }
 
 fn judge_unregister<T: Target>(
-    boxes: &TargetTable<T>,
+    targets: &TargetTable<T>,
     comms: &Comms,
     alloc: Global,
     name: Text,
 ) -> Result<Decision, AllocError>
     ensures verdict { (limit : ℕ) → IfOk result
-        (λ j. HasVerdict limit boxes.now.all comms.now.all (call.Unregister name) j) }
+        (λ j. HasVerdict limit targets.now.all comms.now.all (call.Unregister name) j) }
     ensures feasible { IfOk result
-        (λ j. IsFeasible boxes.now.all comms.now.all (call.Unregister name) j) }
+        (λ j. IsFeasible targets.now.all comms.now.all (call.Unregister name) j) }
 {
-    if !boxes.contains(&name) {
+    if !targets.contains(&name) {
         return Ok(stays(alloc, Reply::NoTarget));
     }
     let (ids, outgoing) = ids_and_closes(comms, alloc, &name)?;
@@ -229,7 +229,7 @@ fn ids_and_closes(
 
 /// What the register of a target of this kind and with these notes comes to.
 pub fn judge_register<T: Target>(
-    boxes: &TargetTable<T>,
+    targets: &TargetTable<T>,
     comms: &Comms,
     alloc: Global,
     name: &Text,
@@ -237,32 +237,32 @@ pub fn judge_register<T: Target>(
     notes: u64,
 ) -> Result<(Reply, Vec<Outgoing>, TableUpdate), AllocError>
     ensures verdict { IfOk result (λ r. (limit : ℕ)
-        → Done r.0 r.1.items (planned (machine_of boxes.now.all comms.now.all) r.2 None)
-        ≡ judged limit (machine_of boxes.now.all comms.now.all)
+        → Done r.0 r.1.items (planned (machine_of targets.now.all comms.now.all) r.2 None)
+        ≡ judged limit (machine_of targets.now.all comms.now.all)
         (call.Register name.now kind notes)) }
-    ensures plan { IfOk result (λ r. r.2 ≡ registering boxes.now.all name.now kind notes) }
+    ensures table_update { IfOk result (λ r. r.2 ≡ registering targets.now.all name.now kind notes) }
 {
     let key = name.copy()?;
-    if !boxes.contains(name) {
-        let plan = TableUpdate::Register {
+    if !targets.contains(name) {
+        let table_update = TableUpdate::Register {
             name: key,
             kind,
             notes,
         };
-        return Ok((Reply::Registered, Vec::new(alloc), plan));
+        return Ok((Reply::Registered, Vec::new(alloc), table_update));
     }
     let (ids, outgoing) = ids_and_closes(comms, alloc, name)?;
-    let plan = TableUpdate::Replace {
+    let table_update = TableUpdate::Replace {
         name: key,
         kind,
         notes,
     };
-    Ok((Reply::Replaced(ids), outgoing, plan))
+    Ok((Reply::Replaced(ids), outgoing, table_update))
 }
 
 /// The comm's id, and the target's name, which shares the memory of the target's own.
 fn launch_names<T: Target>(
-    boxes: &TargetTable<T>,
+    targets: &TargetTable<T>,
     alloc: Global,
     id: &Uuid,
     target: Text,
@@ -270,12 +270,12 @@ fn launch_names<T: Target>(
     ensures { IfOk result (λ r. r ≡ (comm_id id.now, target)) }
 {
     let id = comm_id(alloc, id)?;
-    let target = boxes.shared(target)?;
+    let target = targets.shared(target)?;
     Ok((id, target))
 }
 
 fn judge_launch<T: Target>(
-    boxes: &TargetTable<T>,
+    targets: &TargetTable<T>,
     comms: &Comms,
     limit: usize,
     alloc: Global,
@@ -284,19 +284,19 @@ fn judge_launch<T: Target>(
     state: Dict,
 ) -> Decision
     ensures verdict { (uuid : List ℕ) → id ≡ comm_id uuid
-        → HasVerdict limit boxes.now.all comms.now.all (call.Launch uuid target state) result }
+        → HasVerdict limit targets.now.all comms.now.all (call.Launch uuid target state) result }
     ensures feasible { (uuid : List ℕ)
-        → IsFeasible boxes.now.all comms.now.all (call.Launch uuid target state) result }
+        → IsFeasible targets.now.all comms.now.all (call.Launch uuid target state) result }
 {
     if comms.contains(&id) {
         drop(state);
         return stays(alloc, Reply::IdInUse);
     }
-    if !boxes.contains(&target) {
+    if !targets.contains(&target) {
         drop(state);
         return stays(alloc, Reply::NoTarget);
     }
-    if !boxes.has_widget(&target) {
+    if !targets.has_widget(&target) {
         drop(state);
         return stays(alloc, Reply::NotWidget);
     }
@@ -312,23 +312,23 @@ fn judge_launch<T: Target>(
 }
 
 fn judge_push<T: Target>(
-    boxes: &TargetTable<T>,
+    targets: &TargetTable<T>,
     comms: &Comms,
     alloc: Global,
     id: Text,
     state: Dict,
 ) -> Result<Decision, AllocError>
-    requires { Agrees (unstaged boxes.now.all) comms.now.all }
+    requires { Agrees (unstaged targets.now.all) comms.now.all }
     ensures verdict { (limit : ℕ) → IfOk result
-        (λ j. HasVerdict limit boxes.now.all comms.now.all (call.Push id state) j) }
+        (λ j. HasVerdict limit targets.now.all comms.now.all (call.Push id state) j) }
     ensures feasible { IfOk result
-        (λ j. IsFeasible boxes.now.all comms.now.all (call.Push id state) j) }
+        (λ j. IsFeasible targets.now.all comms.now.all (call.Push id state) j) }
 {
     let Some(comm) = comms.get(&id) else {
         drop(state);
         return Ok(stays(alloc, Reply::NoComm));
     };
-    if !boxes.has_widget(&comm.target) {
+    if !targets.has_widget(&comm.target) {
         drop(state);
         return Ok(stays(alloc, Reply::NotWidget));
     }
@@ -336,10 +336,10 @@ fn judge_push<T: Target>(
 }
 
 fn judge_send(comms: &Comms, alloc: Global, id: Text, body: Body) -> Result<Decision, AllocError>
-    ensures verdict { (limit : ℕ) (boxes : Targets) → IfOk result
-        (λ j. HasVerdict limit boxes comms.now.all (call.Send id body) j) }
-    ensures feasible { (boxes : Targets) → IfOk result
-        (λ j. IsFeasible boxes comms.now.all (call.Send id body) j) }
+    ensures verdict { (limit : ℕ) (targets : Targets) → IfOk result
+        (λ j. HasVerdict limit targets comms.now.all (call.Send id body) j) }
+    ensures feasible { (targets : Targets) → IfOk result
+        (λ j. IsFeasible targets comms.now.all (call.Send id body) j) }
 {
     if !comms.contains(&id) {
         drop(body);
@@ -350,10 +350,10 @@ fn judge_send(comms: &Comms, alloc: Global, id: Text, body: Body) -> Result<Deci
 }
 
 fn judge_hang_up(comms: &Comms, alloc: Global, id: Text) -> Result<Decision, AllocError>
-    ensures verdict { (limit : ℕ) (boxes : Targets) → IfOk result
-        (λ j. HasVerdict limit boxes comms.now.all (call.HangUp id) j) }
-    ensures feasible { (boxes : Targets) → IfOk result
-        (λ j. IsFeasible boxes comms.now.all (call.HangUp id) j) }
+    ensures verdict { (limit : ℕ) (targets : Targets) → IfOk result
+        (λ j. HasVerdict limit targets comms.now.all (call.HangUp id) j) }
+    ensures feasible { (targets : Targets) → IfOk result
+        (λ j. IsFeasible targets comms.now.all (call.HangUp id) j) }
 {
     if !comms.contains(&id) {
         return Ok(stays(alloc, Reply::NoComm));

@@ -107,7 +107,7 @@ pub fn widgets_have_their_opening_state_merged_with_their_updates()
         → MergesUpdates h (replay comms h) }
 {}
 
-/// The comms of an Echo, a Counter or a Plain target have no state.
+/// The comms of an Echo, a Counter, a Plain or an Opaque target have no state.
 pub fn some_kinds_have_no_states()
     ensures { (clients comms : ℕ) (h : List Entry) → IsLegal clients comms h
         → LeavesSomeStateless h (replay comms h) }

@@ -45,6 +45,7 @@ pub use laws::{
 };
 pub use limits::{Limits, NewFault};
 pub use manager::Core;
+pub use outgoing::comm_id;
 pub use prepared_change::{Finished, PreparedChange, Ready};
 pub use reply::{Refusal, Reply, StateAnswer};
 pub use row::{OpenComm, Row};

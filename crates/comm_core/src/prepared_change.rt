@@ -12,17 +12,17 @@ use std::snapshot::Snapshot;
 /// A change that stands ready, for which no memory has to be taken any more.
 ///
 /// [`Core::prepare`](crate::Core::prepare) gives it, or [`Ready::into_parts`]. It has spent its call: contracts alone
-/// see that one, and what it had in it is in the update of the table, or goes out. It can't be dropped: `Core::commit` or
-/// `Core::abort` takes it.
+/// see that one, and what it had in it is in the update of the table, or goes out. It can't be dropped:
+/// `Core::commit` or `Core::abort` takes it.
 #[must_use]
 pub struct PreparedChange<T: Target> {
     pub(crate) call: Snapshot<Call>,
     pub(crate) outcome: Option<Result<Answer, TargetFault>>,
     pub(crate) reply: Reply,
     pub(crate) outgoing: Vec<Outgoing>,
-    pub(crate) plan: TableUpdate,
+    pub(crate) table_update: TableUpdate,
     // The target that a register handed in.
-    pub(crate) boxed: Option<T>,
+    pub(crate) registered: Option<T>,
 }
 
 impl<T: Target> Model for PreparedChange<T> {
@@ -34,8 +34,8 @@ impl<T: Target> Model for PreparedChange<T> {
 
     ghost coded = { readied_code };
 
-    ghost view = { λ p. readied p.call.value p.outcome p.reply p.outgoing.items p.plan
-        (option_map T.means p.boxed) };
+    ghost view = { λ p. readied p.call.value p.outcome p.reply p.outgoing.items p.table_update
+        (option_map T.means p.registered) };
 }
 
 /// A prepared change with its call, which the caller keeps, as for an entry of a history.

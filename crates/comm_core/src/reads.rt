@@ -1,5 +1,6 @@
 //! What a manager is asked without changing it.
 ghost use Rattle.std.specs.Prelude.{◌≡◌, IfOk, option_map};
+ghost use Rattle.comm_core.specs.Machine.{at, has};
 ghost use Rattle.comm_core.specs.Reads.{infos, state_of};
 ghost use Rattle.comm_core.specs.Ready.{machine};
 
@@ -8,7 +9,7 @@ use crate::judge::state_copy;
 use crate::manager::Core;
 use crate::reply::StateAnswer;
 use comm_messages::Infos;
-use comm_targets::Target;
+use comm_targets::{Kind, Target};
 use comm_value::Text;
 use std::alloc::AllocError;
 
@@ -32,6 +33,31 @@ impl<T: Target> Core<T> {
     {
         let whole = self.comms.keep_listing(self.alloc)?;
         part_of(self.alloc, whole, target)
+    }
+
+    /// Whether a comm of this id is open.
+    pub fn has_comm(&self, id: &Text) -> bool
+        ensures { result ≡ has (machine self.now).comms id.now }
+    {
+        self.comms.contains(id)
+    }
+
+    /// The name of the target of an open comm; None where no comm has the id.
+    pub fn target_of(&self, id: &Text) -> Option<&Text>
+        ensures { option_map (λ t. t.now) result
+            ≡ option_map (λ c. c.target) (at (machine self.now).comms id.now) }
+    {
+        match self.comms.get(id) {
+            Some(comm) => Some(&comm.target),
+            None => None,
+        }
+    }
+
+    /// The kind of the target of this name; None where no target has it.
+    pub fn kind_of(&self, name: &Text) -> Option<Kind>
+        ensures { result ≡ option_map (λ r. r.kind) (at (machine self.now).targets name.now) }
+    {
+        self.targets.kind_of(name)
     }
 
     /// The state of a comm, shared: no value of it is copied. Err: out of memory.

@@ -1,6 +1,6 @@
 //! What a change does to the comms that readers see.
 ghost use Rattle.std.specs.Prelude.{◌≡◌, IfOk};
-ghost use Rattle.comm_core.specs.Planned.{answered_row, done_row, planned_row};
+ghost use Rattle.comm_core.specs.Planned.{answered_row, done_row, updated_row};
 ghost use Rattle.comm_core.specs.Ready.{CoreValue, IsReady, row_at};
 ghost use Rattle.comm_core.specs.Row.{closed_row, ended_row, put_row, stated_row};
 
@@ -180,16 +180,16 @@ fn done_row(alloc: Global, call: &Call, reply: &Reply) -> Result<Row, AllocError
     }
 }
 
-fn planned_row(
+fn updated_row(
     alloc: Global,
-    plan: &TableUpdate,
+    table_update: &TableUpdate,
     outcome: &Option<Result<Answer, TargetFault>>,
     call: &Call,
     reply: &Reply,
 ) -> Result<Row, AllocError>
-    ensures { IfOk result (λ r. r ≡ planned_row plan.now outcome.now call.now reply.now) }
+    ensures { IfOk result (λ r. r ≡ updated_row table_update.now outcome.now call.now reply.now) }
 {
-    if let TableUpdate::Commit(request) = plan {
+    if let TableUpdate::Commit(request) = table_update {
         if let Some(Ok(answer)) = outcome {
             return answered_row(alloc, request, answer);
         }
@@ -213,6 +213,6 @@ impl<T: Target> PreparedChange<T> {
         ensures { (s : CoreValue) → IsReady s self.now → call.now ≡ self.now.call
             → IfOk result (λ r. r ≡ row_at s self.now) }
     {
-        planned_row(alloc, &self.plan, &self.outcome, call, &self.reply)
+        updated_row(alloc, &self.table_update, &self.outcome, call, &self.reply)
     }
 }

@@ -8,7 +8,7 @@ ghost use Rattle.comm_targets.specs.Answers.{MayAnswer, MayRefuse};
 ghost use Rattle.comm_targets.specs.declared.staged_event.StagedEvent.{StagedEvent};
 ghost use Rattle.comm_core.specs.Machine.{at, has, without, with_at};
 ghost use Rattle.comm_core.specs.Step.{holds_widget};
-ghost use Rattle.comm_core.specs.Tables.{targets_of, entry_of, BoxesMean};
+ghost use Rattle.comm_core.specs.Tables.{targets_of, entry_of, TargetsMean};
 
 use crate::comms::Comms;
 use comm_targets::{Answer, Event, Held, Kind, Target, TargetFault};
@@ -32,11 +32,11 @@ impl<T: Target> Model for TargetTable<T> {
     ghost use Rattle.std.specs.Prelude.{map, vec_len, vec_capacity, ◌-◌};
     ghost use Rattle.comm_core.specs.Tables.{Table};
     ghost use Rattle.comm_targets.specs.Meaning.{Meaning};
-    ghost use Rattle.comm_core.specs.Code.{boxes_code};
+    ghost use Rattle.comm_core.specs.Code.{targets_code};
 
     ghost Value = { Table Meaning };
 
-    ghost coded = { boxes_code };
+    ghost coded = { targets_code };
 
     ghost view = { λ t. record {
       all = map (λ n. (n.name, n.held)) t.all.items;
@@ -95,6 +95,16 @@ impl<T: Target> TargetTable<T> {
             }
         }
         Ok(name)
+    }
+
+    /// The kind of the target of this name; None where no target has it.
+    pub fn kind_of(&self, name: &Text) -> Option<Kind>
+        ensures { result ≡ option_map (λ r. r.kind) (at (targets_of self.now.all) name.now) }
+    {
+        match self.place_of(name) {
+            Some(i) => Some(self.all[i].held.kind()),
+            None => None,
+        }
     }
 
     /// Whether a widget has the name.
@@ -218,7 +228,7 @@ impl<T: Target> TargetTable<T> {
 
     /// Closes each comm in its target, then ends the target, and says how many targets it ended. It takes no memory.
     pub fn end_all(mut self, comms: &Comms) -> usize
-        requires { BoxesMean self.all comms.now.all }
+        requires { TargetsMean self.all comms.now.all }
         ensures { result ≡ length self.all }
     {
         let ended = self.len();

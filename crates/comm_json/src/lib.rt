@@ -24,4 +24,4 @@ pub use json_number::{NumberRef, is_decimal, number_in};
 pub use json_ref::{ItemsRef, JsonKind, JsonRef, LineMembers, LineValue, ObjectRef};
 pub use laws::lines_have_numbers_in_range;
 pub use ranges::numbers_are_in_range;
-pub use reading::{JsonFault, ParseArena, read_line};
+pub use reading::{JsonFault, ParseArena, TextScratch, read_among, read_line};

@@ -10,11 +10,27 @@ use json::{Error as ReadError, Reader, Scratch, Value};
 use std::alloc::Global;
 use thiserror::Error;
 
+/// The memory that the strings of a text are parsed into: keep one from text to text. It holds as much as the longest
+/// text so far needed.
+#[derive(Drop)]
+pub struct TextScratch {
+    inner: Scratch,
+}
+
+impl TextScratch {
+    /// An empty one, which has allocated nothing.
+    pub fn new(alloc: Global) -> TextScratch {
+        TextScratch {
+            inner: Scratch::new(alloc),
+        }
+    }
+}
+
 /// The memory that [`read_line`] parses into. Keep one from line to line: it holds as much as the longest line and the
 /// largest tree so far needed.
 #[derive(Drop)]
 pub struct ParseArena {
-    texts: Scratch,
+    texts: TextScratch,
     lists: Bump,
 }
 
@@ -22,7 +38,7 @@ impl ParseArena {
     /// An empty arena, which has allocated nothing.
     pub fn new(alloc: Global) -> ParseArena {
         ParseArena {
-            texts: Scratch::new(alloc),
+            texts: TextScratch::new(alloc),
             lists: Bump::new(alloc),
         }
     }
@@ -48,23 +64,41 @@ pub fn read_line<'a>(line: &'a [u8], arena: &'a mut ParseArena) -> Result<LineVa
     ensures value { IfOk result (λ v. line_value line.now ≡ Some (tidy (value_view v))) }
     ensures fault { IfErr result (λ e. e ≡ NotJson → line_value line.now ≡ None) }
 {
+    let ParseArena { texts, lists } = arena;
+    // The lists of the last line were dropped. If one were left, the arena would grow instead of being emptied.
+    let _ = lists.reset();
+    read_among(line, texts, &*lists)
+}
+
+/// Parses a text as one JSON value (RFC 8259). Strings are slices of the text, or of the scratch where they have escapes;
+/// lists stand in the arena, beside those of other values. So several texts can be read, each with a scratch of its own,
+/// while the values of the others are in use. Err: NotJson or Memory.
+pub fn read_among<'a>(
+    line: &'a [u8],
+    scratch: &'a mut TextScratch,
+    lists: &'a Bump,
+) -> Result<LineValue<'a>, JsonFault>
+    ensures value { IfOk result (λ v. line_value line.now ≡ Some (tidy (value_view v))) }
+    ensures fault { IfErr result (λ e. e ≡ NotJson → line_value line.now ≡ None) }
+{
     match simdutf8::compat::from_utf8(line) {
-        Ok(text) => read_text(text, arena),
+        Ok(text) => read_text(text, scratch, lists),
         Err(_) => Err(JsonFault::NotJson),
     }
 }
 
-fn read_text<'a>(text: &'a str, arena: &'a mut ParseArena) -> Result<LineValue<'a>, JsonFault>
+fn read_text<'a>(
+    text: &'a str,
+    scratch: &'a mut TextScratch,
+    lists: &'a Bump,
+) -> Result<LineValue<'a>, JsonFault>
     ensures value { IfOk result (λ v. text_value text.now ≡ Some (tidy (value_view v))) }
     ensures fault { IfErr result (λ e. e ≡ NotJson → text_value text.now ≡ None) }
 {
-    let ParseArena { texts, lists } = arena;
-    // The lists of the last line were dropped. If one were left, the arena would grow instead of being emptied.
-    let _ = lists.reset();
-    let Ok(mut reader) = Reader::new(text, texts) else {
+    let Ok(mut reader) = Reader::new(text, &mut scratch.inner) else {
         return Err(JsonFault::Memory);
     };
-    match Value::read(&*lists, &mut reader, DEPTH) {
+    match Value::read(lists, &mut reader, DEPTH) {
         Ok(value) => if reader.next().is_none() && numbers_are_in_range(&value) {
             Ok(value)
         } else {

@@ -1,4 +1,4 @@
--- No line is NotWhole where any number is taken.
+-- No line is NotWhole where any number is taken, and no parts are.
 use Rattle.std.proofs.Common.{◌≡◌, ℕ, suc, ℤ, pos, negsuc, List, [], ◌∷◌, Bool, true, false, cond}
 use Rattle.std.proofs.Common.{Option, Some, None, Ok, Err, refl, sym, ap, ◌∙◌, subst}
 use Rattle.std.specs.Prelude.{⊤, is_some, option_and_then, codes, nat_lt}
@@ -17,8 +17,10 @@ use Rattle.comm_messages.specs.Gives.{Reading}
 use Rattle.comm_messages.specs.Content.{Content}
 use Rattle.comm_messages.specs.Fields.{members_in, object_in, object_or_empty, text, text_or_none, below, client_of}
 use Rattle.comm_messages.specs.Buffers.{buffer_of, buffers_from, buffers_of}
-use Rattle.comm_messages.specs.Message.{type_named, type_of, heading, text_at, object_at, dict_of, body_of, open_in, msg_in}
-use Rattle.comm_messages.specs.Message.{unused_in, close_in, filter_at, info_request_in, incoming_in, message_in, message}
+use Rattle.comm_messages.specs.Envelope.{Envelope, of_line, of_parts}
+use Rattle.comm_messages.specs.Message.{type_named, type_of, heading, text_at, object_of, object_at, dict_of, body_with, open_in}
+use Rattle.comm_messages.specs.Message.{msg_in, unused_in, close_in, filter_at, info_request_in, incoming_in, message_from}
+use Rattle.comm_messages.specs.Message.{message_in, message, envelope_in, message_by_parts}
 use Rattle.comm_messages.specs.declared.fault.Field.{Field}
 use Rattle.comm_messages.specs.declared.fault.Field.TheVariants as field
 use Rattle.comm_messages.specs.declared.fault.MessageFault.{MessageFault}
@@ -108,13 +110,11 @@ client_read clients (Some (string s)) = bad_client
 client_read clients (Some (array js)) = bad_client
 client_read clients (Some (object ms)) = bad_client
 
-head_read : (clients : ℕ) (line : Members) → Fine anything (heading clients line)
+head_read : (clients : ℕ) (e : Envelope) → Fine anything (heading clients e)
 unfolding heading
-head_read clients line =
-    then anything anything (client_of clients (get_member (codes "client") line)) _
-    (client_read clients (get_member (codes "client") line))
-    (λ client _. then anything anything (type_of (get_member (codes "header") line)) _
-    (typed (get_member (codes "header") line)) (λ type _. tt))
+head_read clients e =
+    then anything anything (client_of clients e.client) _ (client_read clients e.client)
+    (λ client _. then anything anything (type_of e.header) _ (typed e.header) (λ type _. tt))
 
 text_read : (f : Field) (key : List ℕ) (ms : Members) → Fine anything (text_at f key ms)
 text_read f key ms =
@@ -147,10 +147,12 @@ members_there (Some (string s)) h = tt
 members_there (Some (array js)) h = tt
 members_there (Some (object ms)) h = h
 
+value_read : (f : Field) (value : Option Json) → IfFound value → Fine MembersInRange (object_of f value)
+value_read f value h =
+    or_other MembersInRange (BadContent f) (object_or_empty value) (bad_content f) (members_there value h)
+
 object_read : (f : Field) (key : List ℕ) (ms : Members) → MembersInRange ms → Fine MembersInRange (object_at f key ms)
-object_read f key ms h =
-    or_other MembersInRange (BadContent f) (object_or_empty (get_member key ms)) (bad_content f)
-    (members_there (get_member key ms) (in_member key ms h))
+object_read f key ms h = value_read f (get_member key ms) (in_member key ms h)
 
 taken_at : (o : Option tree.Members) → is_some o ≡ true → Fine anything (or_fault NotWhole o)
 taken_at None h = cc
@@ -162,79 +164,95 @@ dict_read ms h = taken_at (members_of Any ms) (members_taken ms h)
 abbrev body : tree.Members → List (List ℕ) → Reading Content
 body content buffers = Ok (record { content = content; buffers = buffers })
 
-abbrev with_buffers : Members → tree.Members → Reading Content
-with_buffers line content = buffers_of (get_member (codes "buffers") line) >>= body content
+abbrev with_buffers : Reading (List (List ℕ)) → tree.Members → Reading Content
+with_buffers buffers content = buffers >>= body content
 
-body_read : (ms line : Members) → MembersInRange ms → Fine anything (body_of Any ms line)
-body_read ms line h =
-    then anything anything (dict_of Any ms) (with_buffers line) (dict_read ms h)
-    (λ content _. then anything anything (buffers_of (get_member (codes "buffers") line)) (body content)
-    (buffers_read (get_member (codes "buffers") line)) (λ bs _. tt))
+body_read : (ms : Members) (buffers : Reading (List (List ℕ))) → MembersInRange ms → Fine anything buffers
+    → Fine anything (body_with Any ms buffers)
+body_read ms buffers h k =
+    then anything anything (dict_of Any ms) (with_buffers buffers) (dict_read ms h)
+    (λ content _. then anything anything buffers (body content) k (λ bs _. tt))
 
 -- ---- messages
 
-open_read : (line content : Members) → MembersInRange line → MembersInRange content → Fine anything (open_in Any line content)
+-- the numbers of its objects are in range
+record InRange (e : Envelope) : Type 0 where
+  pub content : IfFound e.content
+  pub metadata : IfFound e.metadata
+  pub buffers : Fine anything e.buffers
+
+open_read : (e : Envelope) (content : Members) → InRange e → MembersInRange content → Fine anything (open_in Any e content)
 unfolding open_in
-open_read line content h k =
+open_read e content h k =
     then anything anything (text_at field.CommId (codes "comm_id") content) _
     (text_read field.CommId (codes "comm_id") content)
     (λ id _. then anything anything (text_at field.TargetName (codes "target_name") content) _
     (text_read field.TargetName (codes "target_name") content)
     (λ target _. then MembersInRange anything (object_at field.Body (codes "data") content) _
     (object_read field.Body (codes "data") content k)
-    (λ dict d. then MembersInRange anything (object_at field.Metadata (codes "metadata") line) _
-    (object_read field.Metadata (codes "metadata") line h)
-    (λ metadata _. then anything anything (body_of Any dict line) _ (body_read dict line d) (λ body _. tt)))))
+    (λ dict d. then MembersInRange anything (object_of field.Metadata e.metadata) _
+    (value_read field.Metadata e.metadata h.metadata)
+    (λ metadata _. then anything anything (body_with Any dict e.buffers) _ (body_read dict e.buffers d h.buffers)
+    (λ body _. tt)))))
 
-msg_read : (line content : Members) → MembersInRange line → MembersInRange content → Fine anything (msg_in Any line content)
+msg_read : (e : Envelope) (content : Members) → InRange e → MembersInRange content → Fine anything (msg_in Any e content)
 unfolding msg_in
-msg_read line content h k =
+msg_read e content h k =
     then anything anything (text_at field.CommId (codes "comm_id") content) _
     (text_read field.CommId (codes "comm_id") content)
     (λ id _. then MembersInRange anything (object_at field.Body (codes "data") content) _
     (object_read field.Body (codes "data") content k)
-    (λ dict d. then MembersInRange anything (object_at field.Metadata (codes "metadata") line) _
-    (object_read field.Metadata (codes "metadata") line h)
-    (λ metadata _. then anything anything (body_of Any dict line) _ (body_read dict line d) (λ body _. tt))))
+    (λ dict d. then MembersInRange anything (object_of field.Metadata e.metadata) _
+    (value_read field.Metadata e.metadata h.metadata)
+    (λ metadata _. then anything anything (body_with Any dict e.buffers) _ (body_read dict e.buffers d h.buffers)
+    (λ body _. tt))))
 
-unused_read : (line : Members) → MembersInRange line → Fine anything (unused_in line)
-unused_read line h =
-    then MembersInRange anything (object_at field.Metadata (codes "metadata") line)
-    (λ metadata. buffers_of (get_member (codes "buffers") line))
-    (object_read field.Metadata (codes "metadata") line h) (λ metadata _. buffers_read (get_member (codes "buffers") line))
+unused_read : (e : Envelope) → InRange e → Fine anything (unused_in e)
+unused_read e h =
+    then MembersInRange anything (object_of field.Metadata e.metadata) (λ metadata. e.buffers)
+    (value_read field.Metadata e.metadata h.metadata) (λ metadata _. h.buffers)
 
-close_read : (line content : Members) → MembersInRange line → MembersInRange content → Fine anything (close_in line content)
+close_read : (e : Envelope) (content : Members) → InRange e → MembersInRange content → Fine anything (close_in e content)
 unfolding close_in
-close_read line content h k =
+close_read e content h k =
     then anything anything (text_at field.CommId (codes "comm_id") content) _
     (text_read field.CommId (codes "comm_id") content)
     (λ id _. then MembersInRange anything (object_at field.Body (codes "data") content) _
     (object_read field.Body (codes "data") content k)
-    (λ dict _. then anything anything (unused_in line) _ (unused_read line h) (λ unused _. tt)))
+    (λ dict _. then anything anything (unused_in e) _ (unused_read e h) (λ unused _. tt)))
 
-info_request_read : (line content : Members) → MembersInRange line → Fine anything (info_request_in line content)
+info_request_read : (e : Envelope) (content : Members) → InRange e → Fine anything (info_request_in e content)
 unfolding info_request_in
-info_request_read line content h =
+info_request_read e content h =
     then anything anything (filter_at (codes "target_name") content) _
     (or_other anything (BadContent field.TargetName) (text_or_none (get_member (codes "target_name") content))
     (bad_content field.TargetName) (there (text_or_none (get_member (codes "target_name") content))))
-    (λ target _. then anything anything (unused_in line) _ (unused_read line h) (λ unused _. tt))
+    (λ target _. then anything anything (unused_in e) _ (unused_read e h) (λ unused _. tt))
 
-incoming_read : (t : MessageType) (line content : Members) → MembersInRange line → MembersInRange content
-    → Fine anything (incoming_in Any t line content)
-incoming_read type.Open line content h k = open_read line content h k
-incoming_read type.Msg line content h k = msg_read line content h k
-incoming_read type.Close line content h k = close_read line content h k
-incoming_read type.InfoRequest line content h k = info_request_read line content h
+incoming_read : (t : MessageType) (e : Envelope) (content : Members) → InRange e → MembersInRange content
+    → Fine anything (incoming_in Any t e content)
+incoming_read type.Open e content h k = open_read e content h k
+incoming_read type.Msg e content h k = msg_read e content h k
+incoming_read type.Close e content h k = close_read e content h k
+incoming_read type.InfoRequest e content h k = info_request_read e content h
 
-members_read : (clients : ℕ) (line : Members) → MembersInRange line → Fine anything (message_in clients Any line)
-unfolding message_in
-members_read clients line h =
-    then anything anything (heading clients line) _ (head_read clients line)
-    (λ head _. then MembersInRange anything (object_at field.Content (codes "content") line) _
-    (object_read field.Content (codes "content") line h)
-    (λ content k. then anything anything (incoming_in Any head.1 line content) _
-    (incoming_read head.1 line content h k) (λ i _. tt)))
+envelope_read : (clients : ℕ) (e : Envelope) → InRange e → Fine anything (message_from clients Any e)
+unfolding message_from
+envelope_read clients e h =
+    then anything anything (heading clients e) _ (head_read clients e)
+    (λ head _. then MembersInRange anything (object_of field.Content e.content) _
+    (value_read field.Content e.content h.content)
+    (λ content k. then anything anything (incoming_in Any head.1 e content) _
+    (incoming_read head.1 e content h k) (λ i _. tt)))
+
+-- ---- a line
+
+members_in_range : (line : Members) → MembersInRange line → InRange (of_line line)
+members_in_range line h = record {
+  content = in_member (codes "content") line h;
+  metadata = in_member (codes "metadata") line h;
+  buffers = buffers_read (get_member (codes "buffers") line);
+}
 
 members_found : (o : Option Json) → IfFound o → IfThere MembersInRange (option_and_then members_in o)
 members_found None h = tt
@@ -254,7 +272,28 @@ line_read clients line =
     then MembersInRange anything (object_in line) (message_in clients Any)
     (or_other MembersInRange NotJson (option_and_then members_in (line_value line)) not_json
     (members_found (line_value line) (value_found (line_value line) (in_line line))))
-    (λ ms h. members_read clients ms h)
+    (λ ms h. envelope_read clients (of_line ms) (members_in_range ms h))
+
+-- ---- parts
+
+value_there : (o : Option Json) → IfFound o → IfThere NumbersInRange o
+value_there None h = tt
+value_there (Some j) h = h
+
+json_read : (text : List ℕ) → Fine NumbersInRange (or_fault NotJson (line_value text))
+json_read text =
+    or_other NumbersInRange NotJson (line_value text) not_json
+    (value_there (line_value text) (value_found (line_value text) (in_line text)))
+
+parts_read : (clients client : ℕ) (header metadata content : List ℕ) (buffers : List (List ℕ))
+    → Fine anything (message_by_parts clients Any client header metadata content buffers)
+parts_read clients client header metadata content buffers =
+    then InRange anything (envelope_in client header metadata content buffers) (message_from clients Any)
+    (then NumbersInRange InRange (or_fault NotJson (line_value header)) _ (json_read header)
+    (λ a _. then NumbersInRange InRange (or_fault NotJson (line_value metadata)) _ (json_read metadata)
+    (λ b in_b. then NumbersInRange InRange (or_fault NotJson (line_value content)) _ (json_read content)
+    (λ c in_c. record { content = in_c; metadata = in_b; buffers = tt }))))
+    (λ e h. envelope_read clients e h)
 
 other_fault : {A : Type 0} (r : Reading A) → Fine anything r → r ≡ Err NotWhole → ⊥
 other_fault (Ok x) h e = cc
@@ -262,3 +301,8 @@ other_fault (Err fault) h e = h (cc)
 
 pub never_not_whole : (clients : ℕ) (line : List ℕ) → message clients Any line ≡ Err NotWhole → ⊥
 never_not_whole clients line = other_fault _ (line_read clients line)
+
+pub never_not_whole_by_parts : (clients client : ℕ) (header metadata content : List ℕ) (buffers : List (List ℕ))
+    → message_by_parts clients Any client header metadata content buffers ≡ Err NotWhole → ⊥
+never_not_whole_by_parts clients client header metadata content buffers =
+    other_fault _ (parts_read clients client header metadata content buffers)

@@ -7,5 +7,5 @@ use Rattle.comm_value.specs.FromJson.{members_of}
 use Rattle.comm_value.specs.declared.from_json.Numbers.{Numbers}
 use Rattle.comm_value.proofs.NoBytes.{read_members}
 
-pub no_bytes : (taken : Numbers) (ms : json.Members) (d : Members) → members_of taken ms ≡ Some d → members_have_bytes d ≡ false
+pub no_bytes : (numbers : Numbers) (ms : json.Members) (d : Members) → members_of numbers ms ≡ Some d → members_have_bytes d ≡ false
 no_bytes = read_members

@@ -31,7 +31,7 @@ use Rattle.comm_messages.specs.Buffers.{buffers_from}
 use Rattle.comm_messages.specs.Fields.{fields_of}
 use Rattle.comm_messages.specs.Listed.{IdsAreInOrder}
 use Rattle.comm_messages.specs.declared.infos.Info.{Info}
-use Rattle.comm_messages.specs.Message.{message_of, message_in, heading, open_in, msg_in, close_in}
+use Rattle.comm_messages.specs.Message.{message_of, message_from, message_in, heading, open_in, msg_in, close_in}
 use Rattle.comm_messages.specs.Text.{text as written, Parts, client_in, buffer_texts, comm_members, json_of, parts_of}
 use Rattle.comm_messages.specs.ReadAgain.{number_in, IsTaken, IsKept, ItemsKept, MembersKept, InfosKept, MessageKept, ObjectSaysMessage, TextIsItsObject, TextIsReadAgain}
 use Rattle.comm_messages.specs.declared.fault.MessageFault.TheVariants.{BadBuffer}
@@ -46,33 +46,33 @@ use Rattle.comm_messages.proofs.ObjectLemmas.{object_read}
 
 -- ---- a value without bytes is what its JSON is read as
 
-other_again : (taken : Numbers) (s : List ℕ) → IsTaken taken s → number_of taken s (whole_of s) ≡ Some (decimal s)
+other_again : (numbers : Numbers) (s : List ℕ) → IsTaken numbers s → number_of numbers s (whole_of s) ≡ Some (decimal s)
 other_again Whole s h = absurd h
 other_again Any s h = ap (number_of Any s) (decimal_not_whole s h.0) ∙ ap (λ b. cond b (Some (decimal s)) None) h.0
 
 mutual
-  tree_again : (taken : Numbers) (t : Tree) → IsKept taken t → has_bytes t ≡ false → tree_of taken (to.json_of t) ≡ Some t
-  tree_again taken null k h = refl
-  tree_again taken (boolean b) k h = refl
-  tree_again taken (whole (pos n)) k h = ap (number_of taken _) (whole_again (unsigned n) (pos n) refl (ltb-true _ _ k))
-  tree_again taken (whole (negsuc n)) k h = ap (number_of taken _) (whole_again (negative (negsuc n)) (negsuc n) refl (ltb-true _ _ k))
-  tree_again taken (decimal s) k h = other_again taken s k
-  tree_again taken (text s) k h = refl
-  tree_again taken (bytes b) k h = cc
-  tree_again taken (list ts) k h = ap (option_map list) (items_again taken ts k h)
-  tree_again taken (dict ms) k h = ap (option_map dict) (members_again taken ms k h)
+  tree_again : (numbers : Numbers) (t : Tree) → IsKept numbers t → has_bytes t ≡ false → tree_of numbers (to.json_of t) ≡ Some t
+  tree_again numbers null k h = refl
+  tree_again numbers (boolean b) k h = refl
+  tree_again numbers (whole (pos n)) k h = ap (number_of numbers _) (whole_again (unsigned n) (pos n) refl (ltb-true _ _ k))
+  tree_again numbers (whole (negsuc n)) k h = ap (number_of numbers _) (whole_again (negative (negsuc n)) (negsuc n) refl (ltb-true _ _ k))
+  tree_again numbers (decimal s) k h = other_again numbers s k
+  tree_again numbers (text s) k h = refl
+  tree_again numbers (bytes b) k h = cc
+  tree_again numbers (list ts) k h = ap (option_map list) (items_again numbers ts k h)
+  tree_again numbers (dict ms) k h = ap (option_map dict) (members_again numbers ms k h)
 
-  items_again : (taken : Numbers) (ts : Items) → ItemsKept taken ts → items_have_bytes ts ≡ false → items_of taken (to.json_items ts) ≡ Some ts
-  items_again taken no_items k h = refl
-  items_again taken (item t ts) k h =
+  items_again : (numbers : Numbers) (ts : Items) → ItemsKept numbers ts → items_have_bytes ts ≡ false → items_of numbers (to.json_items ts) ≡ Some ts
+  items_again numbers no_items k h = refl
+  items_again numbers (item t ts) k h =
       let p = or_parts (has_bytes t) (items_have_bytes ts) h in
-      ap (option_and_then (λ u. option_map (item u) (items_of taken (to.json_items ts)))) (tree_again taken t k.0 p.0) ∙ ap (option_map (item t)) (items_again taken ts k.1 p.1)
+      ap (option_and_then (λ u. option_map (item u) (items_of numbers (to.json_items ts)))) (tree_again numbers t k.0 p.0) ∙ ap (option_map (item t)) (items_again numbers ts k.1 p.1)
 
-  members_again : (taken : Numbers) (ms : Members) → MembersKept taken ms → members_have_bytes ms ≡ false → members_of taken (to.json_members ms) ≡ Some ms
-  members_again taken no_members k h = refl
-  members_again taken (member l t ms) k h =
+  members_again : (numbers : Numbers) (ms : Members) → MembersKept numbers ms → members_have_bytes ms ≡ false → members_of numbers (to.json_members ms) ≡ Some ms
+  members_again numbers no_members k h = refl
+  members_again numbers (member l t ms) k h =
       let p = or_parts (has_bytes t) (members_have_bytes ms) h in
-      ap (option_and_then (λ u. option_map (member l u) (members_of taken (to.json_members ms)))) (tree_again taken t k.1 p.0) ∙ ap (option_map (member l t)) (members_again taken ms k.2 p.1)
+      ap (option_and_then (λ u. option_map (member l u) (members_of numbers (to.json_members ms)))) (tree_again numbers t k.1 p.0) ∙ ap (option_map (member l t)) (members_again numbers ms k.2 p.1)
 
 -- ---- and its JSON is clean
 
@@ -80,31 +80,31 @@ first_key : (k : List ℕ) (ms : Members) → is_first k ms ≡ true → IsFirst
 first_key k no_members h = tt
 first_key k (member l t ms) h = is_less (key_cmp k l) h
 
-taken_clean : (taken : Numbers) (s : List ℕ) → IsTaken taken s → NumberClean s
+taken_clean : (numbers : Numbers) (s : List ℕ) → IsTaken numbers s → NumberClean s
 taken_clean Whole s h = absurd h
 taken_clean Any s h = other_clean s h.0 h.1
 
 mutual
-  tree_clean : (taken : Numbers) (t : Tree) → IsKept taken t → is_ordered t ≡ true → IsClean (to.json_of t)
-  tree_clean taken null h o = tt
-  tree_clean taken (boolean b) h o = tt
-  tree_clean taken (whole z) h o = whole_clean z h
-  tree_clean taken (decimal s) h o = taken_clean taken s h
-  tree_clean taken (text s) h o = h
-  tree_clean taken (bytes b) h o = tt
-  tree_clean taken (list ts) h o = items_clean taken ts h o
-  tree_clean taken (dict ms) h o = members_clean taken ms h o
+  tree_clean : (numbers : Numbers) (t : Tree) → IsKept numbers t → is_ordered t ≡ true → IsClean (to.json_of t)
+  tree_clean numbers null h o = tt
+  tree_clean numbers (boolean b) h o = tt
+  tree_clean numbers (whole z) h o = whole_clean z h
+  tree_clean numbers (decimal s) h o = taken_clean numbers s h
+  tree_clean numbers (text s) h o = h
+  tree_clean numbers (bytes b) h o = tt
+  tree_clean numbers (list ts) h o = items_clean numbers ts h o
+  tree_clean numbers (dict ms) h o = members_clean numbers ms h o
 
-  items_clean : (taken : Numbers) (ts : Items) → ItemsKept taken ts → items_ordered ts ≡ true → AreClean (to.json_items ts)
-  items_clean taken no_items h o = tt
-  items_clean taken (item t ts) h o = let p = both (is_ordered t) (items_ordered ts) o in (tree_clean taken t h.0 p.0, items_clean taken ts h.1 p.1)
+  items_clean : (numbers : Numbers) (ts : Items) → ItemsKept numbers ts → items_ordered ts ≡ true → AreClean (to.json_items ts)
+  items_clean numbers no_items h o = tt
+  items_clean numbers (item t ts) h o = let p = both (is_ordered t) (items_ordered ts) o in (tree_clean numbers t h.0 p.0, items_clean numbers ts h.1 p.1)
 
-  members_clean : (taken : Numbers) (ms : Members) → MembersKept taken ms → members_ordered ms ≡ true → MembersClean (to.json_members ms)
-  members_clean taken no_members h o = tt
-  members_clean taken (member k t ms) h o =
+  members_clean : (numbers : Numbers) (ms : Members) → MembersKept numbers ms → members_ordered ms ≡ true → MembersClean (to.json_members ms)
+  members_clean numbers no_members h o = tt
+  members_clean numbers (member k t ms) h o =
       let p = both (is_first k ms) (is_ordered t && members_ordered ms) o in
       let q = both (is_ordered t) (members_ordered ms) p.1 in
-      (h.0, first_key k ms p.0, tree_clean taken t h.1 q.0, members_clean taken ms h.2 q.1)
+      (h.0, first_key k ms p.0, tree_clean numbers t h.1 q.0, members_clean numbers ms h.2 q.1)
 
 -- ---- buffers
 
@@ -129,38 +129,38 @@ some_same h = cc
 client_known : (client : ℕ) → client < 2 ^ 64 → whole_of (decimal_text client) ≡ Some (pos client)
 client_known client small = whole_again (unsigned client) (pos client) refl small
 
-open_object : (clients : ℕ) (taken : Numbers) (parent : Parent) (id target version : List ℕ) (body : Content) → whole_of (decimal_text (client_in parent)) ≡ Some (pos (client_in parent)) → nat_lt (client_in parent) clients ≡ true
-    → members_of taken (to.json_members body.content) ≡ Some body.content → buffers_from 0 (buffer_texts body.buffers) ≡ Ok body.buffers
-    → message_of clients taken (json_of (parts_of (Open id target version body)) parent) ≡ Ok (client_in parent, incoming.Open id target (Some version) body)
-unfolding message_in heading open_in
-open_object clients taken (Call c n) id target version body known client values buffers = rw (known, client, values, buffers) refl
-open_object clients taken (Read c n) id target version body known client values buffers = rw (known, client, values, buffers) refl
+open_object : (clients : ℕ) (numbers : Numbers) (parent : Parent) (id target version : List ℕ) (body : Content) → whole_of (decimal_text (client_in parent)) ≡ Some (pos (client_in parent)) → nat_lt (client_in parent) clients ≡ true
+    → members_of numbers (to.json_members body.content) ≡ Some body.content → buffers_from 0 (buffer_texts body.buffers) ≡ Ok body.buffers
+    → message_of clients numbers (json_of (parts_of (Open id target version body)) parent) ≡ Ok (client_in parent, incoming.Open id target (Some version) body)
+unfolding message_from heading open_in
+open_object clients numbers (Call c n) id target version body known client values buffers = rw (known, client, values, buffers) refl
+open_object clients numbers (Read c n) id target version body known client values buffers = rw (known, client, values, buffers) refl
 
-msg_object : (clients : ℕ) (taken : Numbers) (parent : Parent) (id : List ℕ) (body : Content) → whole_of (decimal_text (client_in parent)) ≡ Some (pos (client_in parent)) → nat_lt (client_in parent) clients ≡ true
-    → members_of taken (to.json_members body.content) ≡ Some body.content → buffers_from 0 (buffer_texts body.buffers) ≡ Ok body.buffers
-    → message_of clients taken (json_of (parts_of (Msg id body)) parent) ≡ Ok (client_in parent, incoming.Msg id body)
-unfolding message_in heading msg_in
-msg_object clients taken (Call c n) id body known client values buffers = rw (known, client, values, buffers) refl
-msg_object clients taken (Read c n) id body known client values buffers = rw (known, client, values, buffers) refl
+msg_object : (clients : ℕ) (numbers : Numbers) (parent : Parent) (id : List ℕ) (body : Content) → whole_of (decimal_text (client_in parent)) ≡ Some (pos (client_in parent)) → nat_lt (client_in parent) clients ≡ true
+    → members_of numbers (to.json_members body.content) ≡ Some body.content → buffers_from 0 (buffer_texts body.buffers) ≡ Ok body.buffers
+    → message_of clients numbers (json_of (parts_of (Msg id body)) parent) ≡ Ok (client_in parent, incoming.Msg id body)
+unfolding message_from heading msg_in
+msg_object clients numbers (Call c n) id body known client values buffers = rw (known, client, values, buffers) refl
+msg_object clients numbers (Read c n) id body known client values buffers = rw (known, client, values, buffers) refl
 
-close_object : (clients : ℕ) (taken : Numbers) (parent : Parent) (id : List ℕ) → whole_of (decimal_text (client_in parent)) ≡ Some (pos (client_in parent)) → nat_lt (client_in parent) clients ≡ true
-    → message_of clients taken (json_of (parts_of (Close id)) parent) ≡ Ok (client_in parent, incoming.Close id)
-unfolding message_in heading close_in
-close_object clients taken (Call c n) id known client = rw (known, client) refl
-close_object clients taken (Read c n) id known client = rw (known, client) refl
+close_object : (clients : ℕ) (numbers : Numbers) (parent : Parent) (id : List ℕ) → whole_of (decimal_text (client_in parent)) ≡ Some (pos (client_in parent)) → nat_lt (client_in parent) clients ≡ true
+    → message_of clients numbers (json_of (parts_of (Close id)) parent) ≡ Ok (client_in parent, incoming.Close id)
+unfolding message_from heading close_in
+close_object clients numbers (Call c n) id known client = rw (known, client) refl
+close_object clients numbers (Read c n) id known client = rw (known, client) refl
 
 same_result : (c : ℕ) (i j : Incoming) (r : Reading (ℕ × Incoming)) → Some i ≡ Some j → r ≡ Ok (c, i) → r ≡ Ok (c, j)
 same_result c i j r h k = k ∙ ap (λ x. Ok (c, x)) (some_same h)
 
 pub object_says_message : ObjectSaysMessage
-object_says_message clients taken (Open id target version body) parent i is kept small client =
+object_says_message clients numbers (Open id target version body) parent i is kept small client =
     let k = kept.3 in
-    same_result _ _ _ _ is (open_object clients taken parent id target version body (client_known _ small) (lt-ltb _ _ client) (members_again taken body.content k.values k.plain) (buffers_again 0 body.buffers k.bytes))
-object_says_message clients taken (Msg id body) parent i is kept small client =
+    same_result _ _ _ _ is (open_object clients numbers parent id target version body (client_known _ small) (lt-ltb _ _ client) (members_again numbers body.content k.values k.plain) (buffers_again 0 body.buffers k.bytes))
+object_says_message clients numbers (Msg id body) parent i is kept small client =
     let k = kept.1 in
-    same_result _ _ _ _ is (msg_object clients taken parent id body (client_known _ small) (lt-ltb _ _ client) (members_again taken body.content k.values k.plain) (buffers_again 0 body.buffers k.bytes))
-object_says_message clients taken (Close id) parent i is kept small client = same_result _ _ _ _ is (close_object clients taken parent id (client_known _ small) (lt-ltb _ _ client))
-object_says_message clients taken (InfoReply comms) parent i is kept small client = cc
+    same_result _ _ _ _ is (msg_object clients numbers parent id body (client_known _ small) (lt-ltb _ _ client) (members_again numbers body.content k.values k.plain) (buffers_again 0 body.buffers k.bytes))
+object_says_message clients numbers (Close id) parent i is kept small client = same_result _ _ _ _ is (close_object clients numbers parent id (client_known _ small) (lt-ltb _ _ client))
+object_says_message clients numbers (InfoReply comms) parent i is kept small client = cc
 
 -- ---- its text
 
@@ -223,42 +223,42 @@ unfolding IsStrictlySortedBy
 comms_clean [] kept order = tt
 comms_clean (info ∷ comms) kept order = (kept.0, first_comm info.id comms order.0, (key (codes "target_name") refl, tt, kept.1, tt), comms_clean comms kept.2 order.1)
 
-message_clean : (taken : Numbers) (m : Outgoing) (parent : Parent) → MessageKept taken m → client_in parent < 2 ^ 64 → number_in parent < 2 ^ 64 → IsClean (json_of (parts_of m) parent)
-message_clean taken (Open id target version body) parent kept client number =
+message_clean : (numbers : Numbers) (m : Outgoing) (parent : Parent) → MessageKept numbers m → client_in parent < 2 ^ 64 → number_in parent < 2 ^ 64 → IsClean (json_of (parts_of m) parent)
+message_clean numbers (Open id target version body) parent kept client number =
     let k = kept.3 in
-    let dict = members_clean taken body.content k.values k.ordered in
+    let dict = members_clean numbers body.content k.values k.ordered in
     parts_clean (parts_of (Open id target version body)) parent (key (codes "comm_open") refl)
     (key (codes "comm_id") refl, refl, kept.0, (key (codes "data") refl, refl, dict, (key (codes "target_name") refl, tt, kept.1, tt))) (key (codes "version") refl, tt, kept.2, tt) client number
-message_clean taken (Msg id body) parent kept client number =
+message_clean numbers (Msg id body) parent kept client number =
     let k = kept.1 in
-    let dict = members_clean taken body.content k.values k.ordered in
+    let dict = members_clean numbers body.content k.values k.ordered in
     parts_clean (parts_of (Msg id body)) parent (key (codes "comm_msg") refl) (key (codes "comm_id") refl, refl, kept.0, (key (codes "data") refl, tt, dict, tt)) tt client number
-message_clean taken (Close id) parent kept client number =
+message_clean numbers (Close id) parent kept client number =
     parts_clean (parts_of (Close id)) parent (key (codes "comm_close") refl) (key (codes "comm_id") refl, refl, kept, (key (codes "data") refl, tt, tt, tt)) tt client number
-message_clean taken (InfoReply comms) parent kept client number =
+message_clean numbers (InfoReply comms) parent kept client number =
     parts_clean (parts_of (InfoReply comms)) parent (key (codes "comm_info_reply") refl)
     (key (codes "comms") refl, refl, comms_clean comms kept.0 kept.1, (key (codes "status") refl, tt, key (codes "ok") refl, tt)) tt client number
 
 pub text_is_its_object : TextIsItsObject
 unfolding written
-text_is_its_object taken m parent kept client number shallow =
+text_is_its_object numbers m parent kept client number shallow =
     let d = json_of (parts_of m) parent in
-    let clean = message_clean taken m parent kept (omega arith) number in
+    let clean = message_clean numbers m parent kept (omega arith) number in
     rw (is_utf8-from_IsUtf8 (written m parent) (utf8 d clean), read_again d clean shallow) refl
 
 an_object : (parts : Parts) (parent : Parent) → is_some (as_object (json_of parts parent)) ≡ true
 an_object parts (Call c n) = refl
 an_object parts (Read c n) = refl
 
-same_members : (clients : ℕ) (taken : Numbers) (parts : Parts) (parent : Parent) → message_in clients taken (fields_of (json_of parts parent)) ≡ message_of clients taken (json_of parts parent)
-same_members clients taken parts (Call c n) = refl
-same_members clients taken parts (Read c n) = refl
+same_members : (clients : ℕ) (numbers : Numbers) (parts : Parts) (parent : Parent) → message_in clients numbers (fields_of (json_of parts parent)) ≡ message_of clients numbers (json_of parts parent)
+same_members clients numbers parts (Call c n) = refl
+same_members clients numbers parts (Read c n) = refl
 
 pub text_is_read_again : TextIsReadAgain
 unfolding written
-text_is_read_again clients taken m parent i is kept few client number shallow =
+text_is_read_again clients numbers m parent i is kept few client number shallow =
     let parts = parts_of m in
     let d = json_of parts parent in
-    let clean = message_clean taken m parent kept (omega arith) number in
-    ap (λ r. r >>= message_in clients taken) (object_read (written m parent) d (utf8 d clean) (read_again d clean shallow) (an_object parts parent))
-    ∙ same_members clients taken parts parent ∙ object_says_message clients taken m parent i is kept (omega arith) client
+    let clean = message_clean numbers m parent kept (omega arith) number in
+    ap (λ r. r >>= message_in clients numbers) (object_read (written m parent) d (utf8 d clean) (read_again d clean shallow) (an_object parts parent))
+    ∙ same_members clients numbers parts parent ∙ object_says_message clients numbers m parent i is kept (omega arith) client

@@ -1,5 +1,5 @@
--- Binary buffers in a line: a list of strings in base64 (RFC 4648, section 4), with padding.
-use Rattle.std.specs.Prelude.{ℕ, suc, List, [], ◌∷◌, Option, Some, None, Ok, Err}
+-- Binary buffers: in a line a list of strings in base64 (RFC 4648, section 4), with padding; beside it as bytes.
+use Rattle.std.specs.Prelude.{ℕ, suc, List, [], ◌∷◌, take, drop, Option, Some, None, Ok, Err}
 use Rattle.std.specs.Result.{result_ok}
 use Rattle.base64.specs.GeneralPurpose.{decode_of}
 use Rattle.base64.specs.Engines.{standard}
@@ -26,3 +26,8 @@ buffers_of None = Ok []
 buffers_of (Some null) = Ok []
 buffers_of (Some (array ds)) = buffers_from 0 ds
 buffers_of (Some _) = Err (BadContent Buffers)
+
+-- the buffers of these sizes, out of bytes in which they stand one after another
+abbrev pub split_buffers : List ℕ → List ℕ → List (List ℕ)
+split_buffers bytes [] = []
+split_buffers bytes (n ∷ ns) = take n bytes ∷ split_buffers (drop n bytes) ns

@@ -2,6 +2,7 @@ pub mod Content
 pub mod Gives
 pub mod Fields
 pub mod Buffers
+pub mod Envelope
 pub mod Message
 pub mod Listed
 pub mod Text

@@ -37,7 +37,7 @@ number_in (Read client front) = front
 
 -- ---- what the types of a message keep to
 
--- a number that isn't whole, where such are taken
+-- a number that isn't whole, where such are values
 abbrev pub IsTaken : Numbers → List ℕ → Type 0
 IsTaken Whole s = ⊥
 IsTaken Any s = (is_decimal s ≡ true) × IsUtf8 s
@@ -45,26 +45,26 @@ IsTaken Any s = (is_decimal s ≡ true) × IsUtf8 s
 -- each text is UTF-8, each whole number one that JSON holds without loss, and each decimal one of another form
 abbrev mutual
   pub IsKept : Numbers → Tree → Type 0
-  IsKept taken (whole z) = in_range z ≡ true
-  IsKept taken (decimal s) = IsTaken taken s
-  IsKept taken (a_text s) = IsUtf8 s
-  IsKept taken (list ts) = ItemsKept taken ts
-  IsKept taken (dict ms) = MembersKept taken ms
-  IsKept taken _ = ⊤
+  IsKept numbers (whole z) = in_range z ≡ true
+  IsKept numbers (decimal s) = IsTaken numbers s
+  IsKept numbers (a_text s) = IsUtf8 s
+  IsKept numbers (list ts) = ItemsKept numbers ts
+  IsKept numbers (dict ms) = MembersKept numbers ms
+  IsKept numbers _ = ⊤
 
   pub ItemsKept : Numbers → Items → Type 0
-  ItemsKept taken no_items = ⊤
-  ItemsKept taken (item t ts) = IsKept taken t × ItemsKept taken ts
+  ItemsKept numbers no_items = ⊤
+  ItemsKept numbers (item t ts) = IsKept numbers t × ItemsKept numbers ts
 
   pub MembersKept : Numbers → Members → Type 0
-  MembersKept taken no_members = ⊤
-  MembersKept taken (member k t ms) = IsUtf8 k × IsKept taken t × MembersKept taken ms
+  MembersKept numbers no_members = ⊤
+  MembersKept numbers (member k t ms) = IsUtf8 k × IsKept numbers t × MembersKept numbers ms
 
 -- the data of a body has its keys in order and no bytes, and a buffer's bytes are below 256
-pub record BodyKept (taken : Numbers) (body : Content) : Type 0 where
+pub record BodyKept (numbers : Numbers) (body : Content) : Type 0 where
   pub ordered : members_ordered body.content ≡ true
   pub plain : members_have_bytes body.content ≡ false
-  pub values : MembersKept taken body.content
+  pub values : MembersKept numbers body.content
   pub bytes : All IsBytes body.buffers
 
 abbrev pub InfosKept : List Info → Type 0
@@ -72,10 +72,10 @@ InfosKept [] = ⊤
 InfosKept (info ∷ infos) = IsUtf8 info.id × IsUtf8 info.target × InfosKept infos
 
 abbrev pub MessageKept : Numbers → Outgoing → Type 0
-MessageKept taken (Open id target version body) = IsUtf8 id × IsUtf8 target × IsUtf8 version × BodyKept taken body
-MessageKept taken (Msg id body) = IsUtf8 id × BodyKept taken body
-MessageKept taken (Close id) = IsUtf8 id
-MessageKept taken (InfoReply comms) = InfosKept comms × IdsAreInOrder comms
+MessageKept numbers (Open id target version body) = IsUtf8 id × IsUtf8 target × IsUtf8 version × BodyKept numbers body
+MessageKept numbers (Msg id body) = IsUtf8 id × BodyKept numbers body
+MessageKept numbers (Close id) = IsUtf8 id
+MessageKept numbers (InfoReply comms) = InfosKept comms × IdsAreInOrder comms
 
 -- ---- the law
 
@@ -83,21 +83,21 @@ MessageKept taken (InfoReply comms) = InfosKept comms × IdsAreInOrder comms
 -- is read
 abbrev pub TextIsItsObject : Type 0
 TextIsItsObject =
-    (taken : Numbers) (m : Outgoing) (parent : Parent) → MessageKept taken m → client_in parent < 2 ^ 8
+    (numbers : Numbers) (m : Outgoing) (parent : Parent) → MessageKept numbers m → client_in parent < 2 ^ 8
     → number_in parent < 2 ^ 64 → depth (json_of (parts_of m) parent) ≤ max_depth
     → line_value (text m parent) ≡ Some (json_of (parts_of m) parent)
 
 -- the object that is written says the message to a reader that takes its numbers
 abbrev pub ObjectSaysMessage : Type 0
 ObjectSaysMessage =
-    (clients : ℕ) (taken : Numbers) (m : Outgoing) (parent : Parent) (i : Incoming) → same_message m ≡ Some i
-    → MessageKept taken m → client_in parent < 2 ^ 64 → client_in parent < clients
-    → message_of clients taken (json_of (parts_of m) parent) ≡ Ok (client_in parent, i)
+    (clients : ℕ) (numbers : Numbers) (m : Outgoing) (parent : Parent) (i : Incoming) → same_message m ≡ Some i
+    → MessageKept numbers m → client_in parent < 2 ^ 64 → client_in parent < clients
+    → message_of clients numbers (json_of (parts_of m) parent) ≡ Ok (client_in parent, i)
 
 -- so the message and its client are read from the text again
 abbrev pub TextIsReadAgain : Type 0
 TextIsReadAgain =
-    (clients : ℕ) (taken : Numbers) (m : Outgoing) (parent : Parent) (i : Incoming) → same_message m ≡ Some i
-    → MessageKept taken m → clients < 2 ^ 8 → client_in parent < clients → number_in parent < 2 ^ 64
+    (clients : ℕ) (numbers : Numbers) (m : Outgoing) (parent : Parent) (i : Incoming) → same_message m ≡ Some i
+    → MessageKept numbers m → clients < 2 ^ 8 → client_in parent < clients → number_in parent < 2 ^ 64
     → depth (json_of (parts_of m) parent) ≤ max_depth
-    → message clients taken (text m parent) ≡ Ok (client_in parent, i)
+    → message clients numbers (text m parent) ≡ Ok (client_in parent, i)

@@ -40,10 +40,10 @@ impl fmt::Display for Field {
     }
 }
 
-/// Why a line isn't a message of a comm: the first test that it fails, in the order of `specs/Message`.
+/// Why a line, or parts, aren't a message of a comm: the first test that it fails, in the order of `specs/Message`.
 #[derive(Clone, Copy, Debug, PartialEq, Eq, Drop, Error)]
 pub enum MessageFault {
-    /// The line isn't UTF-8, isn't JSON (RFC 8259), or isn't an object.
+    /// The line isn't UTF-8, isn't JSON (RFC 8259), or isn't an object; or a part isn't UTF-8, or isn't JSON.
     #[error("the line is not a JSON object")]
     NotJson,
     /// `header` isn't an object with a string `msg_type`.

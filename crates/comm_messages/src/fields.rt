@@ -7,7 +7,11 @@ ghost use Rattle.comm_messages.specs.Fields.{object_or_empty, text, text_or_none
 ghost use Rattle.comm_messages.specs.Message.{dict_of};
 
 use crate::fault::MessageFault;
-use comm_json::{JsonFault, JsonKind, JsonRef, LineMembers, ObjectRef, ParseArena, read_line};
+use bumpalo::Bump;
+use comm_json::{
+    JsonFault, JsonKind, JsonRef, LineMembers, ObjectRef, ParseArena, TextScratch, read_among,
+    read_line,
+};
 use comm_value::{Dict, Numbers, ValueFault};
 use json::Value;
 use std::alloc::Global;
@@ -28,6 +32,26 @@ pub fn object_in<'a>(
         Ok(_) => Err(MessageFault::NotJson),
         Err(JsonFault::NotJson) => Err(MessageFault::NotJson),
         Err(JsonFault::Memory) => Err(MessageFault::Memory),
+    }
+}
+
+/// Parses a line as [`object_in`] does, beside other texts: its strings are slices of the line or of the scratch, its
+/// lists stand in the arena.
+pub fn object_among<'a>(
+    line: &'a [u8],
+    scratch: &'a mut TextScratch,
+    lists: &'a Bump,
+) -> Result<LineMembers<'a>, MessageFault>
+    ensures { Gives (λ ms. read_fields ms.items) result (object_in line.now) }
+{
+    let value = match read_among(line, scratch, lists) {
+        Ok(value) => value,
+        Err(JsonFault::NotJson) => return Err(MessageFault::NotJson),
+        Err(JsonFault::Memory) => return Err(MessageFault::Memory),
+    };
+    match value {
+        Value::Object(members) => Ok(members),
+        _ => Err(MessageFault::NotJson),
     }
 }
 
@@ -118,15 +142,19 @@ fn below(number: Option<i128>, clients: u8) -> Result<u8, MessageFault>
     }
 }
 
-/// An object as a dict. Err: NotWhole where a number in it isn't taken, or Memory.
+/// An object as a dict, with these numbers as values. Err: NotWhole where a number in it isn't one, or Memory.
 #[tactic(auto, using(crate::proofs::NoBytes::no_bytes))]
-pub fn dict_of(alloc: Global, taken: Numbers, object: Fields<'_, '_>) -> Result<Dict, MessageFault>
-    ensures value { Gives (λ d. d) result (dict_of taken (fields object.entry)) }
+pub fn dict_of(
+    alloc: Global,
+    numbers: Numbers,
+    object: Fields<'_, '_>,
+) -> Result<Dict, MessageFault>
+    ensures value { Gives (λ d. d) result (dict_of numbers (fields object.entry)) }
     ensures plain { IfOk result (λ d. members_have_bytes d ≡ false) }
 {
     match object {
         None => Ok(Dict::new()),
-        Some(object) => match Dict::from_ref(alloc, taken, object) {
+        Some(object) => match Dict::from_ref(alloc, numbers, object) {
             Ok(dict) => Ok(dict),
             Err(ValueFault::NotWhole) => Err(MessageFault::NotWhole),
             Err(ValueFault::Memory) => Err(MessageFault::Memory),

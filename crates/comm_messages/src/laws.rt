@@ -1,6 +1,6 @@
 // Laws of the definitions: each is the contract of a function with an empty body.
 ghost use Rattle.std.specs.Prelude.{◌≢◌, ℕ, List, Err};
-ghost use Rattle.comm_messages.specs.Message.{message};
+ghost use Rattle.comm_messages.specs.Message.{message, message_by_parts};
 ghost use Rattle.comm_messages.specs.ReadAgain.{ObjectSaysMessage, TextIsItsObject, TextIsReadAgain};
 ghost use Rattle.comm_messages.specs.declared.fault.MessageFault.TheVariants.{NotWhole};
 ghost use Rattle.comm_value.specs.declared.from_json.Numbers.{Numbers};
@@ -16,7 +16,10 @@ pub fn written_is_read_again()
     ensures text { TextIsReadAgain }
 {}
 
-/// With [`comm_value::Numbers::Any`] no line is NotWhole.
+/// With [`comm_value::Numbers::Any`] no line is NotWhole, nor are the parts of a message.
 pub fn any_number_is_read()
-    ensures { (clients : ℕ) (line : List ℕ) → message clients Numbers.Any line ≢ Err NotWhole }
+    ensures line { (clients : ℕ) (line : List ℕ) → message clients Numbers.Any line ≢ Err NotWhole }
+    ensures parts { (clients client : ℕ) (header metadata content : List ℕ)
+        (buffers : List (List ℕ)) → message_by_parts clients Numbers.Any client header metadata
+        content buffers ≢ Err NotWhole }
 {}

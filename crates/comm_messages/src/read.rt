@@ -3,13 +3,15 @@ ghost use Rattle.serde_json.specs.View.{view};
 ghost use Rattle.serde_json.specs.Written.{outline};
 ghost use Rattle.comm_messages.specs.Gives.{Gives};
 ghost use Rattle.comm_messages.specs.Fields.{behind, fields};
+ghost use Rattle.comm_messages.specs.Envelope.{buffers_in, envelope};
 ghost use Rattle.comm_messages.specs.Message.{type_named, type_of, heading, text_at, filter_at};
-ghost use Rattle.comm_messages.specs.Message.{object_at, version_of, body_of, open_in, msg_in, unused_in};
-ghost use Rattle.comm_messages.specs.Message.{close_in, info_request_in, incoming_in};
-ghost use Rattle.comm_messages.specs.Message.{message_in, message_of, message};
+ghost use Rattle.comm_messages.specs.Message.{object_of, object_at, version_of, body_with, body_of};
+ghost use Rattle.comm_messages.specs.Message.{open_in, msg_in, unused_in, close_in, info_request_in};
+ghost use Rattle.comm_messages.specs.Message.{incoming_in, message_from, message_in, message_of, message};
 
 use crate::body::Body;
-use crate::buffers::buffers_of;
+use crate::buffers::buffers_in;
+use crate::envelope::{BuffersRef, EnvelopeRef, envelope_of_line};
 use crate::fault::{Field, MessageFault};
 use crate::fields::{
     Fields, client_of, dict_of, fields_of, member, object_in, object_or_empty, text, text_or_none,
@@ -44,14 +46,14 @@ pub fn read_message_with(
     alloc: Global,
     line: &[u8],
     clients: u8,
-    taken: Numbers,
+    numbers: Numbers,
 ) -> Result<(u8, Incoming), MessageFault>
-    ensures message { Gives (λ r. (r.0, r.1)) result (message clients taken line.now) }
+    ensures message { Gives (λ r. (r.0, r.1)) result (message clients numbers line.now) }
     ensures below { 0 < clients → IfOk result (λ r. r.0 < clients) }
 {
     let mut arena = ParseArena::new(alloc);
     let object = object_in(line, &mut arena)?;
-    message_in(alloc, fields_of(&object), clients, taken)
+    message_in(alloc, fields_of(&object), clients, numbers)
 }
 
 /// Reads a message from a parsed JSON value, as [`read_message`] does from a line.
@@ -69,34 +71,51 @@ pub fn message_of(alloc: Global, value: &Value, clients: u8) -> Result<(u8, Inco
 }
 
 /// Reads a message from the members of a JSON object, as [`read_message_with`] does from a line.
-#[tactic(auto, unfolding(crate::specs::Message::message_in))]
 pub fn message_in(
     alloc: Global,
     line: Fields<'_, '_>,
     clients: u8,
-    taken: Numbers,
+    numbers: Numbers,
 ) -> Result<(u8, Incoming), MessageFault>
     ensures message { Gives (λ r. (r.0, r.1)) result
-        (message_in clients taken (fields line.entry)) }
+        (message_in clients numbers (fields line.entry)) }
     ensures below { 0 < clients → IfOk result (λ r. r.0 < clients) }
 {
-    let (client, type_) = heading(line, clients)?;
-    let content = object_at(Field::Content, "content", line)?;
-    let incoming = incoming_in(alloc, taken, type_, line, content)?;
+    message_from(alloc, &envelope_of_line(line), clients, numbers)
+}
+
+/// Makes the tests of a message's fields, with these numbers as values. Gives the client's index, from 0, and the
+/// message. Err: the first test that fails (see [`MessageFault`]), or Memory.
+#[tactic(auto, unfolding(crate::specs::Message::message_from))]
+pub fn message_from(
+    alloc: Global,
+    from: &EnvelopeRef<'_, '_>,
+    clients: u8,
+    numbers: Numbers,
+) -> Result<(u8, Incoming), MessageFault>
+    ensures message { Gives (λ r. (r.0, r.1)) result
+        (message_from clients numbers (envelope from.now)) }
+    ensures below { 0 < clients → IfOk result (λ r. r.0 < clients) }
+{
+    let (client, type_) = heading(from, clients)?;
+    let content = object_of(Field::Content, from.content)?;
+    let incoming = incoming_in(alloc, numbers, type_, from, content)?;
     Ok((client, incoming))
 }
 
+/// The client's index and the type of a message, tested in this order. Err: BadClient, NoType or UnknownType.
 #[tactic(auto, unfolding(crate::specs::Message::heading))]
-fn heading(line: Fields<'_, '_>, clients: u8) -> Result<(u8, MessageType), MessageFault>
-    ensures value { Gives (λ r. (r.0, r.1)) result (heading clients (fields line.entry)) }
+pub fn heading(from: &EnvelopeRef<'_, '_>, clients: u8) -> Result<(u8, MessageType), MessageFault>
+    ensures value { Gives (λ r. (r.0, r.1)) result (heading clients (envelope from.now)) }
     ensures below { 0 < clients → IfOk result (λ r. r.0 < clients) }
 {
-    let client = client_of(member(line, "client"), clients)?;
-    let type_ = type_of(member(line, "header"))?;
+    let client = client_of(from.client, clients)?;
+    let type_ = type_of(from.header)?;
     Ok((client, type_))
 }
 
-fn type_of(header: Option<JsonRef<'_, '_>>) -> Result<MessageType, MessageFault>
+/// The type of a message that has this header. Err: NoType or UnknownType.
+pub fn type_of(header: Option<JsonRef<'_, '_>>) -> Result<MessageType, MessageFault>
     ensures { Gives (λ t. t) result (type_of (behind header.entry)) }
 {
     let Some(header) = header else {
@@ -140,6 +159,20 @@ fn text_at<'v>(field: Field, key: &str, of: Fields<'v, '_>) -> Result<&'v str, M
     }
 }
 
+/// The members of an object; absent or null is an object without members. Err: BadContent(field) where the value is of
+/// another kind.
+pub fn object_of<'v, 'a>(
+    field: Field,
+    value: Option<JsonRef<'v, 'a>>,
+) -> Result<Fields<'v, 'a>, MessageFault>
+    ensures { Gives fields result (object_of field (behind value.entry)) }
+{
+    match object_or_empty(value) {
+        Some(members) => Ok(members),
+        None => Err(MessageFault::BadContent(field)),
+    }
+}
+
 fn object_at<'v, 'a>(
     field: Field,
     key: &str,
@@ -147,10 +180,7 @@ fn object_at<'v, 'a>(
 ) -> Result<Fields<'v, 'a>, MessageFault>
     ensures { Gives fields result (object_at field key.now (fields of.entry)) }
 {
-    match object_or_empty(member(of, key)) {
-        Some(members) => Ok(members),
-        None => Err(MessageFault::BadContent(field)),
-    }
+    object_of(field, member(of, key))
 }
 
 fn version_of<'v>(metadata: Fields<'v, '_>) -> Option<&'v str>
@@ -163,49 +193,67 @@ fn version_of<'v>(metadata: Fields<'v, '_>) -> Option<&'v str>
 /// BadBuffer or Memory.
 pub fn body_of(
     alloc: Global,
-    taken: Numbers,
+    numbers: Numbers,
     object: Fields<'_, '_>,
     line: Fields<'_, '_>,
 ) -> Result<Body, MessageFault>
-    ensures { Gives (λ b. b) result (body_of taken (fields object.entry) (fields line.entry)) }
+    ensures { Gives (λ b. b) result (body_of numbers (fields object.entry) (fields line.entry)) }
 {
-    let content = dict_of(alloc, taken, object)?;
-    let buffers = buffers_of(alloc, member(line, "buffers"))?;
+    body_with(
+        alloc,
+        numbers,
+        object,
+        BuffersRef::Encoded(member(line, "buffers")),
+    )
+}
+
+/// A body of `object` as its `data`, with these buffers. Err: NotWhole, what the buffers fail, or Memory.
+pub fn body_with(
+    alloc: Global,
+    numbers: Numbers,
+    object: Fields<'_, '_>,
+    buffers: BuffersRef<'_, '_>,
+) -> Result<Body, MessageFault>
+    ensures { Gives (λ b. b) result
+        (body_with numbers (fields object.entry) (buffers_in buffers.entry)) }
+{
+    let content = dict_of(alloc, numbers, object)?;
+    let buffers = buffers_in(alloc, buffers)?;
     Ok(Body::new(content, buffers))
 }
 
 fn incoming_in(
     alloc: Global,
-    taken: Numbers,
+    numbers: Numbers,
     type_: MessageType,
-    line: Fields<'_, '_>,
+    from: &EnvelopeRef<'_, '_>,
     content: Fields<'_, '_>,
 ) -> Result<Incoming, MessageFault>
     ensures { Gives (λ i. i) result
-        (incoming_in taken type_ (fields line.entry) (fields content.entry)) }
+        (incoming_in numbers type_ (envelope from.now) (fields content.entry)) }
 {
     match type_ {
-        MessageType::Open => open_in(alloc, taken, line, content),
-        MessageType::Msg => msg_in(alloc, taken, line, content),
-        MessageType::Close => close_in(alloc, line, content),
-        MessageType::InfoRequest => info_request_in(alloc, line, content),
+        MessageType::Open => open_in(alloc, numbers, from, content),
+        MessageType::Msg => msg_in(alloc, numbers, from, content),
+        MessageType::Close => close_in(alloc, from, content),
+        MessageType::InfoRequest => info_request_in(alloc, from, content),
     }
 }
 
 #[tactic(auto, unfolding(crate::specs::Message::open_in))]
 fn open_in(
     alloc: Global,
-    taken: Numbers,
-    line: Fields<'_, '_>,
+    numbers: Numbers,
+    from: &EnvelopeRef<'_, '_>,
     content: Fields<'_, '_>,
 ) -> Result<Incoming, MessageFault>
-    ensures { Gives (λ i. i) result (open_in taken (fields line.entry) (fields content.entry)) }
+    ensures { Gives (λ i. i) result (open_in numbers (envelope from.now) (fields content.entry)) }
 {
     let id = text_at(Field::CommId, "comm_id", content)?;
     let target = text_at(Field::TargetName, "target_name", content)?;
     let data = object_at(Field::Body, "data", content)?;
-    let metadata = object_at(Field::Metadata, "metadata", line)?;
-    let body = body_of(alloc, taken, data, line)?;
+    let metadata = object_of(Field::Metadata, from.metadata)?;
+    let body = body_with(alloc, numbers, data, from.buffers)?;
     Ok(open_message(alloc, id, target, version_of(metadata), body)?)
 }
 
@@ -242,16 +290,16 @@ fn copy_optional(alloc: Global, text: Option<&str>) -> Result<Option<Text>, Allo
 #[tactic(auto, unfolding(crate::specs::Message::msg_in))]
 fn msg_in(
     alloc: Global,
-    taken: Numbers,
-    line: Fields<'_, '_>,
+    numbers: Numbers,
+    from: &EnvelopeRef<'_, '_>,
     content: Fields<'_, '_>,
 ) -> Result<Incoming, MessageFault>
-    ensures { Gives (λ i. i) result (msg_in taken (fields line.entry) (fields content.entry)) }
+    ensures { Gives (λ i. i) result (msg_in numbers (envelope from.now) (fields content.entry)) }
 {
     let id = text_at(Field::CommId, "comm_id", content)?;
     let data = object_at(Field::Body, "data", content)?;
-    object_at(Field::Metadata, "metadata", line)?;
-    let body = body_of(alloc, taken, data, line)?;
+    object_of(Field::Metadata, from.metadata)?;
+    let body = body_with(alloc, numbers, data, from.buffers)?;
     Ok(Incoming::Msg {
         id: Text::copy_of(alloc, id)?,
         body,
@@ -261,37 +309,37 @@ fn msg_in(
 #[tactic(auto, unfolding(crate::specs::Message::close_in))]
 fn close_in(
     alloc: Global,
-    line: Fields<'_, '_>,
+    from: &EnvelopeRef<'_, '_>,
     content: Fields<'_, '_>,
 ) -> Result<Incoming, MessageFault>
-    ensures { Gives (λ i. i) result (close_in (fields line.entry) (fields content.entry)) }
+    ensures { Gives (λ i. i) result (close_in (envelope from.now) (fields content.entry)) }
 {
     let id = text_at(Field::CommId, "comm_id", content)?;
     object_at(Field::Body, "data", content)?;
-    unused_in(alloc, line)?;
+    unused_in(alloc, from)?;
     Ok(Incoming::Close {
         id: Text::copy_of(alloc, id)?,
     })
 }
 
 // Checks the metadata and the buffers of a message that uses neither.
-fn unused_in(alloc: Global, line: Fields<'_, '_>) -> Result<Buffers, MessageFault>
-    ensures { Gives (λ b. b) result (unused_in (fields line.entry)) }
+fn unused_in(alloc: Global, from: &EnvelopeRef<'_, '_>) -> Result<Buffers, MessageFault>
+    ensures { Gives (λ b. b) result (unused_in (envelope from.now)) }
 {
-    object_at(Field::Metadata, "metadata", line)?;
-    buffers_of(alloc, member(line, "buffers"))
+    object_of(Field::Metadata, from.metadata)?;
+    buffers_in(alloc, from.buffers)
 }
 
 #[tactic(auto, unfolding(crate::specs::Message::info_request_in))]
 fn info_request_in(
     alloc: Global,
-    line: Fields<'_, '_>,
+    from: &EnvelopeRef<'_, '_>,
     content: Fields<'_, '_>,
 ) -> Result<Incoming, MessageFault>
-    ensures { Gives (λ i. i) result (info_request_in (fields line.entry) (fields content.entry)) }
+    ensures { Gives (λ i. i) result (info_request_in (envelope from.now) (fields content.entry)) }
 {
     let target = filter_at("target_name", content)?;
-    unused_in(alloc, line)?;
+    unused_in(alloc, from)?;
     Ok(Incoming::InfoRequest {
         target: copy_optional(alloc, target)?,
     })

@@ -11,12 +11,13 @@ use Rattle.comm_targets.specs.Answers.{answer_of, IsFreeAnswer}
 use Rattle.comm_targets.specs.Widget.{nothing}
 use Rattle.comm_targets.specs.declared.answer.Answer.{Answer}
 use Rattle.comm_targets.specs.declared.kind.Kind.{Kind}
-use Rattle.comm_targets.specs.declared.kind.Kind.TheVariants.{Echo, Counter, Widget, WidgetEcho, Plain, Free}
+use Rattle.comm_targets.specs.declared.kind.Kind.TheVariants.{Echo, Counter, Widget, WidgetEcho, Plain, Opaque, Free}
 use Rattle.comm_targets.specs.declared.event.Event.{Event}
 use Rattle.comm_targets.specs.declared.event.Event.TheVariants as event
 use Rattle.comm_messages.specs.Gives as message
 use Rattle.comm_messages.specs.Fields.{below as below_clients, client_of, object_in}
-use Rattle.comm_messages.specs.Message.{heading, type_of, object_at, incoming_in, message_in}
+use Rattle.comm_messages.specs.Message.{heading, type_of, object_of, incoming_in, message_from}
+use Rattle.comm_messages.specs.Envelope.{Envelope, of_line}
 use Rattle.comm_messages.specs.declared.fault.Field.TheVariants as field
 use Rattle.comm_messages.specs.declared.incoming.Incoming.{Incoming}
 use Rattle.comm_messages.specs.declared.read.MessageType.{MessageType}
@@ -34,7 +35,7 @@ use Rattle.comm_core.specs.History.{Follows, IsLegal, has_end}
 use Rattle.comm_value.specs.Gives.{◌>>=◌}
 use Rattle.comm_script.specs.Line.{Reading, of_message}
 use Rattle.comm_script.specs.Lines.{is_blank, lines_of}
-use Rattle.comm_script.specs.Command.{asked, asked_in, asked_by, asked_by_message, command}
+use Rattle.comm_script.specs.Command.{asked, asked_in, asked_by, asked_by_message, command, asked_from}
 use Rattle.comm_script.specs.Stock.{first_of, rest_of}
 use Rattle.comm_script.specs.Played.{Standing, says, machine, changed, called, registered, executed, answered, turn, played_from, history_of}
 use Rattle.comm_script.specs.declared.stock.StockKind.{StockKind}
@@ -59,7 +60,7 @@ line_any : {A B : Type 0} (Q : B → Type 0) (r : Reading A) (f : A → Reading 
 line_any Q (Ok x) f more = more x
 line_any Q (Err e) f more = tt
 
-module _ (taken : Numbers) (clients : ℕ) (some : 0 < clients) where
+module _ (numbers : Numbers) (clients : ℕ) (some : 0 < clients) where
   abbrev Below : {X : Type 0} → ℕ × X → Type 0
   Below m = m.0 < clients
 
@@ -81,27 +82,30 @@ module _ (taken : Numbers) (clients : ℕ) (some : 0 < clients) where
   client_below (Some (json.array ds)) = below_all (option_and_then whole_of (as_number (json.array ds)))
   client_below (Some (json.object ms)) = below_all (option_and_then whole_of (as_number (json.object ms)))
 
-  heading_below : (line : Members) → IfOk (heading clients line) (Below {X = MessageType})
+  heading_below : (e : Envelope) → IfOk (heading clients e) (Below {X = MessageType})
   unfolding heading
-  heading_below line =
-      message_then (λ n. n < clients) (Below {X = MessageType}) (client_of clients (get_member (codes "client") line)) _ (client_below (get_member (codes "client") line))
-      (λ client h. message_any {A = MessageType} (Below {X = MessageType}) (type_of (get_member (codes "header") line)) (λ type. Ok (client, type)) (λ type. h))
+  heading_below e =
+      message_then (λ n. n < clients) (Below {X = MessageType}) (client_of clients e.client) _ (client_below e.client)
+      (λ client h. message_any {A = MessageType} (Below {X = MessageType}) (type_of e.header) (λ type. Ok (client, type)) (λ type. h))
 
-  message_below : (line : Members) → IfOk (message_in clients taken line) (Below {X = Incoming})
-  unfolding message_in
-  message_below line =
-      message_then (Below {X = MessageType}) (Below {X = Incoming}) (heading clients line) _ (heading_below line)
-      (λ head h. message_any {A = Members} (Below {X = Incoming}) (object_at field.Content (codes "content") line) _
-      (λ content. message_any {A = Incoming} (Below {X = Incoming}) (incoming_in taken head.1 line content) (λ incoming. Ok (head.0, incoming)) (λ incoming. h)))
+  message_below : (e : Envelope) → IfOk (message_from clients numbers e) (Below {X = Incoming})
+  unfolding message_from
+  message_below e =
+      message_then (Below {X = MessageType}) (Below {X = Incoming}) (heading clients e) _ (heading_below e)
+      (λ head h. message_any {A = Members} (Below {X = Incoming}) (object_of field.Content e.content) _
+      (λ content. message_any {A = Incoming} (Below {X = Incoming}) (incoming_in numbers head.1 e content) (λ incoming. Ok (head.0, incoming)) (λ incoming. h)))
 
-  asked_by_below : (name : Option Json) (line : Members) → IfOk (asked_by taken name clients line) (Below {X = Wish})
-  asked_by_below None line = line_then (Below {X = Incoming}) (Below {X = Wish}) (message_in clients taken line) (λ m. Ok (m.0, asked_by_message m.1)) (message_below line) (λ m h. h)
+  asked_from_below : (e : Envelope) → IfOk (asked_from numbers clients e) (Below {X = Wish})
+  asked_from_below e = line_then (Below {X = Incoming}) (Below {X = Wish}) (message_from clients numbers e) (λ m. Ok (m.0, asked_by_message m.1)) (message_below e) (λ m h. h)
+
+  asked_by_below : (name : Option Json) (line : Members) → IfOk (asked_by numbers name clients line) (Below {X = Wish})
+  asked_by_below None line = asked_from_below (of_line line)
   asked_by_below (Some name) line =
       line_then (λ n. n < clients) (Below {X = Wish}) (client_of clients (get_member (codes "client") line)) _ (client_below (get_member (codes "client") line))
-      (λ client h. line_any {A = Wish} (Below {X = Wish}) (command taken name line) (λ asked. Ok (client, asked)) (λ asked. h))
+      (λ client h. line_any {A = Wish} (Below {X = Wish}) (command numbers name line) (λ asked. Ok (client, asked)) (λ asked. h))
 
-  asked_below : (bytes : List ℕ) → IfOk (asked taken clients bytes) (Below {X = Wish})
-  asked_below bytes = line_any (Below {X = Wish}) (of_message (object_in bytes)) (asked_in taken clients) (λ line. asked_by_below (get_member (codes "call") line) line)
+  asked_below : (bytes : List ℕ) → IfOk (asked numbers clients bytes) (Below {X = Wish})
+  asked_below bytes = line_any (Below {X = Wish}) (of_message (object_in bytes)) (asked_in numbers clients) (λ line. asked_by_below (get_member (codes "call") line) line)
 
 -- ---- the outcome is one that the target's kind may give
 
@@ -122,6 +126,8 @@ outcome_given WidgetEcho notes q (Ok a) is = is
 outcome_given WidgetEcho notes q (Err f) is = is
 outcome_given Plain notes q (Ok a) is = is
 outcome_given Plain notes q (Err f) is = is
+outcome_given Opaque notes q (Ok a) is = is
+outcome_given Opaque notes q (Err f) is = is
 outcome_given Free notes q (Ok a) is = free_given q.event a is
 outcome_given Free notes q (Err f) is = cc
 
@@ -150,7 +156,7 @@ going_more [] client n c o s h = refl
 going_more (End ∷ es) client n c o s h = absurd (true≢false h)
 going_more (Change k m d p r out ∷ es) client n c o s h = going_more es client n c o s h
 
-module _ (taken : Numbers) (limits : Limits) (some : 0 < limits.clients) (grow : Grows) where
+module _ (numbers : Numbers) (limits : Limits) (some : 0 < limits.clients) (grow : Grows) where
   changed_goes : (now : Standing) (client : ℕ) (c : Call) (left : List Registered) (o : Option Stepped) → Goes limits now.history → client < limits.clients
       → step limits.comms (machine limits now) c (exact_outcome limits.comms (machine limits now) c) ≡ o → Goes limits (changed limits now client c left o).after.history
   changed_goes now client c left None h below is = h
@@ -177,17 +183,17 @@ module _ (taken : Numbers) (limits : Limits) (some : 0 < limits.clients) (grow :
   answered_goes now number (Ok m) h below = executed_goes now number m.0 m.1 h below
   answered_goes now number (Err e) h below = h
 
-  blank_goes : (now : Standing) (number : ℕ) (line : List ℕ) (b : Bool) → Goes limits now.history → Goes limits (cond b (says now []) (answered limits now number (asked taken limits.clients line))).after.history
+  blank_goes : (now : Standing) (number : ℕ) (line : List ℕ) (b : Bool) → Goes limits now.history → Goes limits (cond b (says now []) (answered limits now number (asked numbers limits.clients line))).after.history
   blank_goes now number line true h = h
-  blank_goes now number line false h = answered_goes now number (asked taken limits.clients line) h (asked_below taken limits.clients some line)
+  blank_goes now number line false h = answered_goes now number (asked numbers limits.clients line) h (asked_below numbers limits.clients some line)
 
-  turn_goes : (now : Standing) (number : ℕ) (line : List ℕ) → Goes limits now.history → Goes limits (turn taken limits now number line).after.history
+  turn_goes : (now : Standing) (number : ℕ) (line : List ℕ) → Goes limits now.history → Goes limits (turn numbers limits now number line).after.history
   unfolding turn
   turn_goes now number line h = blank_goes now number line (is_blank line) h
 
-  lines_go : (now : Standing) (n : ℕ) (lines : List (List ℕ)) → Goes limits now.history → Goes limits (played_from taken limits now n lines).after.history
+  lines_go : (now : Standing) (n : ℕ) (lines : List (List ℕ)) → Goes limits now.history → Goes limits (played_from numbers limits now n lines).after.history
   lines_go now n [] h = h
-  lines_go now n (line ∷ lines) h = lines_go (turn taken limits now (n + 1) line).after (n + 1) lines (turn_goes now (n + 1) line h)
+  lines_go now n (line ∷ lines) h = lines_go (turn numbers limits now (n + 1) line).after (n + 1) lines (turn_goes now (n + 1) line h)
 
-  pub script_legal : (stock : List Registered) (input : List ℕ) → IsLegal limits.clients limits.comms (history_of taken limits stock input)
+  pub script_legal : (stock : List Registered) (input : List ℕ) → IsLegal limits.clients limits.comms (history_of numbers limits stock input)
   script_legal stock input = (lines_go (record { history = []; stock = stock }) 0 (lines_of input) (record { legal = tt; going = refl })).legal

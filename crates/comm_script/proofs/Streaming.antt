@@ -43,7 +43,7 @@ short_chunk n buf few = omega (arith, length-take n buf)
 
 -- ---- by which numbers are values
 
-module _ (taken : Numbers) where
+module _ (numbers : Numbers) where
   -- what is written of the script so far, for the lines that were read whole, and what is still to be read of it
   pub record Streams {S : Type 0} (stands : Limits → Standing → S → Type 0) (limits : Limits) (stock : List Registered) (input : List ℕ) (before now left : Option (List ℕ)) (s : S) (number : ℕ) (pending : List ℕ) : Type 0 where
     pub written : List ℕ
@@ -53,12 +53,12 @@ module _ (taken : Numbers) where
     pub rest : List ℕ
     pub known : left ≡ Some rest
     pub is : input ≡ whole ++ (pending ++ rest)
-    pub says : (more : List ℕ) → Says taken stands limits stock (whole ++ more) s number more written
+    pub says : (more : List ℕ) → Says numbers stands limits stock (whole ++ more) s number more written
 
   -- what is pending and the rest are still to be said
   still : {S : Type 0} (stands : Limits → Standing → S → Type 0) (limits : Limits) (stock : List Registered) (input : List ℕ) (before now left : Option (List ℕ)) (s : S) (number : ℕ) (pending : List ℕ)
-      → (h : Streams stands limits stock input before now left s number pending) → Says taken stands limits stock input s number (pending ++ h.rest) h.written
-  still stands limits stock input before now left s number pending h = subst (λ (l : List ℕ). Says taken stands limits stock l s number (pending ++ h.rest) h.written) (sym h.is) (h.says (pending ++ h.rest))
+      → (h : Streams stands limits stock input before now left s number pending) → Says numbers stands limits stock input s number (pending ++ h.rest) h.written
+  still stands limits stock input before now left s number pending h = subst (λ (l : List ℕ). Says numbers stands limits stock l s number (pending ++ h.rest) h.written) (sym h.is) (h.says (pending ++ h.rest))
 
   -- nothing was read yet
   pub streams_first : {S : Type 0} (stands : Limits → Standing → S → Type 0) (limits : Limits) (stock : List Registered) (left contents : Option (List ℕ)) (s : S) → stands limits (record { history = []; stock = stock }) s → IfSome left (λ input. Streams stands limits stock input contents contents left s 0 [])
@@ -81,7 +81,7 @@ module _ (taken : Numbers) where
 
   -- a piece has come, and what its lines say was written
   pub streams_next : {S : Type 0} (stands : Limits → Standing → S → Type 0) (limits : Limits) (stock : List Registered) (input : List ℕ) (before now then left new : Option (List ℕ)) (s t : S) (number next : ℕ) (pending piece kept none said : List ℕ)
-      → Streams stands limits stock input before now left s number pending → Consumes left new piece → none ≡ [] → Cuts taken stands s number pending piece none t next kept said → Appends now then said
+      → Streams stands limits stock input before now left s number pending → Consumes left new piece → none ≡ [] → Cuts numbers stands s number pending piece none t next kept said → Appends now then said
       → Streams stands limits stock input before then new t next kept
   streams_next stands limits stock input before now then left new s t number next pending piece kept none said h read empty cuts sent =
       let after = left_after left new h.rest piece h.known read in
@@ -96,28 +96,28 @@ module _ (taken : Numbers) where
         is = h.is ∙ moved h.whole pending h.rest piece after.0 cuts.whole kept after.2 cuts.is;
         says = λ more.
             cuts.says limits stock ((h.whole ++ cuts.whole) ++ more) more h.written
-            (subst (λ (w : List ℕ). Says taken stands limits stock ((h.whole ++ cuts.whole) ++ more) s number (cuts.whole ++ more) w) held
-            (subst (λ (l : List ℕ). Says taken stands limits stock l s number (cuts.whole ++ more) h.written) (sym (append_assoc h.whole cuts.whole more)) (h.says (cuts.whole ++ more))));
+            (subst (λ (w : List ℕ). Says numbers stands limits stock ((h.whole ++ cuts.whole) ++ more) s number (cuts.whole ++ more) w) held
+            (subst (λ (l : List ℕ). Says numbers stands limits stock l s number (cuts.whole ++ more) h.written) (sym (append_assoc h.whole cuts.whole more)) (h.says (cuts.whole ++ more))));
       }
 
   -- a read of no byte says that nothing is left
   ended : {S : Type 0} (stands : Limits → Standing → S → Type 0) (limits : Limits) (stock : List Registered) (input : List ℕ) (before now left new : Option (List ℕ)) (s : S) (number : ℕ) (pending bytes none said : List ℕ) (n : ℕ) (buf : List ℕ)
       → (h : Streams stands limits stock input before now left s number pending) → bytes ≡ pending → n ≡ 0 → Consumes left new (take n buf) → (n ≡ 0 → 0 < length buf → IsAtEnd new) → 0 < length buf → none ≡ []
-      → ((input written : List ℕ) → Says taken stands limits stock input s number bytes (written ++ none) → written ++ said ≡ played taken limits stock input)
-      → h.written ++ said ≡ played taken limits stock input
+      → ((input written : List ℕ) → Says numbers stands limits stock input s number bytes (written ++ none) → written ++ said ≡ played numbers limits stock input)
+      → h.written ++ said ≡ played numbers limits stock input
   ended stands limits stock input before now left new s number pending bytes none said n buf h same zero read end some empty plays =
       let after = left_after left new h.rest [] h.known (subst (λ (k : ℕ). Consumes left new (take k buf)) zero read) in
       let over : h.rest ≡ [] = after.2 ∙ nothing_left new after.0 after.1 (end zero some) in
       let whole : pending ++ h.rest ≡ bytes = ap (λ r. pending ++ r) over ∙ append-nil pending ∙ sym same in
-      let start : Says taken stands limits stock input s number bytes (h.written ++ none) =
-      subst (λ (w : List ℕ). Says taken stands limits stock input s number bytes w) (sym (append-nil h.written) ∙ ap (λ l. h.written ++ l) (sym empty))
-      (subst (λ (r : List ℕ). Says taken stands limits stock input s number r h.written) whole (still stands limits stock input before now left s number pending h)) in
+      let start : Says numbers stands limits stock input s number bytes (h.written ++ none) =
+      subst (λ (w : List ℕ). Says numbers stands limits stock input s number bytes w) (sym (append-nil h.written) ∙ ap (λ l. h.written ++ l) (sym empty))
+      (subst (λ (r : List ℕ). Says numbers stands limits stock input s number r h.written) whole (still stands limits stock input before now left s number pending h)) in
       plays input h.written start
 
   pub streams_ended : {S : Type 0} (stands : Limits → Standing → S → Type 0) (limits : Limits) (stock : List Registered) (input : List ℕ) (before now then left new : Option (List ℕ)) (s : S) (number : ℕ) (pending bytes none said : List ℕ) (n : ℕ) (buf : List ℕ)
       → Streams stands limits stock input before now left s number pending → bytes ≡ pending → n ≡ 0 → Consumes left new (take n buf) → (n ≡ 0 → 0 < length buf → IsAtEnd new) → 0 < length buf → none ≡ []
-      → ((input written : List ℕ) → Says taken stands limits stock input s number bytes (written ++ none) → written ++ said ≡ played taken limits stock input)
-      → Appends now then said → Appends before then (played taken limits stock input)
+      → ((input written : List ℕ) → Says numbers stands limits stock input s number bytes (written ++ none) → written ++ said ≡ played numbers limits stock input)
+      → Appends now then said → Appends before then (played numbers limits stock input)
   streams_ended stands limits stock input before now then left new s number pending bytes none said n buf h same zero read end some empty plays sent =
       subst (λ (t : List ℕ). Appends before then t) (ended stands limits stock input before now left new s number pending bytes none said n buf h same zero read end some empty plays)
       (appends_more before now then h.written said h.appends sent)
@@ -145,39 +145,39 @@ module _ (taken : Numbers) where
   }
 
   pub begins_streams : {S : Type 0} (stands : Limits → Standing → S → Type 0) (limits : Limits) (stock : List Registered) (input : List ℕ) (before now left : Option (List ℕ)) (s : S) (number : ℕ) (pending : List ℕ)
-      → Streams stands limits stock input before now left s number pending → Begins before now (played taken limits stock input)
+      → Streams stands limits stock input before now left s number pending → Begins before now (played numbers limits stock input)
   begins_streams stands limits stock input before now left s number pending h =
       let says = still stands limits stock input before now left s number pending h in
-      record { part = h.written; rest = (played_from taken limits says.now number (lines_of (pending ++ h.rest))).text; appends = h.appends; is = sym says.whole }
+      record { part = h.written; rest = (played_from numbers limits says.now number (lines_of (pending ++ h.rest))).text; appends = h.appends; is = sym says.whole }
 
   -- a part of what the lines of a piece say was written
   pub begins_chunk : {S : Type 0} (stands : Limits → Standing → S → Type 0) (limits : Limits) (stock : List Registered) (input : List ℕ) (before now then left new : Option (List ℕ)) (s t : S) (number next : ℕ) (pending piece kept none said : List ℕ)
-      → Streams stands limits stock input before now left s number pending → Consumes left new piece → none ≡ [] → Cuts taken stands s number pending piece none t next kept said → Begins now then said
-      → Begins before then (played taken limits stock input)
+      → Streams stands limits stock input before now left s number pending → Consumes left new piece → none ≡ [] → Cuts numbers stands s number pending piece none t next kept said → Begins now then said
+      → Begins before then (played numbers limits stock input)
   unfolding streams_next
   begins_chunk stands limits stock input before now then left new s t number next pending piece kept none said h read empty cuts sent =
       let after = streams_next stands limits stock input before now (append_known now said) left new s t number next pending piece kept none said h read empty cuts (appends_known now said) in
       let says = still stands limits stock input before (append_known now said) new t next kept after in
-      begins_part before now then h.written said (played_from taken limits says.now next (lines_of (kept ++ after.rest))).text (played taken limits stock input) h.appends sent says.whole
+      begins_part before now then h.written said (played_from numbers limits says.now next (lines_of (kept ++ after.rest))).text (played numbers limits stock input) h.appends sent says.whole
 
   -- a part of what the last line says was written
   pub begins_last : {S : Type 0} (stands : Limits → Standing → S → Type 0) (limits : Limits) (stock : List Registered) (input : List ℕ) (before now then left new : Option (List ℕ)) (s : S) (number : ℕ) (pending bytes none said : List ℕ) (n : ℕ) (buf : List ℕ)
       → Streams stands limits stock input before now left s number pending → bytes ≡ pending → n ≡ 0 → Consumes left new (take n buf) → (n ≡ 0 → 0 < length buf → IsAtEnd new) → 0 < length buf → none ≡ []
-      → ((input written : List ℕ) → Says taken stands limits stock input s number bytes (written ++ none) → written ++ said ≡ played taken limits stock input)
-      → Begins now then said → Begins before then (played taken limits stock input)
+      → ((input written : List ℕ) → Says numbers stands limits stock input s number bytes (written ++ none) → written ++ said ≡ played numbers limits stock input)
+      → Begins now then said → Begins before then (played numbers limits stock input)
   begins_last stands limits stock input before now then left new s number pending bytes none said n buf h same zero read end some empty plays sent =
-      begins_part before now then h.written said [] (played taken limits stock input) h.appends sent
+      begins_part before now then h.written said [] (played numbers limits stock input) h.appends sent
       (append-nil (h.written ++ said) ∙ ended stands limits stock input before now left new s number pending bytes none said n buf h same zero read end some empty plays)
 
   -- what was written is what the whole lines give
   answered : {S : Type 0} (stands : Limits → Standing → S → Type 0) (limits : Limits) (stock : List Registered) (input : List ℕ) (before now left : Option (List ℕ)) (s : S) (number : ℕ) (pending : List ℕ)
-      → (h : Streams stands limits stock input before now left s number pending) → Appends before now (played taken limits stock h.whole)
+      → (h : Streams stands limits stock input before now left s number pending) → Appends before now (played numbers limits stock h.whole)
   answered stands limits stock input before now left s number pending h =
-      subst (λ (t : List ℕ). Appends before now t) (says_all taken stands limits stock (h.whole ++ []) s number h.written (h.says []) ∙ ap (played taken limits stock) (append-nil h.whole)) h.appends
+      subst (λ (t : List ℕ). Appends before now t) (says_all numbers stands limits stock (h.whole ++ []) s number h.written (h.says []) ∙ ap (played numbers limits stock) (append-nil h.whole)) h.appends
 
   -- between two pieces the lines that were read whole are answered
   pub stops_streams : {S : Type 0} (stands : Limits → Standing → S → Type 0) (limits : Limits) (stock : List Registered) (input : List ℕ) (before now left : Option (List ℕ)) (s : S) (number : ℕ) (pending : List ℕ)
-      → Streams stands limits stock input before now left s number pending → has_line_feed pending ≡ false → Stops taken limits stock input left before now
+      → Streams stands limits stock input before now left s number pending → has_line_feed pending ≡ false → Stops numbers limits stock input left before now
   stops_streams stands limits stock input before now left s number pending h one_line = record {
     whole = h.whole;
     ended = h.ended;
@@ -191,7 +191,7 @@ module _ (taken : Numbers) where
 
   -- a piece has come, and none of its lines is answered
   pub pauses_streams : {S : Type 0} (stands : Limits → Standing → S → Type 0) (limits : Limits) (stock : List Registered) (input : List ℕ) (before now left new : Option (List ℕ)) (s : S) (number : ℕ) (pending piece : List ℕ)
-      → Streams stands limits stock input before now left s number pending → has_line_feed pending ≡ false → Consumes left new piece → length piece ≤ 65536 → Pauses taken limits stock input new before now
+      → Streams stands limits stock input before now left s number pending → has_line_feed pending ≡ false → Consumes left new piece → length piece ≤ 65536 → Pauses numbers limits stock input new before now
   pauses_streams stands limits stock input before now left new s number pending piece h one_line read short =
       let after = left_after left new h.rest piece h.known read in
       record {

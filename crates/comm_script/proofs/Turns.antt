@@ -133,6 +133,7 @@ kind_fits w kind.Counter h = refl
 kind_fits w kind.Widget h = refl
 kind_fits w kind.WidgetEcho h = refl
 kind_fits w kind.Plain h = refl
+kind_fits w kind.Opaque h = refl
 kind_fits stock_kind.Echo kind.Free h = cc
 kind_fits stock_kind.Counter kind.Free h = cc
 kind_fits stock_kind.Widget kind.Free h = cc

@@ -1,5 +1,6 @@
 -- What a line asks for: a command of the kernel where its object has the key `call`, else a message of the frontend.
-use Rattle.std.specs.Prelude.{ℕ, List, Option, Some, None, option_and_then, Result, Ok, Err, codes, if◌then◌else◌, ⊤}
+use Rattle.std.specs.Prelude.{ℕ, pos, List, Option, Some, None, option_and_then, Result, Ok, Err, codes, if◌then◌else◌}
+use Rattle.std.specs.Prelude.{⊤}
 use Rattle.std.specs.Str.{bytes_eq}
 use Rattle.json.specs.Json.{Json, null, string, array, Members}
 use Rattle.comm_json.specs.Behind.{get_member}
@@ -14,8 +15,10 @@ use Rattle.comm_value.specs.Put.{placed_in}
 use Rattle.comm_value.specs.declared.fault.ValueFault.{ValueFault}
 use Rattle.comm_value.specs.declared.fault.ValueFault.TheVariants.{NotWhole}
 use Rattle.comm_messages.specs.Buffers.{buffers_of}
-use Rattle.comm_messages.specs.Fields.{object_in, object_or_empty, text, client_of}
-use Rattle.comm_messages.specs.Message.{message_in, dict_of, body_of}
+use Rattle.comm_messages.specs.Fields.{object_in, object_or_empty, text, client_of, below}
+use Rattle.comm_messages.specs.Gives as message
+use Rattle.comm_messages.specs.Message.{message_from, dict_of, body_of, body_with}
+use Rattle.comm_messages.specs.Envelope.{Envelope, of_line}
 use Rattle.comm_messages.specs.declared.incoming.Incoming.{Incoming}
 use Rattle.comm_messages.specs.declared.incoming.Incoming.TheVariants as incoming
 use Rattle.comm_core.specs.declared.call.Call.TheVariants as call
@@ -98,19 +101,27 @@ asked_by_message (incoming.Msg id body) = Change (call.Msg id body)
 asked_by_message (incoming.Close id) = Change (call.Close id)
 asked_by_message (incoming.InfoRequest target) = Infos target
 
+-- an object by itself, as a call by its parts has it
+abbrev pub object_part : Key → Json → Reading Members
+object_part k value = or_fault (BadField k) (object_or_empty (Some value))
+
 -- ---- what depends on which numbers are values
 
-module _ (taken : Numbers) where
+module _ (numbers : Numbers) where
   abbrev pub value_in : Option Json → Reading (Option Tree)
   value_in None = Ok None
-  value_in (Some d) = or_fault (Value NotWhole) (tree_of taken d) >>= (λ t. Ok (Some t))
+  value_in (Some d) = or_fault (Value NotWhole) (tree_of numbers d) >>= (λ t. Ok (Some t))
 
-  unfoldable pub state_in : Members → Members → Reading tree.Members
-  state_in object line = do
-    state ← of_message (dict_of taken object)
-    paths ← value_in (get_member (codes "buffer_paths") line)
-    buffers ← of_message (buffers_of (get_member (codes "buffers") line))
+  unfoldable pub state_with : Members → Option Json → message.Reading (List (List ℕ)) → Reading tree.Members
+  state_with object paths buffers = do
+    state ← of_message (dict_of numbers object)
+    paths ← value_in paths
+    buffers ← of_message buffers
     placed_at (read_paths paths) buffers state
+
+  abbrev pub state_in : Members → Members → Reading tree.Members
+  state_in object line =
+      state_with object (get_member (codes "buffer_paths") line) (buffers_of (get_member (codes "buffers") line))
 
   unfoldable pub launch_in : Members → Reading Request
   launch_in line = do
@@ -133,7 +144,27 @@ module _ (taken : Numbers) where
     id ← text_field key.Id (codes "id") line
     object ← object_field key.Data (codes "data") line
     list ← list_field line
-    body ← of_message (body_of taken object line)
+    body ← of_message (body_of numbers object line)
+    Ok (Change (call.Send id body))
+
+  -- ---- the kernel's calls by their parts: a value that was read, and the buffers
+
+  unfoldable pub launch_with : (name uuid : List ℕ) → (state paths : Json) → message.Reading (List (List ℕ))
+      → Reading Request
+  launch_with name uuid state paths buffers = do
+    object ← object_part key.State state
+    state_with object (Some paths) buffers >>= launched name uuid
+
+  unfoldable pub push_with : List ℕ → (state paths : Json) → message.Reading (List (List ℕ)) → Reading Request
+  push_with id state paths buffers = do
+    object ← object_part key.State state
+    state ← state_with object (Some paths) buffers
+    Ok (Change (call.Push id state))
+
+  unfoldable pub send_with : List ℕ → Json → message.Reading (List (List ℕ)) → Reading Request
+  send_with id value buffers = do
+    object ← object_part key.Data value
+    body ← of_message (body_with numbers object buffers)
     Ok (Change (call.Send id body))
 
   abbrev pub command_named : List ℕ → Members → Reading Request
@@ -151,8 +182,13 @@ module _ (taken : Numbers) where
   command (string name) line = command_named name line
   command _ line = Err UnknownCall
 
+  -- what the message of an envelope asks for
+  abbrev pub asked_from : ℕ → Envelope → Reading (ℕ × Request)
+  asked_from clients envelope =
+      of_message (message_from clients numbers envelope) >>= (λ m. Ok (m.0, asked_by_message m.1))
+
   abbrev pub asked_by : Option Json → ℕ → Members → Reading (ℕ × Request)
-  asked_by None clients line = of_message (message_in clients taken line) >>= (λ m. Ok (m.0, asked_by_message m.1))
+  asked_by None clients line = asked_from clients (of_line line)
   asked_by (Some name) clients line =
       of_message (client_of clients (get_member (codes "client") line))
       >>= (λ client. command name line >>= (λ asked. Ok (client, asked)))
@@ -163,6 +199,11 @@ module _ (taken : Numbers) where
   -- the client, and what it asks for
   abbrev pub asked : ℕ → List ℕ → Reading (ℕ × Request)
   asked clients bytes = of_message (object_in bytes) >>= asked_in clients
+
+-- a client's request, where there is such a client
+abbrev pub of_client : (clients client : ℕ) → Reading Request → Reading (ℕ × Request)
+of_client clients client request =
+    of_message (below clients (Some (pos client))) >>= (λ c. request >>= (λ asked. Ok (c, asked)))
 
 -- a change that is asked for hands no target in: a register takes one out of the stock
 abbrev pub HandsNothing : Request → Type 0

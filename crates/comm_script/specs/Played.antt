@@ -90,11 +90,11 @@ pub record Begins (before now : Option (List ℕ)) (text : List ℕ) : Type 0 wh
 
 -- ---- what depends on which numbers are values
 
-module _ (taken : Numbers) where
+module _ (numbers : Numbers) where
   -- the line of this number
   unfoldable pub turn : Limits → Standing → ℕ → List ℕ → Turn
   turn limits now number line =
-      if is_blank line then says now [] else answered limits now number (asked taken limits.clients line)
+      if is_blank line then says now [] else answered limits now number (asked numbers limits.clients line)
 
   -- the lines after the first n
   abbrev pub played_from : Limits → Standing → ℕ → List (List ℕ) → Turn

@@ -65,17 +65,17 @@ pub record Executes {F S : Type 0}
 
 -- ---- lines, one after another, by which numbers are values
 
-module _ (taken : Numbers) where
+module _ (numbers : Numbers) where
   -- what a line comes to
   abbrev pub line_turn : ℕ → List ℕ → Limits → Standing → Turn
-  line_turn number line limits now = turn taken limits now number line
+  line_turn number line limits now = turn numbers limits now number line
 
   -- what is written so far, and what the rest will give, is what all gives
   pub record Says {S : Type 0} (stands : Limits → Standing → S → Type 0) (limits : Limits) (stock : List Registered)
       (input : List ℕ) (s : S) (number : ℕ) (rest text : List ℕ) : Type 0 where
     pub now : Standing
     pub stand : stands limits now s
-    pub whole : text ++ (played_from taken limits now number (lines_of rest)).text ≡ played taken limits stock input
+    pub whole : text ++ (played_from numbers limits now number (lines_of rest)).text ≡ played numbers limits stock input
 
   -- the lines that end in a chunk are played, and what is left of it is kept
   pub record Cuts {S : Type 0} (stands : Limits → Standing → S → Type 0) (s : S) (number : ℕ)

@@ -126,6 +126,12 @@ state_json s =
     (member (codes "buffers") (array (buffer_texts (member_buffers s)))
     (member (codes "state") (object (json_members (plain_members s))) no_members)))
 
+-- the plain state and the paths of its buffers, which go beside it
+abbrev pub state_content : Members → Json
+state_content s =
+    object (member (codes "buffer_paths") (json_of (paths_tree (member_paths s)))
+    (member (codes "state") (object (json_members (plain_members s))) no_members))
+
 abbrev pub state_words : StateAnswer → List ℕ
 state_words NoComm = codes "no_comm"
 state_words NoState = codes "no_state"

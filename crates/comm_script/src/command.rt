@@ -1,11 +1,13 @@
 ghost use Rattle.std.specs.Prelude.{◌≡◌, Ok, IfOk, IfErr, option_map};
 ghost use Rattle.comm_json.specs.Behind.{behind as of_ref};
 ghost use Rattle.comm_value.specs.View.{tree};
+ghost use Rattle.comm_messages.specs.Envelope.{buffers_in};
 ghost use Rattle.comm_messages.specs.Fields.{behind, fields};
 ghost use Rattle.comm_value.specs.Paths.{read_paths, Refuses};
 ghost use Rattle.comm_script.specs.Line.{Gives};
 ghost use Rattle.comm_script.specs.Command.{text_field, object_field, list_or_empty, list_field, kind_named};
-ghost use Rattle.comm_script.specs.Command.{kind_field, value_in, placed_at, state_in, register_in, unregister_in};
+ghost use Rattle.comm_script.specs.Command.{kind_field, value_in, placed_at, state_with, state_in};
+ghost use Rattle.comm_script.specs.Command.{register_in, unregister_in};
 ghost use Rattle.comm_script.specs.Command.{launched, launch_in, push_in, send_in, hang_up_in, state_read_in};
 ghost use Rattle.comm_script.specs.Command.{command_named, command, HandsNothing};
 ghost use Rattle.uuid.specs.Text.{parsed};
@@ -16,7 +18,9 @@ use crate::asked::{Key, LineFault, Request};
 use crate::stock::StockKind;
 use comm_core::Call;
 use comm_json::{JsonKind, JsonRef};
-use comm_messages::{Fields, body_of, buffers_of, dict_of, member, object_or_empty, text};
+use comm_messages::{
+    BuffersRef, Fields, body_of, buffers_in, dict_of, member, object_or_empty, text,
+};
 use comm_value::{Buffers, Dict, Numbers, Path, Text, Val, ValueFault, paths_of, put_all};
 use std::alloc::Global;
 use uuid::Uuid;
@@ -88,14 +92,14 @@ fn kind_field(line: Fields<'_, '_>) -> Result<StockKind, LineFault>
 
 fn value_in(
     alloc: Global,
-    taken: Numbers,
+    numbers: Numbers,
     json: Option<JsonRef<'_, '_>>,
 ) -> Result<Option<Val>, LineFault>
-    ensures { Gives (λ v. option_map tree v) result (value_in taken (behind json.entry)) }
+    ensures { Gives (λ v. option_map tree v) result (value_in numbers (behind json.entry)) }
 {
     match json {
         None => Ok(None),
-        Some(json) => Ok(Some(Val::from_ref(alloc, taken, json)?)),
+        Some(json) => Ok(Some(Val::from_ref(alloc, numbers, json)?)),
     }
 }
 
@@ -131,25 +135,27 @@ fn placed_at(
     }
 }
 
-// A state with the buffers at their paths.
-#[tactic(auto, unfolding(crate::specs::Command::state_in))]
-fn state_in(
+/// A state with the buffers at their paths. Err: the first test that fails, or Memory.
+#[tactic(auto, unfolding(crate::specs::Command::state_with))]
+pub fn state_with(
     alloc: Global,
-    taken: Numbers,
+    numbers: Numbers,
     object: Fields<'_, '_>,
-    line: Fields<'_, '_>,
+    paths: Option<JsonRef<'_, '_>>,
+    buffers: BuffersRef<'_, '_>,
 ) -> Result<Dict, LineFault>
-    ensures { Gives (λ d. d) result (state_in taken (fields object.entry) (fields line.entry)) }
+    ensures { Gives (λ d. d) result
+        (state_with numbers (fields object.entry) (behind paths.entry) (buffers_in buffers.entry)) }
 {
-    let state = dict_of(alloc, taken, object)?;
-    let paths = match value_in(alloc, taken, member(line, "buffer_paths")) {
+    let state = dict_of(alloc, numbers, object)?;
+    let paths = match value_in(alloc, numbers, paths) {
         Ok(paths) => paths,
         Err(fault) => {
             drop(state);
             return Err(fault);
         }
     };
-    match buffers_of(alloc, member(line, "buffers")) {
+    match buffers_in(alloc, buffers) {
         Ok(buffers) => placed_at(alloc, paths, buffers, state),
         Err(fault) => {
             drop(paths);
@@ -157,6 +163,19 @@ fn state_in(
             Err(LineFault::Message(fault))
         }
     }
+}
+
+fn state_in(
+    alloc: Global,
+    numbers: Numbers,
+    object: Fields<'_, '_>,
+    line: Fields<'_, '_>,
+) -> Result<Dict, LineFault>
+    ensures { Gives (λ d. d) result (state_in numbers (fields object.entry) (fields line.entry)) }
+{
+    let paths = member(line, "buffer_paths");
+    let buffers = BuffersRef::Encoded(member(line, "buffers"));
+    state_with(alloc, numbers, object, paths, buffers)
 }
 
 #[tactic(auto, unfolding(crate::specs::Command::register_in))]
@@ -188,7 +207,8 @@ fn uuid_of(text: &str) -> Result<Uuid, LineFault>
     }
 }
 
-fn launched(alloc: Global, name: &str, uuid: &str, state: Dict) -> Result<Request, LineFault>
+/// The launch of a widget with this state. Err: BadUuid or Memory.
+pub fn launched(alloc: Global, name: &str, uuid: &str, state: Dict) -> Result<Request, LineFault>
     ensures asked { Gives (λ a. a) result (launched name.now uuid.now state) }
     ensures handless { IfOk result HandsNothing }
 {
@@ -208,41 +228,41 @@ fn launched(alloc: Global, name: &str, uuid: &str, state: Dict) -> Result<Reques
 }
 
 #[tactic(auto, unfolding(crate::specs::Command::launch_in))]
-fn launch_in(alloc: Global, taken: Numbers, line: Fields<'_, '_>) -> Result<Request, LineFault>
-    ensures asked { Gives (λ a. a) result (launch_in taken (fields line.entry)) }
+fn launch_in(alloc: Global, numbers: Numbers, line: Fields<'_, '_>) -> Result<Request, LineFault>
+    ensures asked { Gives (λ a. a) result (launch_in numbers (fields line.entry)) }
     ensures handless { IfOk result HandsNothing }
 {
     let name = text_field(Key::Name, "name", line)?;
     let uuid = text_field(Key::Uuid, "uuid", line)?;
     let object = object_field(Key::State, "state", line)?;
     list_field(line)?;
-    let state = state_in(alloc, taken, object, line)?;
+    let state = state_in(alloc, numbers, object, line)?;
     launched(alloc, name, uuid, state)
 }
 
 #[tactic(auto, unfolding(crate::specs::Command::push_in))]
-fn push_in(alloc: Global, taken: Numbers, line: Fields<'_, '_>) -> Result<Request, LineFault>
-    ensures asked { Gives (λ a. a) result (push_in taken (fields line.entry)) }
+fn push_in(alloc: Global, numbers: Numbers, line: Fields<'_, '_>) -> Result<Request, LineFault>
+    ensures asked { Gives (λ a. a) result (push_in numbers (fields line.entry)) }
     ensures handless { IfOk result HandsNothing }
 {
     let id = text_field(Key::Id, "id", line)?;
     let object = object_field(Key::State, "state", line)?;
     list_field(line)?;
     let id = Text::copy_of(alloc, id)?;
-    let state = state_in(alloc, taken, object, line)?;
+    let state = state_in(alloc, numbers, object, line)?;
     Ok(Request::Change(Call::Push { id, state }))
 }
 
 #[tactic(auto, unfolding(crate::specs::Command::send_in))]
-fn send_in(alloc: Global, taken: Numbers, line: Fields<'_, '_>) -> Result<Request, LineFault>
-    ensures asked { Gives (λ a. a) result (send_in taken (fields line.entry)) }
+fn send_in(alloc: Global, numbers: Numbers, line: Fields<'_, '_>) -> Result<Request, LineFault>
+    ensures asked { Gives (λ a. a) result (send_in numbers (fields line.entry)) }
     ensures handless { IfOk result HandsNothing }
 {
     let id = text_field(Key::Id, "id", line)?;
     let object = object_field(Key::Data, "data", line)?;
     list_field(line)?;
     let id = Text::copy_of(alloc, id)?;
-    let body = body_of(alloc, taken, object, line)?;
+    let body = body_of(alloc, numbers, object, line)?;
     Ok(Request::Change(Call::Send { id, body }))
 }
 
@@ -266,11 +286,11 @@ fn state_read_in(alloc: Global, line: Fields<'_, '_>) -> Result<Request, LineFau
 
 fn command_named(
     alloc: Global,
-    taken: Numbers,
+    numbers: Numbers,
     name: &str,
     line: Fields<'_, '_>,
 ) -> Result<Request, LineFault>
-    ensures asked { Gives (λ a. a) result (command_named taken name.now (fields line.entry)) }
+    ensures asked { Gives (λ a. a) result (command_named numbers name.now (fields line.entry)) }
     ensures handless { IfOk result HandsNothing }
 {
     if name == "register" {
@@ -278,11 +298,11 @@ fn command_named(
     } else if name == "unregister" {
         unregister_in(alloc, line)
     } else if name == "launch" {
-        launch_in(alloc, taken, line)
+        launch_in(alloc, numbers, line)
     } else if name == "push" {
-        push_in(alloc, taken, line)
+        push_in(alloc, numbers, line)
     } else if name == "send" {
-        send_in(alloc, taken, line)
+        send_in(alloc, numbers, line)
     } else if name == "hang_up" {
         hang_up_in(alloc, line)
     } else if name == "state" {
@@ -295,15 +315,16 @@ fn command_named(
 /// What a command asks for: a line with the key `call`, whose value is handed in.
 pub fn command(
     alloc: Global,
-    taken: Numbers,
+    numbers: Numbers,
     call: JsonRef<'_, '_>,
     line: Fields<'_, '_>,
 ) -> Result<Request, LineFault>
-    ensures asked { Gives (λ a. a) result (command taken (of_ref call.entry) (fields line.entry)) }
+    ensures asked { Gives (λ a. a) result
+        (command numbers (of_ref call.entry) (fields line.entry)) }
     ensures handless { IfOk result HandsNothing }
 {
     match call.kind() {
-        JsonKind::Text(name) => command_named(alloc, taken, name, line),
+        JsonKind::Text(name) => command_named(alloc, numbers, name, line),
         JsonKind::Null
         | JsonKind::Bool(_)
         | JsonKind::Number(_)

@@ -12,9 +12,9 @@ use comm_core::legal_histories_grow;
 /// The changes that a script makes, whatever it is, are a legal history. So comm_core's laws over whole runs hold of
 /// each script: after it those comms are listed that it left open, with the states that it gave them last.
 pub fn scripts_make_legal_histories()
-    ensures { (taken : Numbers) (limits : Limits) (stock : List Registered) (input : List ℕ)
+    ensures { (numbers : Numbers) (limits : Limits) (stock : List Registered) (input : List ℕ)
         → AreAllowed limits
-        → IsLegal limits.clients limits.comms (history_of taken limits stock input) }
+        → IsLegal limits.clients limits.comms (history_of numbers limits stock input) }
 {
     legal_histories_grow();
 }

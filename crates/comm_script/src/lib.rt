@@ -9,7 +9,8 @@
 //! A [`Backend`] is what a script is played over: [`play_script`] plays a whole script over any, [`play_line`] a
 //! line, and [`execute`] what a line asks for. `shared_script` has one over the manager that threads share.
 //! [`split_line`] and [`is_blank`] find lines, [`parse_line`] reads one, a [`Stock`] has the targets, `append_*` are
-//! the lines that are written, and [`write_all_and_flush`] writes them.
+//! the lines that are written, and [`write_all_and_flush`] writes them. [`launch_with`], [`push_with`] and
+//! [`send_with`] read these commands from their parts, without a line.
 #![tactic(auto)]
 
 mod asked;
@@ -17,6 +18,7 @@ mod backend;
 mod command;
 mod fault;
 mod fault_words;
+mod kernel_parts;
 mod laws;
 mod line;
 mod lines;
@@ -31,8 +33,9 @@ mod wording;
 pub use asked::{Key, LineFault, Request};
 pub use backend::Backend;
 pub use fault::RunFault;
+pub use kernel_parts::{launch_with, push_with, send_with};
 pub use laws::scripts_make_legal_histories;
-pub use line::parse_line;
+pub use line::{asked_from, parse_line, parse_line_among};
 pub use lines::{is_blank, split_line};
 pub use player::{append_fault, play_line};
 pub use running::{run, run_with};
@@ -41,5 +44,5 @@ pub use stock::{Stock, StockKind, push_target};
 pub use stream::{play_script, write_all_and_flush};
 pub use wording::{
     append, append_bad, append_counted, append_infos, append_number, append_out, append_outs,
-    append_reply, append_state_line,
+    append_reply, append_state_content, append_state_line,
 };

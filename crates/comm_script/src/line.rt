@@ -1,13 +1,18 @@
 ghost use Rattle.std.specs.Prelude.{◌≡◌, ◌<◌, IfOk};
+ghost use Rattle.comm_messages.specs.Envelope.{envelope};
 ghost use Rattle.comm_messages.specs.Fields.{fields};
 ghost use Rattle.comm_script.specs.Line.{Gives};
-ghost use Rattle.comm_script.specs.Command.{asked_by_message, asked_in, asked, HandsNothing};
+ghost use Rattle.comm_script.specs.Command.{asked_by_message, asked_from, asked_in, asked, HandsNothing};
 
 use crate::asked::{LineFault, Request};
 use crate::command::command;
+use bumpalo::Bump;
 use comm_core::Call;
-use comm_json::ParseArena;
-use comm_messages::{Fields, Incoming, client_of, fields_of, member, message_in, object_in};
+use comm_json::{ParseArena, TextScratch};
+use comm_messages::{
+    EnvelopeRef, Fields, Incoming, client_of, envelope_of_line, fields_of, member, message_from,
+    object_among, object_in,
+};
 use comm_value::Numbers;
 use std::alloc::Global;
 
@@ -33,25 +38,40 @@ fn asked_by_message(incoming: Incoming) -> Request
     }
 }
 
+/// What the message of an envelope asks for, with these numbers as values, and the index of its client. Err: the first
+/// test that fails, or Memory.
+pub fn asked_from(
+    alloc: Global,
+    from: &EnvelopeRef<'_, '_>,
+    clients: u8,
+    numbers: Numbers,
+) -> Result<(u8, Request), LineFault>
+    requires { 0 < clients }
+    ensures asked { Gives (λ r. (r.0, r.1)) result
+        (asked_from numbers clients (envelope from.now)) }
+    ensures below { IfOk result (λ r. r.0 < clients) }
+    ensures handless { IfOk result (λ r. HandsNothing r.1) }
+{
+    let (client, incoming) = message_from(alloc, from, clients, numbers)?;
+    Ok((client, asked_by_message(incoming)))
+}
+
 fn asked_in(
     alloc: Global,
     line: Fields<'_, '_>,
     clients: u8,
-    taken: Numbers,
+    numbers: Numbers,
 ) -> Result<(u8, Request), LineFault>
     requires { 0 < clients }
-    ensures asked { Gives (λ r. (r.0, r.1)) result (asked_in taken clients (fields line.entry)) }
+    ensures asked { Gives (λ r. (r.0, r.1)) result (asked_in numbers clients (fields line.entry)) }
     ensures below { IfOk result (λ r. r.0 < clients) }
     ensures handless { IfOk result (λ r. HandsNothing r.1) }
 {
     match member(line, "call") {
-        None => {
-            let (client, incoming) = message_in(alloc, line, clients, taken)?;
-            Ok((client, asked_by_message(incoming)))
-        }
+        None => asked_from(alloc, &envelope_of_line(line), clients, numbers),
         Some(call) => {
             let client = client_of(member(line, "client"), clients)?;
-            let asked = command(alloc, taken, call, line)?;
+            let asked = command(alloc, numbers, call, line)?;
             Ok((client, asked))
         }
     }
@@ -63,14 +83,32 @@ pub fn parse_line(
     alloc: Global,
     line: &[u8],
     clients: u8,
-    taken: Numbers,
+    numbers: Numbers,
     arena: &mut ParseArena,
 ) -> Result<(u8, Request), LineFault>
     requires { 0 < clients }
-    ensures asked { Gives (λ r. (r.0, r.1)) result (asked taken clients line.now) }
+    ensures asked { Gives (λ r. (r.0, r.1)) result (asked numbers clients line.now) }
     ensures below { IfOk result (λ r. r.0 < clients) }
     ensures handless { IfOk result (λ r. HandsNothing r.1) }
 {
     let object = object_in(line, arena)?;
-    asked_in(alloc, fields_of(&object), clients, taken)
+    asked_in(alloc, fields_of(&object), clients, numbers)
+}
+
+/// Reads a line as [`parse_line`] does. Its strings are parsed into the scratch, its lists into the arena.
+pub fn parse_line_among<'a>(
+    alloc: Global,
+    line: &'a [u8],
+    clients: u8,
+    numbers: Numbers,
+    scratch: &'a mut TextScratch,
+    lists: &'a Bump,
+) -> Result<(u8, Request), LineFault>
+    requires { 0 < clients }
+    ensures asked { Gives (λ r. (r.0, r.1)) result (asked numbers clients line.now) }
+    ensures below { IfOk result (λ r. r.0 < clients) }
+    ensures handless { IfOk result (λ r. HandsNothing r.1) }
+{
+    let members = object_among(line, scratch, lists)?;
+    asked_in(alloc, fields_of(&members), clients, numbers)
 }

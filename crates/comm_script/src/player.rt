@@ -28,9 +28,9 @@ pub fn append_fault(number: u64, fault: LineFault, text: &mut Vec<u8>) -> Result
     Ok(())
 }
 
-/// Plays the line of this number: `execute` does what it asks for, for one of so many clients. Numbers that aren't
-/// `taken` make it a bad line. A blank line asks for nothing, and a line that can't be read is answered with why. Err:
-/// what `execute` gives, or Memory.
+/// Plays the line of this number: `execute` does what it asks for, for one of so many clients. A number in it that
+/// isn't one of `numbers` makes it a bad line. A blank line asks for nothing, and a line that can't be read is answered
+/// with why. Err: what `execute` gives, or Memory.
 #[inline(always)]
 #[tactic(auto, unfolding(crate::specs::Played::turn))]
 pub fn play_line<B: Backend, F: Fn(&mut B, u64, u8, Request, &mut Vec<u8>) -> Result<(), RunFault>>(
@@ -38,7 +38,7 @@ pub fn play_line<B: Backend, F: Fn(&mut B, u64, u8, Request, &mut Vec<u8>) -> Re
     execute: &F,
     alloc: Global,
     clients: u8,
-    taken: Numbers,
+    numbers: Numbers,
     number: u64,
     line: &[u8],
     arena: &mut ParseArena,
@@ -49,9 +49,9 @@ pub fn play_line<B: Backend, F: Fn(&mut B, u64, u8, Request, &mut Vec<u8>) -> Re
     requires few { B.change_count backend.old < 2 ^ 63 }
     requires executes { Executes F.Fn execute.now B.stands (B.is_sound clients) B.follows
         B.change_count clients }
-    ensures text { OnOk result (AppendsTurn B.stands (line_turn taken number line.now)
+    ensures text { OnOk result (AppendsTurn B.stands (line_turn numbers number line.now)
         backend.old text.old.items text.new.items) }
-    ensures turn { OnOk result (TakesTurn B.stands (line_turn taken number line.now)
+    ensures turn { OnOk result (TakesTurn B.stands (line_turn numbers number line.now)
         backend.old backend.new) }
     ensures count { B.change_count backend.new ≤ B.change_count backend.old + 1 }
     ensures kept { B.is_sound clients backend.new }
@@ -61,7 +61,7 @@ pub fn play_line<B: Backend, F: Fn(&mut B, u64, u8, Request, &mut Vec<u8>) -> Re
     if is_blank(line) {
         return Ok(());
     }
-    match parse_line(alloc, line, clients, taken, arena) {
+    match parse_line(alloc, line, clients, numbers, arena) {
         Ok((client, request)) => execute(backend, number, client, request, text),
         Err(fault) => append_fault(number, fault, text),
     }

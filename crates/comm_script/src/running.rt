@@ -32,21 +32,21 @@ pub fn run_with<R: Read, W: Write, T: Target>(
     reader: &mut R,
     writer: &mut W,
     limits: Limits,
-    taken: Numbers,
+    numbers: Numbers,
     stock: Vec<T>,
 ) -> Result<(), RunFault>
     requires idle { AreIdle (map T.means stock.items) }
     ensures played { OnOk result (IfSome (R.remaining reader.old) (λ input.
         Appends (W.contents writer.old) (W.contents writer.new)
-        (played taken limits (shelved (map T.means stock.items)) input))) }
+        (played numbers limits (shelved (map T.means stock.items)) input))) }
     ensures begun { IfSome (R.remaining reader.old) (λ input.
         Begins (W.contents writer.old) (W.contents writer.new)
-        (played taken limits (shelved (map T.means stock.items)) input)) }
+        (played numbers limits (shelved (map T.means stock.items)) input)) }
     ensures read { IsErrOf result RunFault.Read → IfSome (R.remaining reader.old) (λ input.
-        Stops taken limits (shelved (map T.means stock.items)) input
+        Stops numbers limits (shelved (map T.means stock.items)) input
         (R.remaining reader.new) (W.contents writer.old) (W.contents writer.new)) }
     ensures memory { IsErrOf result RunFault.Memory → IfSome (R.remaining reader.old) (λ input.
-        Pauses taken limits (shelved (map T.means stock.items)) input
+        Pauses numbers limits (shelved (map T.means stock.items)) input
         (R.remaining reader.new) (W.contents writer.old) (W.contents writer.new)) }
     ensures bad_limits { IsErrOf result RunFault.BadLimits ↔ ¬ (AreAllowed limits) }
 {
@@ -62,7 +62,7 @@ pub fn run_with<R: Read, W: Write, T: Target>(
                 { session.execute(alloc, number, client, request, text) },
                 alloc,
                 limits.clients,
-                taken,
+                numbers,
                 reader,
                 writer,
             );

@@ -27,7 +27,7 @@ fn play_chunk<B: Backend, F: Fn(&mut B, u64, u8, Request, &mut Vec<u8>) -> Resul
     execute: &F,
     alloc: Global,
     clients: u8,
-    taken: Numbers,
+    numbers: Numbers,
     arena: &mut ParseArena,
     number: &mut u64,
     pending: &mut Vec<u8>,
@@ -42,7 +42,7 @@ fn play_chunk<B: Backend, F: Fn(&mut B, u64, u8, Request, &mut Vec<u8>) -> Resul
     requires few { number.old + length chunk.now < 2 ^ 62 }
     requires small { length chunk.now ≤ CHUNK }
     requires one_line { has_line_feed pending.old.items ≡ false }
-    ensures says { OnOk result (Cuts taken B.stands
+    ensures says { OnOk result (Cuts numbers B.stands
         backend.old number.old pending.old.items chunk.now text.old.items
         backend.new number.new pending.new.items text.new.items) }
     ensures few { OnOk result (number.new ≤ number.old + CHUNK) }
@@ -57,7 +57,7 @@ fn play_chunk<B: Backend, F: Fn(&mut B, u64, u8, Request, &mut Vec<u8>) -> Resul
         pending.extend_from_slice(line)?;
         n += 1;
         play_line(
-            backend, execute, alloc, clients, taken, n, pending, arena, text,
+            backend, execute, alloc, clients, numbers, n, pending, arena, text,
         )?;
         pending.clear();
         rest = more;
@@ -73,7 +73,7 @@ fn play_last<B: Backend, F: Fn(&mut B, u64, u8, Request, &mut Vec<u8>) -> Result
     execute: &F,
     alloc: Global,
     clients: u8,
-    taken: Numbers,
+    numbers: Numbers,
     arena: &mut ParseArena,
     number: u64,
     pending: &[u8],
@@ -87,9 +87,9 @@ fn play_last<B: Backend, F: Fn(&mut B, u64, u8, Request, &mut Vec<u8>) -> Result
     requires few { number < 2 ^ 62 }
     requires one_line { has_line_feed pending.now ≡ false }
     ensures says { OnOk result ((limits : Limits) (stock : List Registered) (input written : List ℕ)
-        → Says taken B.stands limits stock input backend.old number pending.now
+        → Says numbers B.stands limits stock input backend.old number pending.now
         (written ++ text.old.items)
-        → written ++ text.new.items ≡ played taken limits stock input) }
+        → written ++ text.new.items ≡ played numbers limits stock input) }
     ensures kept { B.is_sound clients backend.new }
     ensures fault { IfErr result IsBackendFault }
 {
@@ -101,7 +101,7 @@ fn play_last<B: Backend, F: Fn(&mut B, u64, u8, Request, &mut Vec<u8>) -> Result
         execute,
         alloc,
         clients,
-        taken,
+        numbers,
         number + 1,
         pending,
         arena,
@@ -126,7 +126,7 @@ pub fn play_script<
     execute: &F,
     alloc: Global,
     clients: u8,
-    taken: Numbers,
+    numbers: Numbers,
     reader: &mut R,
     writer: &mut W,
 ) -> Result<(), RunFault>
@@ -139,20 +139,21 @@ pub fn play_script<
         → B.stands limits (record { history = []; stock = stock }) backend.old
         → IfSome (R.remaining reader.old) (λ input.
         Appends (W.contents writer.old) (W.contents writer.new)
-        (played taken limits stock input))) }
+        (played numbers limits stock input))) }
     ensures begun { (limits : Limits) (stock : List Registered)
         → B.stands limits (record { history = []; stock = stock }) backend.old
         → IfSome (R.remaining reader.old) (λ input.
-        Begins (W.contents writer.old) (W.contents writer.new) (played taken limits stock input)) }
+        Begins (W.contents writer.old) (W.contents writer.new)
+        (played numbers limits stock input)) }
     ensures read { IsErrOf result RunFault.Read → (limits : Limits) (stock : List Registered)
         → B.stands limits (record { history = []; stock = stock }) backend.old
         → IfSome (R.remaining reader.old) (λ input.
-        Stops taken limits stock input (R.remaining reader.new)
+        Stops numbers limits stock input (R.remaining reader.new)
         (W.contents writer.old) (W.contents writer.new)) }
     ensures memory { IsErrOf result RunFault.Memory → (limits : Limits) (stock : List Registered)
         → B.stands limits (record { history = []; stock = stock }) backend.old
         → IfSome (R.remaining reader.old) (λ input.
-        Pauses taken limits stock input (R.remaining reader.new)
+        Pauses numbers limits stock input (R.remaining reader.new)
         (W.contents writer.old) (W.contents writer.new)) }
     ensures kept { B.is_sound clients backend.new }
     ensures fault { IfErr result (λ e. e ≢ RunFault.BadLimits) }
@@ -166,7 +167,7 @@ pub fn play_script<
         match reader.read(&mut chunk) {
             Ok(0) => {
                 play_last(
-                    backend, execute, alloc, clients, taken, &mut arena, number, &pending,
+                    backend, execute, alloc, clients, numbers, &mut arena, number, &pending,
                     &mut text,
                 )?;
                 write_all_and_flush(writer, &mut text)?;
@@ -178,7 +179,7 @@ pub fn play_script<
                     execute,
                     alloc,
                     clients,
-                    taken,
+                    numbers,
                     &mut arena,
                     &mut number,
                     &mut pending,

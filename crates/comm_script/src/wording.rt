@@ -9,7 +9,8 @@ ghost use Rattle.comm_value.specs.Paths.{paths_tree};
 ghost use Rattle.comm_messages.specs.Text.{buffer_texts};
 ghost use Rattle.comm_messages.specs.declared.outgoing.Outgoing.TheVariants as outgoing;
 ghost use Rattle.comm_messages.specs.declared.outgoing.Parent.TheVariants as parent;
-ghost use Rattle.comm_script.specs.Words.{custom_json, delivered_words, reply_words, state_json, state_words};
+ghost use Rattle.comm_script.specs.Words.{custom_json, delivered_words, reply_words, state_content, state_json};
+ghost use Rattle.comm_script.specs.Words.{state_words};
 ghost use Rattle.comm_script.specs.Words.{reply_line, bad_line, state_line, out_line, out_lines};
 
 use crate::asked::LineFault;
@@ -186,6 +187,41 @@ fn append_state_rest(
     append_key("buffers", out)?;
     append(b"[", out)?;
     append_buffers(alloc, buffers, out)?;
+    append_last("state", plain, out)?;
+    Ok(())
+}
+
+/// Appends a state as the content of a reply: what travels as JSON, and the paths of the buffers, which go beside it.
+pub fn append_state_content(
+    alloc: Global,
+    state: &Dict,
+    out: &mut Vec<u8>,
+) -> Result<(), AllocError>
+    ensures { OnOk result (out.new.items ≡ out.old.items
+        ++ compact_text (state_content state.now)) }
+{
+    let Separated {
+        plain,
+        paths,
+        buffers: _,
+    } = separate(alloc, state)?;
+    let plain = Val::Dict(plain);
+    let written = append_paths_and_state(alloc, &plain, &paths, out);
+    drop(plain);
+    written
+}
+
+fn append_paths_and_state(
+    alloc: Global,
+    plain: &Val,
+    paths: &[Path],
+    out: &mut Vec<u8>,
+) -> Result<(), AllocError>
+    ensures { OnOk result (out.new.items ≡ out.old.items
+        ++ compact_text (object (member (codes "buffer_paths") (json_of (paths_tree paths.now))
+        (member (codes "state") (json_of (tree plain.now)) no_members)))) }
+{
+    append_paths(alloc, paths, out)?;
     append_last("state", plain, out)?;
     Ok(())
 }

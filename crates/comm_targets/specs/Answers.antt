@@ -1,5 +1,5 @@
 -- What a target of each kind may answer.
-use Rattle.std.specs.Prelude.{◌≡◌, ◌⊎◌, ℕ, pos, true, false, [], Option, None, Some, unwrap_or, Result, Ok}
+use Rattle.std.specs.Prelude.{◌≡◌, ◌⊎◌, ℕ, pos, Bool, true, false, [], Option, None, Some, unwrap_or, Result, Ok}
 use Rattle.std.specs.Prelude.{Err, codes}
 use Rattle.comm_messages.specs.Content.{Content}
 use Rattle.comm_value.specs.Tree.{whole, Members, no_members, member}
@@ -8,7 +8,7 @@ use Rattle.comm_targets.specs.Meaning.{Meaning, one_more}
 use Rattle.comm_targets.specs.Widget as widget
 use Rattle.comm_targets.specs.Widget.{nothing, one_message}
 use Rattle.comm_targets.specs.declared.kind.Kind.{Kind}
-use Rattle.comm_targets.specs.declared.kind.Kind.TheVariants.{Echo, Counter, Widget, WidgetEcho, Plain, Free}
+use Rattle.comm_targets.specs.declared.kind.Kind.TheVariants.{Echo, Counter, Widget, WidgetEcho, Plain, Opaque, Free}
 use Rattle.comm_targets.specs.declared.event.Event.{Event}
 use Rattle.comm_targets.specs.declared.event.Event.TheVariants.{Open, Msg}
 use Rattle.comm_targets.specs.declared.answer.Answer.{Answer}
@@ -39,6 +39,11 @@ abbrev pub plain_of : Event → Answer
 plain_of (Msg id body) = record { state = None; messages = []; custom = Some (payload_of body) }
 plain_of e = nothing
 
+-- the kind of a target that hands on what comes
+abbrev pub plain_kind : Bool → Kind
+plain_kind true = Opaque
+plain_kind false = Plain
+
 -- The one outcome of a kind that has one. Of Free it is one among many.
 abbrev pub answer_of : Kind → ℕ → Option Members → Event → Result Answer TargetFault
 answer_of Echo notes now e = Ok (echo_of e)
@@ -46,6 +51,7 @@ answer_of Counter notes now e = Ok (count_answer notes e)
 answer_of Widget notes now e = widget.answer_of false (unwrap_or now no_members) e
 answer_of WidgetEcho notes now e = widget.answer_of true (unwrap_or now no_members) e
 answer_of Plain notes now e = Ok (plain_of e)
+answer_of Opaque notes now e = Ok (plain_of e)
 answer_of Free notes now e = Ok nothing
 
 -- a free target hands nothing to the caller where a comm is opened

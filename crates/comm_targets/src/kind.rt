@@ -12,6 +12,9 @@ pub enum Kind {
     WidgetEcho,
     /// Hands each message to the caller.
     Plain,
+    /// Hands each message to the caller, as Plain does. A caller that has the message in hand needn't read its data for
+    /// this manager.
+    Opaque,
     /// Answers as its author likes, within what `Target` asks.
     Free,
 }

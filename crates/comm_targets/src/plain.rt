@@ -1,5 +1,5 @@
 ghost use Rattle.std.specs.Prelude.{◌≡◌, IfOk};
-ghost use Rattle.comm_targets.specs.Answers.{payload_of, plain_of};
+ghost use Rattle.comm_targets.specs.Answers.{payload_of, plain_kind, plain_of};
 ghost use Rattle.comm_targets.specs.Meaning.{new_of};
 
 use crate::answer::{Answer, Custom};
@@ -12,7 +12,8 @@ use comm_messages::Body;
 use comm_value::{Dict, Val};
 use std::alloc::{AllocError, Global};
 
-/// A target of kind Plain: it takes each opening, and hands each message whole to the caller. It sends nothing.
+/// A target of kind Plain, or Opaque: it takes each opening, and hands each message whole to the caller. It sends
+/// nothing.
 ///
 /// It is for a kernel's own comms: the kernel reads the message in the reply, and answers by a call of its own. Its
 /// comms have no state. The data of an opening isn't handed on, since the reply to an opening carries nothing: the
@@ -21,16 +22,31 @@ use std::alloc::{AllocError, Global};
 pub struct PlainTarget {
     alloc: Global,
     comms: OpenComms,
+    is_opaque: bool,
 }
 
 impl PlainTarget {
-    /// A target with no comm. It takes no memory.
+    /// A target with no comm, of kind Plain. It takes no memory.
     pub fn new(alloc: Global) -> PlainTarget
         ensures { ⟦<PlainTarget as Target>⟧.means result ≡ new_of Kind.Plain }
+    {
+        PlainTarget::of_kind(alloc, false)
+    }
+
+    /// A target with no comm, of kind Opaque. It takes no memory.
+    pub fn opaque(alloc: Global) -> PlainTarget
+        ensures { ⟦<PlainTarget as Target>⟧.means result ≡ new_of Kind.Opaque }
+    {
+        PlainTarget::of_kind(alloc, true)
+    }
+
+    fn of_kind(alloc: Global, is_opaque: bool) -> PlainTarget
+        ensures { ⟦<PlainTarget as Target>⟧.means result ≡ new_of (plain_kind is_opaque) }
     {
         PlainTarget {
             alloc,
             comms: OpenComms::new(alloc),
+            is_opaque,
         }
     }
 }
@@ -56,12 +72,21 @@ fn plain_of(alloc: Global, event: &Event) -> Result<Answer, AllocError>
 }
 
 impl Target for PlainTarget {
-    ghost use Rattle.comm_targets.specs.declared.kind.Kind.TheVariants as kind;
+    ghost use Rattle.comm_targets.specs.Answers.{plain_kind};
 
-    ghost means = { λ t. record { kind = kind.Plain; notes = 0; ids = t.comms.ids; staged = t.comms.staged } };
+    ghost means = { λ t. record {
+      kind = plain_kind t.is_opaque;
+      notes = 0;
+      ids = t.comms.ids;
+      staged = t.comms.staged;
+    } };
 
     fn kind(&self) -> Kind {
-        Kind::Plain
+        if self.is_opaque {
+            Kind::Opaque
+        } else {
+            Kind::Plain
+        }
     }
 
     fn notes(&self) -> u64 {

@@ -39,13 +39,13 @@ if_free : (b : Bool) (s : List ℕ) → Free has_bytes (cond b (Some (decimal s)
 if_free true s = refl
 if_free false s = tt
 
-other_free : (taken : Numbers) (s : List ℕ) → Free has_bytes (other_number taken s)
+other_free : (numbers : Numbers) (s : List ℕ) → Free has_bytes (other_number numbers s)
 other_free Whole s = tt
 other_free Any s = if_free (is_decimal s) s
 
-number_free : (taken : Numbers) (s : List ℕ) (o : Option ℤ) → Free has_bytes (number_of taken s o)
-number_free taken s (Some z) = refl
-number_free taken s None = other_free taken s
+number_free : (numbers : Numbers) (s : List ℕ) (o : Option ℤ) → Free has_bytes (number_of numbers s o)
+number_free numbers s (Some z) = refl
+number_free numbers s None = other_free numbers s
 
 item_free : (o : Option Tree) (rest : Option Items) → Free has_bytes o → Free items_have_bytes rest → Free items_have_bytes (option_and_then (λ t. option_map (item t) rest) o)
 item_free None rest f g = tt
@@ -58,27 +58,27 @@ member_free k (Some t) None f g = tt
 member_free k (Some t) (Some ms) f g = both_none (has_bytes t) (members_have_bytes ms) f g
 
 mutual
-  tree_free : (taken : Numbers) (d : json.Json) → Free has_bytes (tree_of taken d)
-  tree_free taken json.null = refl
-  tree_free taken (json.boolean b) = refl
-  tree_free taken (json.number n) = number_free taken n (whole_of n)
-  tree_free taken (json.string s) = refl
-  tree_free taken (json.array ds) = free_map has_bytes items_have_bytes list (items_of taken ds) (λ x h. h) (items_free taken ds)
-  tree_free taken (json.object ms) = free_map has_bytes members_have_bytes dict (members_of taken ms) (λ x h. h) (members_free taken ms)
+  tree_free : (numbers : Numbers) (d : json.Json) → Free has_bytes (tree_of numbers d)
+  tree_free numbers json.null = refl
+  tree_free numbers (json.boolean b) = refl
+  tree_free numbers (json.number n) = number_free numbers n (whole_of n)
+  tree_free numbers (json.string s) = refl
+  tree_free numbers (json.array ds) = free_map has_bytes items_have_bytes list (items_of numbers ds) (λ x h. h) (items_free numbers ds)
+  tree_free numbers (json.object ms) = free_map has_bytes members_have_bytes dict (members_of numbers ms) (λ x h. h) (members_free numbers ms)
 
-  items_free : (taken : Numbers) (ds : json.Items) → Free items_have_bytes (items_of taken ds)
-  items_free taken json.no_items = refl
-  items_free taken (json.item d ds) = item_free (tree_of taken d) (items_of taken ds) (tree_free taken d) (items_free taken ds)
+  items_free : (numbers : Numbers) (ds : json.Items) → Free items_have_bytes (items_of numbers ds)
+  items_free numbers json.no_items = refl
+  items_free numbers (json.item d ds) = item_free (tree_of numbers d) (items_of numbers ds) (tree_free numbers d) (items_free numbers ds)
 
-  members_free : (taken : Numbers) (ms : json.Members) → Free members_have_bytes (members_of taken ms)
-  members_free taken json.no_members = refl
-  members_free taken (json.member k d ms) = member_free k (tree_of taken d) (members_of taken ms) (tree_free taken d) (members_free taken ms)
+  members_free : (numbers : Numbers) (ms : json.Members) → Free members_have_bytes (members_of numbers ms)
+  members_free numbers json.no_members = refl
+  members_free numbers (json.member k d ms) = member_free k (tree_of numbers d) (members_of numbers ms) (tree_free numbers d) (members_free numbers ms)
 
-pub read_value : (taken : Numbers) (d : json.Json) (t : Tree) → tree_of taken d ≡ Some t → has_bytes t ≡ false
-read_value taken d t h = free_some has_bytes (tree_of taken d) t h (tree_free taken d)
+pub read_value : (numbers : Numbers) (d : json.Json) (t : Tree) → tree_of numbers d ≡ Some t → has_bytes t ≡ false
+read_value numbers d t h = free_some has_bytes (tree_of numbers d) t h (tree_free numbers d)
 
-pub read_members : (taken : Numbers) (ds : json.Members) (ms : Members) → members_of taken ds ≡ Some ms → members_have_bytes ms ≡ false
-read_members taken ds ms h = free_some members_have_bytes (members_of taken ds) ms h (members_free taken ds)
+pub read_members : (numbers : Numbers) (ds : json.Members) (ms : Members) → members_of numbers ds ≡ Some ms → members_have_bytes ms ≡ false
+read_members numbers ds ms h = free_some members_have_bytes (members_of numbers ds) ms h (members_free numbers ds)
 
 -- ---- without its bytes
 

@@ -33,7 +33,7 @@ pub fn run_shared_with<I: Read, O: Write, T: Target, R: Wait>(
     reader: &mut I,
     writer: &mut O,
     limits: Limits,
-    taken: Numbers,
+    numbers: Numbers,
     stock: Vec<T>,
 ) -> Result<(), RunFault>
     requires idle { AreIdle (map T.means stock.items) }
@@ -41,7 +41,7 @@ pub fn run_shared_with<I: Read, O: Write, T: Target, R: Wait>(
 {
     match ManagerBuilder::new(alloc, limits) {
         Ok(builder) => run_named::<Brand, I, O, T, R>(
-            rt, alloc, reader, writer, builder, taken, stock,
+            rt, alloc, reader, writer, builder, numbers, stock,
         ),
         Err(NewFault::BadLimits) => Err(RunFault::BadLimits),
         Err(NewFault::Memory) => Err(RunFault::Memory),
@@ -71,7 +71,7 @@ fn run_named<M: ManagerId, I: Read, O: Write, T: Target, R: Wait>(
     reader: &mut I,
     writer: &mut O,
     builder: ManagerBuilder,
-    taken: Numbers,
+    numbers: Numbers,
     stock: Vec<T>,
 ) -> Result<(), RunFault>
     requires named { Named builder M.book M.ledgers M.queue M.limits }
@@ -90,7 +90,7 @@ fn run_named<M: ManagerId, I: Read, O: Write, T: Target, R: Wait>(
                 publisher,
                 sequencer,
             };
-            let played = play_over(rt, alloc, &manager, &mut session, taken, reader, writer);
+            let played = play_over(rt, alloc, &manager, &mut session, numbers, reader, writer);
             drop(session);
             manager.discard(rt);
             played
@@ -106,7 +106,7 @@ fn play_over<M: ManagerId, I: Read, O: Write, T: Target, R: Wait>(
     alloc: Global,
     manager: &Manager<M, T>,
     session: &mut SharedSession<M, T>,
-    taken: Numbers,
+    numbers: Numbers,
     reader: &mut I,
     writer: &mut O,
 ) -> Result<(), RunFault>
@@ -122,7 +122,7 @@ fn play_over<M: ManagerId, I: Read, O: Write, T: Target, R: Wait>(
         { session.execute(rt, manager, alloc, number, client, request, text) },
         alloc,
         clients,
-        taken,
+        numbers,
         reader,
         writer,
     )

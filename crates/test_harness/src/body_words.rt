@@ -17,13 +17,13 @@ pub fn dict_of(alloc: Global, json: &str) -> Result<Dict, TestFault>
 }
 
 /// The dict of a JSON object with these numbers as values; an empty text is the empty dict.
-pub fn dict_with(alloc: Global, taken: Numbers, json: &str) -> Result<Dict, TestFault>
+pub fn dict_with(alloc: Global, numbers: Numbers, json: &str) -> Result<Dict, TestFault>
     ensures { IfOk result (λ d. members_have_bytes d ≡ false) }
 {
     let json = if json.is_empty() { "{}" } else { json };
     let mut arena = ParseArena::new(alloc);
     let object = object_in(json.as_bytes(), &mut arena)?;
-    Ok(comm_messages::dict_of(alloc, taken, fields_of(&object))?)
+    Ok(comm_messages::dict_of(alloc, numbers, fields_of(&object))?)
 }
 
 fn bytes_of(alloc: Global, word: &str) -> Result<Bytes, TestFault> {

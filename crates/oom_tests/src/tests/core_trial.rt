@@ -170,7 +170,7 @@ pub(super) fn try_once(
         Kind::WidgetEcho => try_kind::<WidgetTarget>(alloc, trial, number, true, text),
         Kind::Echo => try_kind::<Echo>(alloc, trial, number, false, text),
         Kind::Counter => try_kind::<Counter>(alloc, trial, number, false, text),
-        Kind::Plain => try_kind::<PlainTarget>(alloc, trial, number, false, text),
+        Kind::Plain | Kind::Opaque => try_kind::<PlainTarget>(alloc, trial, number, false, text),
         Kind::Free => try_kind::<ScriptedTarget>(alloc, trial, number, false, text),
     }
 }

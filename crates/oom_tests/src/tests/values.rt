@@ -331,13 +331,13 @@ fn push_message(given: Result<(u8, Incoming), MessageFault>, text: &mut TextBuil
 }
 
 fn read_line(alloc: Global, case: &MakingCase, number: u32, text: &mut TextBuilder) -> bool {
-    let taken = if case.made == MadeBy::ReadAny {
+    let numbers = if case.made == MadeBy::ReadAny {
         Numbers::Any
     } else {
         Numbers::Whole
     };
     let _is_heard = refuse(alloc, number);
-    let given = read_message_with(alloc, case.of.as_bytes(), 2, taken);
+    let given = read_message_with(alloc, case.of.as_bytes(), 2, numbers);
     let is_refused = was_refused(alloc);
     push_message(given, text);
     is_refused

@@ -14,6 +14,7 @@ use test_harness::{
 };
 
 mod decimals;
+mod parts;
 mod writing;
 
 fn or_dash(text: &Option<Text>) -> &str {

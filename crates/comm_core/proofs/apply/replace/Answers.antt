@@ -6,7 +6,7 @@ use Rattle.comm_core.proofs.Carried.{replaced_carried}
 use Rattle.comm_core.proofs.apply.replace.Goals as goal
 
 pub close_those_of-requires-clause-ids : goal.close_those_of-requires-clause-ids
-close_those_of-requires-clause-ids g c κs within = c.requires.agrees.ids _ (after_abandon c.replace-replaced.result) (unstaged-at c.args.boxes.now.all _ c.replace-replaced.result c.replace-replaced.ensures.was)
+close_those_of-requires-clause-ids g c κs within = c.requires.agrees.ids _ (after_abandon c.replace-replaced.result) (unstaged-at c.args.targets.now.all _ c.replace-replaced.result c.replace-replaced.ensures.was)
 
 pub close_those_of-requires-clause-unstaged : goal.close_those_of-requires-clause-unstaged
 close_those_of-requires-clause-unstaged g c κs within = c.requires.none _ c.replace-replaced.result c.replace-replaced.ensures.was

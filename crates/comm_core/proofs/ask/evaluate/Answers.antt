@@ -8,15 +8,15 @@ use Rattle.comm_core.proofs.ask.evaluate.Goals as goal
 
 pub returns-in-Done-clause-came : goal.returns-in-Done-clause-came
 returns-in-Done-clause-came g c =
-    let m = machine_of c.args.boxes.now.all c.args.comms.now.all in
+    let m = machine_of c.args.targets.now.all c.args.comms.now.all in
     let verdict = subst (λ j. verdict_of m j ≡ judged c.args.limit m c.args.call) c.in-Done.is c.in_ok-reply.ensures.verdict in
-    let feasible = subst (IsFeasible c.args.boxes.now.all c.args.comms.now.all c.args.call) c.in-Done.is c.in_ok-reply.ensures.feasible in
-    came_done c.args.limit c.args.boxes.now.all c.args.comms.now.all c.args.call _ _ c.in-Done.plan verdict c.requires.none feasible.0 feasible.1
+    let feasible = subst (IsFeasible c.args.targets.now.all c.args.comms.now.all c.args.call) c.in-Done.is c.in_ok-reply.ensures.feasible in
+    came_done c.args.limit c.args.targets.now.all c.args.comms.now.all c.args.call _ _ c.in-Done.table_update verdict c.requires.none feasible.0 feasible.1
 
 pub returns-in-AskTarget-clause-came : goal.returns-in-AskTarget-clause-came
 returns-in-AskTarget-clause-came g c =
-    let m = machine_of c.args.boxes.now.all c.args.comms.now.all in
+    let m = machine_of c.args.targets.now.all c.args.comms.now.all in
     let verdict = subst (λ j. verdict_of m j ≡ judged c.args.limit m c.args.call) c.in-AskTarget.is c.in_ok-reply.ensures.verdict in
-    let feasible = subst (IsFeasible c.args.boxes.now.all c.args.comms.now.all c.args.call) c.in-AskTarget.is c.in_ok-reply.ensures.feasible in
+    let feasible = subst (IsFeasible c.args.targets.now.all c.args.comms.now.all c.args.call) c.in-AskTarget.is c.in_ok-reply.ensures.feasible in
     IfOk-weaker c.ask.result _ _ (λ r h.
-    came_asked c.args.limit c.args.boxes.now.all c.args.comms.now.all c.args.call c.in-AskTarget.request r.outcome r.reply r.outgoing.items r.plan c.ask.new.boxes.all verdict feasible.1 h) c.ask.ensures.came
+    came_asked c.args.limit c.args.targets.now.all c.args.comms.now.all c.args.call c.in-AskTarget.request r.outcome r.reply r.outgoing.items r.table_update c.ask.new.targets.all verdict feasible.1 h) c.ask.ensures.came

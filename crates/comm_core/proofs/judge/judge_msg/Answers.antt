@@ -8,8 +8,8 @@ use Rattle.comm_core.proofs.Asking.{msg_asked}
 pub returns-in-Some-clause-feasible : goal.returns-in-Some-clause-feasible
 returns-in-Some-clause-feasible g c =
     IfOk-weaker c.ask_target.result _ _ (λ j is.
-    subst (IsFeasible c.args.boxes.now.all c.args.comms.now.all (call.Msg c.args.id c.args.body)) (sym is)
-    (msg_asked c.args.boxes.now.all c.args.comms.now.all c.requires _ _ c.in-Some.comm.now _ _ _ (sym c.in-Some.ensures) refl refl, λ bs. refl)) c.ask_target.ensures
+    subst (IsFeasible c.args.targets.now.all c.args.comms.now.all (call.Msg c.args.id c.args.body)) (sym is)
+    (msg_asked c.args.targets.now.all c.args.comms.now.all c.requires _ _ c.in-Some.comm.now _ _ _ (sym c.in-Some.ensures) refl refl, λ bs. refl)) c.ask_target.ensures
 
 pub returns-in-None-clause-feasible : goal.returns-in-None-clause-feasible
-returns-in-None-clause-feasible g c = c.stays.ensures.feasible c.args.boxes.now.all c.args.comms.now.all (call.Msg c.args.id c.args.body) refl
+returns-in-None-clause-feasible g c = c.stays.ensures.feasible c.args.targets.now.all c.args.comms.now.all (call.Msg c.args.id c.args.body) refl

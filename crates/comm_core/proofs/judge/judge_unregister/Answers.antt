@@ -4,4 +4,4 @@ use Rattle.std.proofs.Common.{sym, ◌∙◌}
 use Rattle.comm_core.proofs.Asking.{nobody_ends}
 
 pub returns-then-not-contains-clause-feasible : goal.returns-then-not-contains-clause-feasible
-returns-then-not-contains-clause-feasible g c = c.stays.ensures.feasible c.args.boxes.now.all c.args.comms.now.all (call.Unregister c.args.name) (nobody_ends c.args.boxes.now.all c.args.name (sym c.contains.ensures ∙ c.if-not-contains.true))
+returns-then-not-contains-clause-feasible g c = c.stays.ensures.feasible c.args.targets.now.all c.args.comms.now.all (call.Unregister c.args.name) (nobody_ends c.args.targets.now.all c.args.name (sym c.contains.ensures ∙ c.if-not-contains.true))

@@ -1,5 +1,5 @@
-use Rattle.comm_messages.proofs.AnyNumber.{never_not_whole}
+use Rattle.comm_messages.proofs.AnyNumber.{never_not_whole, never_not_whole_by_parts}
 use Rattle.comm_messages.proofs.laws.any_number_is_read.Goals as goal
 
 pub returns : goal.returns
-returns c = never_not_whole
+returns c = record { line = never_not_whole; parts = never_not_whole_by_parts }

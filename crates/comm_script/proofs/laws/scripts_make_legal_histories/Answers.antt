@@ -3,6 +3,6 @@ use Rattle.comm_script.proofs.Legal.{script_legal}
 use Rattle.comm_script.proofs.laws.scripts_make_legal_histories.Goals as goal
 
 pub returns : goal.returns
-returns c = λ taken limits stock input fits.
+returns c = λ numbers limits stock input fits.
     let some : 0 < limits.clients = omega (arith, fits.0) in
-    script_legal taken limits some c.legal_histories_grow.ensures stock input
+    script_legal numbers limits some c.legal_histories_grow.ensures stock input

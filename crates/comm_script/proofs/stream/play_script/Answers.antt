@@ -13,7 +13,7 @@ loop-preserved g c =
         one_line = w.in_ok-play_chunk-in-Ok.ensures.one_line;
         empty = w.in_ok-write_all_and_flush-in-Ok.ensures.empty;
         streams = λ limits stock stands. if_some _ _ _
-            (λ input h. streams_next c.args.taken g.B.Backend.stands limits stock input _ _ _ _ _ _ _ _ _ _ _ _ c.loop.text.items w.play_chunk.new.text.items h w.in-Ok.ensures.bytes.0 c.loop.invariant.empty w.in_ok-play_chunk-in-Ok.ensures.says
+            (λ input h. streams_next c.args.numbers g.B.Backend.stands limits stock input _ _ _ _ _ _ _ _ _ _ _ _ c.loop.text.items w.play_chunk.new.text.items h w.in-Ok.ensures.bytes.0 c.loop.invariant.empty w.in_ok-play_chunk-in-Ok.ensures.says
             w.in_ok-write_all_and_flush-in-Ok.ensures.sent) (c.loop.invariant.streams limits stock stands);
       })
       | in-Err+else-ne w ↦ rw (w.backend-is, w.number-is, w.pending-is, w.writer-is, w.text-is) (record {
@@ -23,7 +23,7 @@ loop-preserved g c =
         one_line = c.loop.invariant.one_line;
         empty = c.loop.invariant.empty;
         streams = λ limits stock stands. if_some (g.R.Read.remaining c.args.reader.now) _ _
-            (λ input h. streams_kept c.args.taken g.B.Backend.stands limits stock input (g.W.Write.contents c.args.writer.now) (g.W.Write.contents c.loop.writer) (g.R.Read.remaining c.loop.reader) (g.R.Read.remaining c.read.new.self)
+            (λ input h. streams_kept c.args.numbers g.B.Backend.stands limits stock input (g.W.Write.contents c.args.writer.now) (g.W.Write.contents c.loop.writer) (g.R.Read.remaining c.loop.reader) (g.R.Read.remaining c.read.new.self)
             c.loop.backend c.loop.number c.loop.pending.items h w.in-Err.ensures.bytes) (c.loop.invariant.streams limits stock stands);
       })
     ]
@@ -33,7 +33,7 @@ returns-in-Ok-eq0-clause-played g c =
     let some : 0 < length c.read.new.buf = omega arith in
     λ limits stock stands.
     if_some _ _ _
-    (λ input h. streams_ended c.args.taken g.B.Backend.stands limits stock input _ _ _ _ _ _ _ _ c.deref.result.now c.loop.text.items c.play_last.new.text.items c.in-Ok-eq0.field-0 c.read.new.buf h c.deref.ensures.value c.in-Ok-eq0.field-0-test c.in-Ok-eq0.ensures.bytes.0
+    (λ input h. streams_ended c.args.numbers g.B.Backend.stands limits stock input _ _ _ _ _ _ _ _ c.deref.result.now c.loop.text.items c.play_last.new.text.items c.in-Ok-eq0.field-0 c.read.new.buf h c.deref.ensures.value c.in-Ok-eq0.field-0-test c.in-Ok-eq0.ensures.bytes.0
     c.in-Ok-eq0.ensures.bytes.1 some c.loop.invariant.empty (c.in_ok-play_last-in-Ok-eq0.ensures.says limits stock) c.in_ok-write_all_and_flush-in-Ok-eq0.ensures.sent) (c.loop.invariant.streams limits stock stands)
 
 pub returns-in-Ok-eq0-clause-begun : goal.returns-in-Ok-eq0-clause-begun
@@ -41,7 +41,7 @@ returns-in-Ok-eq0-clause-begun g c =
     let some : 0 < length c.read.new.buf = omega arith in
     λ limits stock stands.
     if_some _ _ _
-    (λ input h. begins_last c.args.taken g.B.Backend.stands limits stock input _ _ _ _ _ _ _ _ c.deref.result.now c.loop.text.items c.play_last.new.text.items c.in-Ok-eq0.field-0 c.read.new.buf h c.deref.ensures.value c.in-Ok-eq0.field-0-test
+    (λ input h. begins_last c.args.numbers g.B.Backend.stands limits stock input _ _ _ _ _ _ _ _ c.deref.result.now c.loop.text.items c.play_last.new.text.items c.in-Ok-eq0.field-0 c.read.new.buf h c.deref.ensures.value c.in-Ok-eq0.field-0-test
     c.in-Ok-eq0.ensures.bytes.0 c.in-Ok-eq0.ensures.bytes.1 some c.loop.invariant.empty (c.in_ok-play_last-in-Ok-eq0.ensures.says limits stock) c.in_ok-write_all_and_flush-in-Ok-eq0.ensures.begun) (c.loop.invariant.streams limits stock stands)
 
 -- a writer that failed took a part
@@ -50,45 +50,45 @@ returns-in_err-write_all_and_flush-in-Ok-eq0-clause-begun g c =
     let some : 0 < length c.read.new.buf = omega arith in
     λ limits stock stands.
     if_some _ _ _
-    (λ input h. begins_last c.args.taken g.B.Backend.stands limits stock input _ _ _ _ _ _ _ _ c.deref.result.now c.loop.text.items c.play_last.new.text.items c.in-Ok-eq0.field-0 c.read.new.buf h c.deref.ensures.value c.in-Ok-eq0.field-0-test
+    (λ input h. begins_last c.args.numbers g.B.Backend.stands limits stock input _ _ _ _ _ _ _ _ c.deref.result.now c.loop.text.items c.play_last.new.text.items c.in-Ok-eq0.field-0 c.read.new.buf h c.deref.ensures.value c.in-Ok-eq0.field-0-test
     c.in-Ok-eq0.ensures.bytes.0 c.in-Ok-eq0.ensures.bytes.1 some c.loop.invariant.empty (c.in_ok-play_last-in-Ok-eq0.ensures.says limits stock) c.in_err-write_all_and_flush-in-Ok-eq0.ensures.begun) (c.loop.invariant.streams limits stock stands)
 
 pub returns-in_err-write_all_and_flush-in-Ok-clause-begun : goal.returns-in_err-write_all_and_flush-in-Ok-clause-begun
 returns-in_err-write_all_and_flush-in-Ok-clause-begun g c = λ limits stock stands.
     if_some _ _ _
-    (λ input h. begins_chunk c.args.taken g.B.Backend.stands limits stock input _ _ _ _ _ _ _ _ _ _ _ _ c.loop.text.items c.play_chunk.new.text.items h c.in-Ok.ensures.bytes.0 c.loop.invariant.empty c.in_ok-play_chunk-in-Ok.ensures.says
+    (λ input h. begins_chunk c.args.numbers g.B.Backend.stands limits stock input _ _ _ _ _ _ _ _ _ _ _ _ c.loop.text.items c.play_chunk.new.text.items h c.in-Ok.ensures.bytes.0 c.loop.invariant.empty c.in_ok-play_chunk-in-Ok.ensures.says
     c.in_err-write_all_and_flush-in-Ok.ensures.begun) (c.loop.invariant.streams limits stock stands)
 
 -- nothing was written since the last piece
 pub returns-in_err-play_last-in-Ok-eq0-clause-begun : goal.returns-in_err-play_last-in-Ok-eq0-clause-begun
-returns-in_err-play_last-in-Ok-eq0-clause-begun g c = λ limits stock stands. if_some _ _ _ (λ input h. begins_streams c.args.taken g.B.Backend.stands limits stock input _ _ _ _ _ _ h) (c.loop.invariant.streams limits stock stands)
+returns-in_err-play_last-in-Ok-eq0-clause-begun g c = λ limits stock stands. if_some _ _ _ (λ input h. begins_streams c.args.numbers g.B.Backend.stands limits stock input _ _ _ _ _ _ h) (c.loop.invariant.streams limits stock stands)
 
 pub returns-in_err-play_chunk-in-Ok-clause-begun : goal.returns-in_err-play_chunk-in-Ok-clause-begun
-returns-in_err-play_chunk-in-Ok-clause-begun g c = λ limits stock stands. if_some _ _ _ (λ input h. begins_streams c.args.taken g.B.Backend.stands limits stock input _ _ _ _ _ _ h) (c.loop.invariant.streams limits stock stands)
+returns-in_err-play_chunk-in-Ok-clause-begun g c = λ limits stock stands. if_some _ _ _ (λ input h. begins_streams c.args.numbers g.B.Backend.stands limits stock input _ _ _ _ _ _ h) (c.loop.invariant.streams limits stock stands)
 
 pub returns-then-ne-clause-begun : goal.returns-then-ne-clause-begun
-returns-then-ne-clause-begun g c = λ limits stock stands. if_some _ _ _ (λ input h. begins_streams c.args.taken g.B.Backend.stands limits stock input _ _ _ _ _ _ h) (c.loop.invariant.streams limits stock stands)
+returns-then-ne-clause-begun g c = λ limits stock stands. if_some _ _ _ (λ input h. begins_streams c.args.numbers g.B.Backend.stands limits stock input _ _ _ _ _ _ h) (c.loop.invariant.streams limits stock stands)
 
 pub returns-clause-begun : goal.returns-clause-begun
-returns-clause-begun g c = λ limits stock stands. if_some _ _ _ (λ input h. begins_streams c.args.taken g.B.Backend.stands limits stock input _ _ _ _ _ _ h) (c.loop.invariant.streams limits stock stands)
+returns-clause-begun g c = λ limits stock stands. if_some _ _ _ (λ input h. begins_streams c.args.numbers g.B.Backend.stands limits stock input _ _ _ _ _ _ h) (c.loop.invariant.streams limits stock stands)
 
 pub returns-then-ne-clause-read : goal.returns-then-ne-clause-read
 returns-then-ne-clause-read g c = λ is limits stock stands.
     if_some _ _ _
-    (λ input h. stops_streams c.args.taken g.B.Backend.stands limits stock input _ _ _ c.loop.backend c.loop.number c.loop.pending.items
-    (streams_kept c.args.taken g.B.Backend.stands limits stock input _ _ (g.R.Read.remaining c.loop.reader) (g.R.Read.remaining c.read.new.self) c.loop.backend c.loop.number c.loop.pending.items h c.in-Err.ensures.bytes) c.loop.invariant.one_line)
+    (λ input h. stops_streams c.args.numbers g.B.Backend.stands limits stock input _ _ _ c.loop.backend c.loop.number c.loop.pending.items
+    (streams_kept c.args.numbers g.B.Backend.stands limits stock input _ _ (g.R.Read.remaining c.loop.reader) (g.R.Read.remaining c.read.new.self) c.loop.backend c.loop.number c.loop.pending.items h c.in-Err.ensures.bytes) c.loop.invariant.one_line)
     (c.loop.invariant.streams limits stock stands)
 
 pub returns-clause-read : goal.returns-clause-read
 returns-clause-read g c = λ is limits stock stands.
-    if_some _ _ _ (λ input h. stops_streams c.args.taken g.B.Backend.stands limits stock input _ _ _ c.loop.backend c.loop.number c.loop.pending.items h c.loop.invariant.one_line) (c.loop.invariant.streams limits stock stands)
+    if_some _ _ _ (λ input h. stops_streams c.args.numbers g.B.Backend.stands limits stock input _ _ _ c.loop.backend c.loop.number c.loop.pending.items h c.loop.invariant.one_line) (c.loop.invariant.streams limits stock stands)
 
 pub returns-in_err-play_last-in-Ok-eq0-clause-memory : goal.returns-in_err-play_last-in-Ok-eq0-clause-memory
 returns-in_err-play_last-in-Ok-eq0-clause-memory g c =
     let few : length c.read.new.buf ≤ 65536 = omega arith in
     λ is limits stock stands.
     if_some _ _ _
-    (λ input h. pauses_streams c.args.taken g.B.Backend.stands limits stock input _ _ _ _ c.loop.backend c.loop.number c.loop.pending.items _ h c.loop.invariant.one_line c.in-Ok-eq0.ensures.bytes.0 (short_chunk c.in-Ok-eq0.field-0 c.read.new.buf few))
+    (λ input h. pauses_streams c.args.numbers g.B.Backend.stands limits stock input _ _ _ _ c.loop.backend c.loop.number c.loop.pending.items _ h c.loop.invariant.one_line c.in-Ok-eq0.ensures.bytes.0 (short_chunk c.in-Ok-eq0.field-0 c.read.new.buf few))
     (c.loop.invariant.streams limits stock stands)
 
 pub returns-in_err-play_chunk-in-Ok-clause-memory : goal.returns-in_err-play_chunk-in-Ok-clause-memory
@@ -96,5 +96,5 @@ returns-in_err-play_chunk-in-Ok-clause-memory g c =
     let few : length c.read.new.buf ≤ 65536 = omega arith in
     λ is limits stock stands.
     if_some _ _ _
-    (λ input h. pauses_streams c.args.taken g.B.Backend.stands limits stock input _ _ _ _ c.loop.backend c.loop.number c.loop.pending.items _ h c.loop.invariant.one_line c.in-Ok.ensures.bytes.0 (short_chunk c.in-Ok.n c.read.new.buf few))
+    (λ input h. pauses_streams c.args.numbers g.B.Backend.stands limits stock input _ _ _ _ c.loop.backend c.loop.number c.loop.pending.items _ h c.loop.invariant.one_line c.in-Ok.ensures.bytes.0 (short_chunk c.in-Ok.n c.read.new.buf few))
     (c.loop.invariant.streams limits stock stands)

@@ -14,5 +14,5 @@ invariant-loop g l = record {
   one_line : has_line_feed l.pending.items ≡ false;
   empty : l.text.items ≡ [];
   streams : (limits : Limits) (stock : List Registered) → g.B.Backend.stands limits (record { history = []; stock = stock }) l.initial.backend
-      → IfSome (g.R.Read.remaining l.initial.reader) (λ input. Streams l.taken g.B.Backend.stands limits stock input (g.W.Write.contents l.initial.writer) (g.W.Write.contents l.writer) (g.R.Read.remaining l.reader) l.backend l.number l.pending.items);
+      → IfSome (g.R.Read.remaining l.initial.reader) (λ input. Streams l.numbers g.B.Backend.stands limits stock input (g.W.Write.contents l.initial.writer) (g.W.Write.contents l.writer) (g.R.Read.remaining l.reader) l.backend l.number l.pending.items);
 }

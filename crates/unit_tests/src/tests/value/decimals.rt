@@ -12,14 +12,14 @@ use test_harness::{
 const NOT_JSON: &str = "not json";
 
 // The value of a line with these numbers, or why there is none.
-fn value_in(alloc: Global, taken: Numbers, line: &str) -> Result<Val, &'static str> {
+fn value_in(alloc: Global, numbers: Numbers, line: &str) -> Result<Val, &'static str> {
     let mut arena = ParseArena::new(alloc);
     let json = match read_line(line.as_bytes(), &mut arena) {
         Ok(json) => json,
         Err(JsonFault::NotJson) => return Err(NOT_JSON),
         Err(JsonFault::Memory) => return Err("no memory"),
     };
-    match Val::from_ref(alloc, taken, JsonRef::Borrowed(&json)) {
+    match Val::from_ref(alloc, numbers, JsonRef::Borrowed(&json)) {
         Ok(value) => Ok(value),
         Err(ValueFault::NotWhole) => Err("not whole"),
         Err(_) => Err("no value"),
@@ -38,11 +38,11 @@ fn append_value(value: &Val, text: &mut Vec<u8>) -> Result<(), AllocError> {
 // A copy of the value of a line, which is let go first.
 fn append_read(
     alloc: Global,
-    taken: Numbers,
+    numbers: Numbers,
     line: &str,
     text: &mut Vec<u8>,
 ) -> Result<(), TestFault> {
-    let value = match value_in(alloc, taken, line) {
+    let value = match value_in(alloc, numbers, line) {
         Ok(value) => value,
         Err(why) => return Ok(append_words(&[why], text)?),
     };

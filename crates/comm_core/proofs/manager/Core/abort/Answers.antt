@@ -5,7 +5,7 @@ use Rattle.comm_core.proofs.manager.Core.abort.Goals as goal
 pub revert-requires-clause-staged : goal.revert-requires-clause-staged
 revert-requires-clause-staged g c κs within = (
   c.self.inside.comms.all,
-  option_map g.T.Target.means c.prepared.inside.boxed,
+  option_map g.T.Target.means c.prepared.inside.registered,
   c.prepared.inside.outcome,
   suits_now _ _ _ _ _ _ _ _ _ _ _ _ c.self.view_is c.prepared.view_is c.requires.ready,
   staged_now _ _ _ _ _ _ _ _ _ _ _ _ c.self.view_is c.prepared.view_is c.requires.ready,

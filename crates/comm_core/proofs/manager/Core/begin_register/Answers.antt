@@ -4,23 +4,23 @@ use Rattle.comm_core.proofs.Readying.{sound-settled, register_ready, ready_allow
 use Rattle.comm_core.proofs.manager.Core.begin_register.Goals as goal
 
 pub invariant_of-self : goal.invariant_of-self
-invariant_of-self g c = sound-settled _ _ _ _ _ _ _ _ _ c.self.invariant c.make_room.ensures.boxes c.make_room.ensures.comms (ap (λ (s : CoreValue). s.settled) c.self.view_is ∙ c.requires.settled)
+invariant_of-self g c = sound-settled _ _ _ _ _ _ _ _ _ c.self.invariant c.make_room.ensures.targets c.make_room.ensures.comms (ap (λ (s : CoreValue). s.settled) c.self.view_is ∙ c.requires.settled)
 
 pub returns-clause-undone : goal.returns-clause-undone
-returns-clause-undone g c = undone_is _ _ _ _ c.make_room.new.boxes.all _ _ _ _ _ c.self.view_is c.requires.settled c.self.invariant c.make_room.ensures.boxes c.make_room.ensures.comms refl
+returns-clause-undone g c = undone_is _ _ _ _ c.make_room.new.targets.all _ _ _ _ _ c.self.view_is c.requires.settled c.self.invariant c.make_room.ensures.targets c.make_room.ensures.comms refl
 
 pub invariant_of-self-in_default : goal.invariant_of-self-in_default
-invariant_of-self-in_default g c = sound-settled _ _ _ _ _ _ _ _ _ c.self.invariant c.make_room.ensures.boxes c.make_room.ensures.comms (ap (λ (s : CoreValue). s.settled) c.self.view_is ∙ c.requires.settled)
+invariant_of-self-in_default g c = sound-settled _ _ _ _ _ _ _ _ _ c.self.invariant c.make_room.ensures.targets c.make_room.ensures.comms (ap (λ (s : CoreValue). s.settled) c.self.view_is ∙ c.requires.settled)
 
 pub returns-clause-ready : goal.returns-clause-ready
 returns-clause-ready g c =
     rw c.of.ensures (
-    register_ready _ _ _ _ _ _ _ (rw c.make_room.ensures.boxes (c.self.invariant.nothing_staged (ap (λ (s : CoreValue). s.settled) c.self.view_is ∙ c.requires.settled))) (sym c.kind-kind.ensures) (sym c.notes-notes.ensures) c.requires.idle
-    _ _ _ c.in-Ok.ensures.verdict c.in-Ok.ensures.plan
+    register_ready _ _ _ _ _ _ _ (rw c.make_room.ensures.targets (c.self.invariant.nothing_staged (ap (λ (s : CoreValue). s.settled) c.self.view_is ∙ c.requires.settled))) (sym c.kind-kind.ensures) (sym c.notes-notes.ensures) c.requires.idle
+    _ _ _ c.in-Ok.ensures.verdict c.in-Ok.ensures.table_update
     )
 
 pub returns-clause-machine : goal.returns-clause-machine
-returns-clause-machine g c = came_machine _ _ _ _ c.make_room.new.boxes.all _ _ _ c.self.view_is c.make_room.ensures.boxes c.make_room.ensures.comms refl
+returns-clause-machine g c = came_machine _ _ _ _ c.make_room.new.targets.all _ _ _ c.self.view_is c.make_room.ensures.targets c.make_room.ensures.comms refl
 
 pub returns-clause-allowed : goal.returns-clause-allowed
 returns-clause-allowed g c = ready_allowed c.args.self.now _ _ _ _ (returns-clause-ready g c) (ap (λ (s : CoreValue). s.limit) c.self.view_is) (returns-clause-machine g c)

@@ -1,5 +1,5 @@
 use Rattle.comm_core.proofs.Readying.{finished_step, finished_ended, staged_now, suits_now}
-use Rattle.comm_core.proofs.Staging.{boxes_mean}
+use Rattle.comm_core.proofs.Staging.{targets_mean}
 use Rattle.comm_core.proofs.manager.Core.commit.Goals as goal
 
 pub apply-ended-requires-clause-staged : goal.apply-ended-requires-clause-staged
@@ -15,4 +15,4 @@ pub returns-clause-ended : goal.returns-clause-ended
 returns-clause-ended g c = finished_ended _ _ _ _ _ _ _ _ _ _ _ _ c.self.view_is c.prepared.view_is c.requires.ready _ c.apply-ended.ensures.ended
 
 pub returns-clause-means : goal.returns-clause-means
-returns-clause-means g c = boxes_mean c.apply-ended.new.boxes.all c.apply-ended.new.comms.all c.apply-ended.ensures.carried.0 c.apply-ended.ensures.carried.1
+returns-clause-means g c = targets_mean c.apply-ended.new.targets.all c.apply-ended.new.comms.all c.apply-ended.ensures.carried.0 c.apply-ended.ensures.carried.1

@@ -8,4 +8,4 @@ use Rattle.comm_value.proofs.val.Dict.from_ref.Goals as goal
 
 pub returns-clause-no_bytes : goal.returns-clause-no_bytes
 returns-clause-no_bytes c =
-    if_ok (λ d. members_of c.args.taken (members c.args.json) ≡ Some d) (λ d. members_have_bytes d ≡ false) c.members_from.result (λ d h. read_members c.args.taken (members c.args.json) d h) c.members_from.ensures.kept
+    if_ok (λ d. members_of c.args.numbers (members c.args.json) ≡ Some d) (λ d. members_have_bytes d ≡ false) c.members_from.result (λ d h. read_members c.args.numbers (members c.args.json) d h) c.members_from.ensures.kept

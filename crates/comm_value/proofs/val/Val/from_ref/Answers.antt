@@ -9,4 +9,4 @@ use Rattle.comm_value.proofs.val.Val.from_ref.Goals as goal
 
 pub returns-clause-no_bytes : goal.returns-clause-no_bytes
 returns-clause-no_bytes c =
-    if_ok (λ v. tree_of c.args.taken (behind c.args.json) ≡ Some (tree v)) (λ v. has_bytes (tree v) ≡ false) c.val_from.result (λ v h. read_value c.args.taken (behind c.args.json) (tree v) h) c.val_from.ensures.kept
+    if_ok (λ v. tree_of c.args.numbers (behind c.args.json) ≡ Some (tree v)) (λ v. has_bytes (tree v) ≡ false) c.val_from.result (λ v h. read_value c.args.numbers (behind c.args.json) (tree v) h) c.val_from.ensures.kept

@@ -1,0 +1,41 @@
+"""What the tests share. The last line that they write is 'N passed, M failed', and the status is 1 where one failed."""
+
+import traceback
+
+passed = failed = 0
+
+
+def check(what, got, wanted):
+    global passed, failed
+    if got == wanted:
+        passed += 1
+    else:
+        failed += 1
+        print(f"FAILED: {what}\n  got    {short(got)}\n  wanted {short(wanted)}")
+
+
+def short(value):
+    text = repr(value)
+    return text if len(text) < 1000 else text[:500] + " .. " + text[-500:]
+
+
+def raised(call):
+    """The error that a call raises, or None."""
+    try:
+        call()
+    except Exception as error:
+        return error
+    return None
+
+
+def run(*parts):
+    """Runs each part; one that ends in an error has failed. Gives the status."""
+    global failed
+    for part in parts:
+        try:
+            part()
+        except Exception:
+            failed += 1
+            print(f"FAILED: {part.__name__}\n{traceback.format_exc()}")
+    print(f"{passed} passed, {failed} failed")
+    return failed != 0

@@ -1,0 +1,156 @@
+/* What a call is handed: texts, binary buffers, numbers, by place or by name. */
+#include "native.h"
+
+static const uint8_t no_bytes[1];
+static size_t no_sizes[1];
+
+int read_text(PyObject *object, text *into) {
+  char *bytes = NULL;
+  Py_ssize_t size = 0;
+  into->owner = NULL;
+  if (PyUnicode_Check(object)) {
+    bytes = (char *)PyUnicode_AsUTF8AndSize(object, &size);
+    if (!bytes) return -1;
+  } else if (PyBytes_Check(object)) {
+    if (PyBytes_AsStringAndSize(object, &bytes, &size) < 0) return -1;
+  } else if (PyObject_CheckBuffer(object)) {
+    // Another thread may write into it while the library reads it.
+    into->owner = PyBytes_FromObject(object);
+    if (!into->owner || PyBytes_AsStringAndSize(into->owner, &bytes, &size) < 0) return -1;
+  } else {
+    PyErr_SetString(PyExc_TypeError, "a text is a str or a bytes-like object");
+    return -1;
+  }
+  into->bytes = (const uint8_t *)bytes;
+  into->size = (size_t)size;
+  return 0;
+}
+
+void text_end(text *read) { Py_CLEAR(read->owner); }
+
+int read_number(PyObject *object, uint32_t *into) {
+  PyObject *number = PyNumber_Index(object);
+  if (!number) return -1;
+  unsigned long value = PyLong_AsUnsignedLong(number);
+  Py_DECREF(number);
+  if (value == (unsigned long)-1 && PyErr_Occurred()) return -1;
+  if (value > UINT32_MAX) {
+    PyErr_SetString(PyExc_OverflowError, "a number is larger than 4294967295");
+    return -1;
+  }
+  *into = (uint32_t)value;
+  return 0;
+}
+
+/* Puts several buffers, or one whose bytes don't stand together, one after another. */
+static int join(frames *read) {
+  uint8_t *at = read->joined = malloc(read->size ? read->size : 1);
+  if (!at) {
+    PyErr_NoMemory();
+    return -1;
+  }
+  for (size_t i = 0; i < read->count; at += read->sizes[i++])
+    if (!PyBuffer_IsContiguous(&read->views[i], 'C')
+        && PyBuffer_ToContiguous(at, &read->views[i], read->views[i].len, 'C') < 0)
+      return -1;
+  PyThreadState *let_go = read->size >= LONG_WORK ? PyEval_SaveThread() : NULL;
+  at = read->joined;
+  for (size_t i = 0; i < read->count; at += read->sizes[i++])
+    if (PyBuffer_IsContiguous(&read->views[i], 'C') && read->sizes[i]) memcpy(at, read->views[i].buf, read->sizes[i]);
+  if (let_go) PyEval_RestoreThread(let_go);
+  read->bytes = read->joined;
+  return 0;
+}
+
+static int view_each(PyObject *buffers, frames *read) {
+  for (; read->views_held < read->count; read->views_held++) {
+    Py_buffer *view = &read->views[read->views_held];
+    PyObject *item = PyTuple_GetItem(buffers, (Py_ssize_t)read->views_held);
+    if (!item || PyObject_GetBuffer(item, view, PyBUF_FULL_RO) < 0) return -1;
+    read->sizes[read->views_held] = (size_t)view->len;
+    if ((size_t)view->len > (size_t)PY_SSIZE_T_MAX - read->size) {
+      read->views_held++;
+      PyErr_NoMemory();
+      return -1;
+    }
+    read->size += (size_t)view->len;
+  }
+  return 0;
+}
+
+static int give_places(frames *read) {
+  read->sizes = read->few_sizes;
+  read->views = read->few_views;
+  if (read->count <= FEW_FRAMES) return 0;
+  read->sizes = malloc(read->count * sizeof *read->sizes);
+  read->views = malloc(read->count * sizeof *read->views);
+  if (read->sizes && read->views) return 0;
+  PyErr_NoMemory();
+  return -1;
+}
+
+int read_frames(PyObject *object, frames *into) {
+  into->bytes = no_bytes;
+  into->sizes = no_sizes;
+  into->size = into->count = into->views_held = 0;
+  into->views = NULL;
+  into->joined = NULL;
+  if (!object || object == Py_None) return 0;
+  // A tuple of their own, since a list may change while its items are asked for.
+  PyObject *buffers = PySequence_Tuple(object);
+  if (!buffers) return -1;
+  into->count = (size_t)PyTuple_Size(buffers);
+  int status = 0;
+  if (into->count) {
+    status = give_places(into);
+    if (status == 0) status = view_each(buffers, into);
+    if (status == 0 && into->count == 1 && PyBuffer_IsContiguous(&into->views[0], 'C') && into->size)
+      into->bytes = into->views[0].buf;
+    else if (status == 0) status = join(into);
+  }
+  Py_DECREF(buffers);
+  return status;
+}
+
+void frames_end(frames *read) {
+  free(read->joined);
+  while (read->views_held) PyBuffer_Release(&read->views[--read->views_held]);
+  if (read->count > FEW_FRAMES) {
+    free(read->views);
+    free(read->sizes);
+  }
+}
+
+static int read_named(const signature *of, PyObject *name, PyObject *value, PyObject **given) {
+  Py_ssize_t at = 0;
+  while (of->parameters[at] && PyUnicode_CompareWithASCIIString(name, of->parameters[at]) != 0) at++;
+  if (!of->parameters[at]) {
+    PyErr_Format(PyExc_TypeError, "%s() got an unexpected keyword argument '%U'", of->name, name);
+    return -1;
+  }
+  if (given[at]) {
+    PyErr_Format(PyExc_TypeError, "%s() got multiple values for argument '%U'", of->name, name);
+    return -1;
+  }
+  given[at] = value;
+  return 0;
+}
+
+int read_arguments(const signature *of, PyObject *const *arguments, Py_ssize_t count, PyObject *names,
+                   PyObject **given) {
+  if (count > of->positional) {
+    PyErr_Format(PyExc_TypeError, "%s() takes at most %zd positional arguments (%zd given)", of->name, of->positional,
+                 count);
+    return -1;
+  }
+  for (Py_ssize_t i = 0; i < MOST_PARAMETERS; i++) given[i] = i < count ? arguments[i] : NULL;
+  Py_ssize_t named = names ? PyTuple_Size(names) : 0;
+  for (Py_ssize_t i = 0; i < named; i++)
+    if (read_named(of, PyTuple_GetItem(names, i), arguments[count + i], given) < 0) return -1;
+  for (Py_ssize_t i = 0; i < of->required; i++)
+    if (!given[i]) {
+      PyErr_Format(PyExc_TypeError, "%s() is missing the argument '%s'", of->name, of->parameters[i]);
+      return -1;
+    }
+  return 0;
+}

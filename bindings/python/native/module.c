@@ -1,0 +1,87 @@
+/* The module rolgunai._native. */
+#include "native.h"
+
+static PyModuleDef definition;
+
+PyObject *module_of(PyTypeObject *type) {
+  for (PyTypeObject *at = type; at; at = PyType_GetSlot(at, Py_tp_base)) {
+    PyObject *module = PyType_GetModule(at);
+    if (module && PyModule_GetDef(module) == &definition) return module;
+    PyErr_Clear();
+  }
+  PyErr_SetString(PyExc_TypeError, "no subclass of rolgunai.Manager");
+  return NULL;
+}
+
+/* The members of an enumeration whose numbers are 0, 1 and so on. */
+static PyObject *members(PyObject *types, const char *name) {
+  PyObject *enumeration = PyObject_GetAttrString(types, name);
+  PyObject *made = enumeration ? PySequence_Tuple(enumeration) : NULL;
+  Py_XDECREF(enumeration);
+  return made;
+}
+
+static int fill(module_state *state, PyObject *types) {
+  static const char *const names[TYPES] = {"comm_open", "comm_msg", "comm_close", "comm_info_reply"};
+  for (size_t i = 0; i < TYPES; i++)
+    if (!(state->types[i] = PyUnicode_InternFromString(names[i]))) return -1;
+  state->outcome = PyObject_GetAttrString(types, "Outcome");
+  state->sent = PyObject_GetAttrString(types, "Sent");
+  state->error = PyObject_GetAttrString(types, "error_of");
+  state->replies = members(types, "Reply");
+  state->reasons = members(types, "Reason");
+  state->empty = PyBytes_FromStringAndSize("{}", 2);
+  state->nothing = PyTuple_New(0);
+  return state->outcome && state->sent && state->error && state->replies && state->reasons && state->empty
+                 && state->nothing
+             ? 0
+             : -1;
+}
+
+static int make_module(PyObject *module) {
+  PyObject *types = PyImport_ImportModule("rolgunai._types");
+  int status = types ? fill(PyModule_GetState(module), types) : -1;
+  Py_XDECREF(types);
+  if (status < 0) return -1;
+  PyObject *type = PyType_FromModuleAndSpec(module, &manager_type, NULL);
+  if (!type) return -1;
+  status = PyModule_AddObjectRef(module, "Manager", type);
+  Py_DECREF(type);
+  return status;
+}
+
+static int traverse_module(PyObject *module, visitproc visit, void *arg) {
+  module_state *state = PyModule_GetState(module);
+  Py_VISIT(state->outcome);
+  Py_VISIT(state->sent);
+  Py_VISIT(state->error);
+  Py_VISIT(state->replies);
+  Py_VISIT(state->reasons);
+  return 0;
+}
+
+static void free_module(void *module) {
+  module_state *state = PyModule_GetState(module);
+  Py_CLEAR(state->outcome);
+  Py_CLEAR(state->sent);
+  Py_CLEAR(state->error);
+  Py_CLEAR(state->replies);
+  Py_CLEAR(state->reasons);
+  Py_CLEAR(state->empty);
+  Py_CLEAR(state->nothing);
+  for (size_t i = 0; i < TYPES; i++) Py_CLEAR(state->types[i]);
+}
+
+static PyModuleDef_Slot slots[] = {{Py_mod_exec, make_module}, {0, NULL}};
+
+static PyModuleDef definition = {
+    PyModuleDef_HEAD_INIT,
+    .m_name = "rolgunai._native",
+    .m_doc = "Rolgunai's library for C, for rolgunai/__init__.py.",
+    .m_size = sizeof(module_state),
+    .m_slots = slots,
+    .m_traverse = traverse_module,
+    .m_free = free_module,
+};
+
+PyMODINIT_FUNC PyInit__native(void) { return PyModuleDef_Init(&definition); }

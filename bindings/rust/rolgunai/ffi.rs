@@ -1,0 +1,135 @@
+//! The calls as `bindings/c/rolgunai.h` has them for a binding that doesn't read it. No pointer is null.
+
+use std::ffi::c_void;
+
+#[derive(Debug)]
+#[repr(C)]
+pub struct Handle {
+    pub manager: *mut c_void,
+}
+
+/// A call of the kernel on a name or an id.
+pub type NamedCall = unsafe extern "C" fn(*mut Handle, u32, *const u8, usize, *mut u32, *mut usize) -> u32;
+
+unsafe extern "C" {
+    pub fn rolgunai_new(handle: *mut Handle, comms: usize) -> u32;
+    pub fn rolgunai_new_with_decimals(handle: *mut Handle, comms: usize) -> u32;
+    pub fn rolgunai_free(handle: *mut Handle) -> u32;
+    pub fn rolgunai_last_result(handle: *mut Handle, reply: *mut u32, sent: *mut usize) -> u32;
+    pub fn rolgunai_last_reason(handle: *mut Handle, reason: *mut u32, index: *mut u64) -> u32;
+    pub fn rolgunai_copy_sent_part(
+        handle: *mut Handle,
+        message: usize,
+        part: usize,
+        out: *mut u8,
+        out_size: usize,
+        size: *mut usize,
+    ) -> u32;
+    pub fn rolgunai_copy_reply_part(
+        handle: *mut Handle,
+        part: usize,
+        out: *mut u8,
+        out_size: usize,
+        size: *mut usize,
+    ) -> u32;
+    pub fn rolgunai_copy_last_text(handle: *mut Handle, out: *mut u8, out_size: usize, size: *mut usize) -> u32;
+    pub fn rolgunai_play_line(
+        handle: *mut Handle,
+        line: *const u8,
+        line_size: usize,
+        out: *mut u8,
+        out_size: usize,
+        size: *mut usize,
+    ) -> u32;
+    pub fn rolgunai_handle_message(
+        handle: *mut Handle,
+        client: u32,
+        header: *const u8,
+        header_size: usize,
+        metadata: *const u8,
+        metadata_size: usize,
+        content: *const u8,
+        content_size: usize,
+        buffers: *const u8,
+        buffers_size: usize,
+        sizes: *const usize,
+        count: usize,
+        reply: *mut u32,
+        sent: *mut usize,
+    ) -> u32;
+    pub fn rolgunai_register(
+        handle: *mut Handle,
+        client: u32,
+        kind: u32,
+        name: *const u8,
+        name_size: usize,
+        reply: *mut u32,
+        sent: *mut usize,
+    ) -> u32;
+    pub fn rolgunai_unregister(
+        handle: *mut Handle,
+        client: u32,
+        name: *const u8,
+        name_size: usize,
+        reply: *mut u32,
+        sent: *mut usize,
+    ) -> u32;
+    pub fn rolgunai_launch(
+        handle: *mut Handle,
+        client: u32,
+        target: *const u8,
+        target_size: usize,
+        uuid: *const u8,
+        uuid_size: usize,
+        state: *const u8,
+        state_size: usize,
+        paths: *const u8,
+        paths_size: usize,
+        buffers: *const u8,
+        buffers_size: usize,
+        sizes: *const usize,
+        count: usize,
+        reply: *mut u32,
+        sent: *mut usize,
+    ) -> u32;
+    pub fn rolgunai_push(
+        handle: *mut Handle,
+        client: u32,
+        id: *const u8,
+        id_size: usize,
+        state: *const u8,
+        state_size: usize,
+        paths: *const u8,
+        paths_size: usize,
+        buffers: *const u8,
+        buffers_size: usize,
+        sizes: *const usize,
+        count: usize,
+        reply: *mut u32,
+        sent: *mut usize,
+    ) -> u32;
+    pub fn rolgunai_send(
+        handle: *mut Handle,
+        client: u32,
+        id: *const u8,
+        id_size: usize,
+        data: *const u8,
+        data_size: usize,
+        buffers: *const u8,
+        buffers_size: usize,
+        sizes: *const usize,
+        count: usize,
+        reply: *mut u32,
+        sent: *mut usize,
+    ) -> u32;
+    pub fn rolgunai_close(
+        handle: *mut Handle,
+        client: u32,
+        id: *const u8,
+        id_size: usize,
+        reply: *mut u32,
+        sent: *mut usize,
+    ) -> u32;
+    pub fn rolgunai_state(handle: *mut Handle, id: *const u8, id_size: usize, reply: *mut u32, sent: *mut usize)
+        -> u32;
+}

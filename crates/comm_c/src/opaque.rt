@@ -1,0 +1,243 @@
+//! What a frontend's message asks for. Of one for an opaque target neither data nor buffers are read.
+ghost use Rattle.std.specs.Prelude.{◌≡◌, ◌<◌, IfOk, IfSome, option_map};
+ghost use Rattle.comm_messages.specs.Envelope.{envelope};
+ghost use Rattle.comm_messages.specs.Fields.{fields};
+ghost use Rattle.comm_core.specs.Ready.{HandsNothingIn, machine};
+ghost use Rattle.comm_script.specs.Command.{HandsNothing};
+ghost use Rattle.comm_c.specs.Handles.{IsAllowed};
+ghost use Rattle.comm_c.specs.Inputs.{Gives, envelope_input, message_input};
+ghost use Rattle.comm_c.specs.Opaque.{comm_id_in, is_opaque, is_opaque_comm, is_opaque_target, opaque_call};
+ghost use Rattle.comm_c.specs.Opaque.{nothing_in, opaque_close, opaque_in, opaque_msg, opaque_open, opening_in};
+
+use crate::counted_core::CountedCore;
+use crate::input::{CallFault, Input, MAX_CLIENTS, test_buffers};
+use bumpalo::Bump;
+use comm_core::Call;
+use comm_messages::{
+    Body, EnvelopeRef, Field, Fields, MessageFault, MessageType, PartsScratch, heading, member,
+    object_of, parse_parts, text, type_of,
+};
+use comm_script::{Request, asked_from};
+use comm_targets::Kind;
+use comm_value::{Buffers, Dict, Text};
+use std::alloc::{AllocError, Global};
+
+fn is_opaque(kind: Option<Kind>) -> bool
+    ensures { result ≡ is_opaque kind }
+{
+    match kind {
+        Some(Kind::Opaque) => true,
+        _ => false,
+    }
+}
+
+fn comm_id_in<'v>(content: Fields<'v, '_>) -> Option<&'v str>
+    ensures { option_map (λ t. t.now) result ≡ comm_id_in (fields content.entry) }
+{
+    text(member(content, "comm_id"))
+}
+
+// The id of the comm that a message opens, where the type and the id can be read. Err: memory.
+fn opening_in(alloc: Global, from: &EnvelopeRef<'_, '_>) -> Result<Option<Text>, AllocError>
+    ensures { IfOk result (λ o. o ≡ opening_in (envelope from.now)) }
+{
+    match type_of(from.header) {
+        Ok(MessageType::Open) => match object_of(Field::Content, from.content) {
+            Ok(content) => match comm_id_in(content) {
+                Some(id) => Ok(Some(Text::copy_of(alloc, id)?)),
+                None => Ok(None),
+            },
+            Err(MessageFault::Memory) => Err(AllocError),
+            Err(_) => Ok(None),
+        },
+        Ok(MessageType::Msg | MessageType::Close | MessageType::InfoRequest) => Ok(None),
+        Err(MessageFault::Memory) => Err(AllocError),
+        Err(_) => Ok(None),
+    }
+}
+
+// A body without data and without buffers.
+fn nothing_in(alloc: Global) -> Body
+    ensures { result ≡ nothing_in }
+{
+    Body::new(Dict::new(), Buffers::none(alloc))
+}
+
+impl CountedCore {
+    fn is_opaque_target(&self, name: &Text) -> bool
+        ensures { result ≡ is_opaque_target (machine self.now.core) name.now }
+    {
+        is_opaque(self.core.kind_of(name))
+    }
+
+    fn is_opaque_comm(&self, id: &Text) -> bool
+        ensures { result ≡ is_opaque_comm (machine self.now.core) id.now }
+    {
+        match self.core.target_of(id) {
+            Some(name) => self.is_opaque_target(name),
+            None => false,
+        }
+    }
+
+    fn opaque_open(
+        &self,
+        alloc: Global,
+        id: Option<&str>,
+        target: Option<&str>,
+    ) -> Result<Option<Call>, AllocError>
+        ensures call { IfOk result (λ c. c ≡ opaque_open (machine self.now.core)
+            (option_map (λ t. t.now) id.entry) (option_map (λ t. t.now) target.entry)) }
+        ensures handless { IfOk result (λ c. IfSome c HandsNothingIn) }
+    {
+        let Some(id) = id else {
+            return Ok(None);
+        };
+        let Some(target) = target else {
+            return Ok(None);
+        };
+        let target = Text::copy_of(alloc, target)?;
+        if self.is_opaque_target(&target) {
+            Ok(Some(Call::Open {
+                id: Text::copy_of(alloc, id)?,
+                target,
+                version: None,
+                body: nothing_in(alloc),
+            }))
+        } else {
+            Ok(None)
+        }
+    }
+
+    fn opaque_msg(&self, alloc: Global, id: Option<&str>) -> Result<Option<Call>, AllocError>
+        ensures call { IfOk result (λ c. c ≡ opaque_msg (machine self.now.core)
+            (option_map (λ t. t.now) id.entry)) }
+        ensures handless { IfOk result (λ c. IfSome c HandsNothingIn) }
+    {
+        let Some(id) = id else {
+            return Ok(None);
+        };
+        let id = Text::copy_of(alloc, id)?;
+        if self.is_opaque_comm(&id) {
+            Ok(Some(Call::Msg {
+                id,
+                body: nothing_in(alloc),
+            }))
+        } else {
+            Ok(None)
+        }
+    }
+
+    fn opaque_close(&self, alloc: Global, id: Option<&str>) -> Result<Option<Call>, AllocError>
+        ensures call { IfOk result (λ c. c ≡ opaque_close (machine self.now.core)
+            (option_map (λ t. t.now) id.entry)) }
+        ensures handless { IfOk result (λ c. IfSome c HandsNothingIn) }
+    {
+        let Some(id) = id else {
+            return Ok(None);
+        };
+        let id = Text::copy_of(alloc, id)?;
+        if self.is_opaque_comm(&id) {
+            Ok(Some(Call::Close { id }))
+        } else {
+            Ok(None)
+        }
+    }
+
+    fn opaque_call(
+        &self,
+        alloc: Global,
+        type_: MessageType,
+        content: Fields<'_, '_>,
+    ) -> Result<Option<Call>, AllocError>
+        ensures call { IfOk result
+            (λ c. c ≡ opaque_call (machine self.now.core) type_ (fields content.entry)) }
+        ensures handless { IfOk result (λ c. IfSome c HandsNothingIn) }
+    {
+        match type_ {
+            MessageType::Open => {
+                let target = text(member(content, "target_name"));
+                self.opaque_open(alloc, comm_id_in(content), target)
+            }
+            MessageType::Msg => self.opaque_msg(alloc, comm_id_in(content)),
+            MessageType::Close => self.opaque_close(alloc, comm_id_in(content)),
+            MessageType::InfoRequest => Ok(None),
+        }
+    }
+
+    // What a message for an opaque target asks for; None of any other message, and where a test fails. Err: memory.
+    fn opaque_in(
+        &self,
+        alloc: Global,
+        from: &EnvelopeRef<'_, '_>,
+    ) -> Result<Option<(u8, Request)>, AllocError>
+        ensures asked { IfOk result
+            (λ o. o ≡ opaque_in (machine self.now.core) (envelope from.now)) }
+        ensures below { IfOk result (λ o. IfSome o (λ r. r.0 < 4)) }
+        ensures handless { IfOk result (λ o. IfSome o (λ r. HandsNothing r.1)) }
+    {
+        match heading(from, MAX_CLIENTS) {
+            Ok((client, type_)) => match object_of(Field::Content, from.content) {
+                Ok(content) => match self.opaque_call(alloc, type_, content)? {
+                    Some(call) => Ok(Some((client, Request::Change(call)))),
+                    None => Ok(None),
+                },
+                Err(MessageFault::Memory) => Err(AllocError),
+                Err(_) => Ok(None),
+            },
+            Err(MessageFault::Memory) => Err(AllocError),
+            Err(_) => Ok(None),
+        }
+    }
+
+    // What the message of an envelope asks for. Err: memory.
+    fn envelope_input(&self, alloc: Global, from: &EnvelopeRef<'_, '_>) -> Result<Input, AllocError>
+        ensures input { IfOk result (λ i. i
+            ≡ envelope_input (machine self.now.core) self.now.numbers (envelope from.now)) }
+        ensures allowed { IfOk result IsAllowed }
+    {
+        if let Some((client, request)) = self.opaque_in(alloc, from)? {
+            return Ok(Input::reading(Ok((client, request))));
+        }
+        match asked_from(alloc, from, MAX_CLIENTS, self.numbers) {
+            Ok((client, request)) => Ok(Input::reading(Ok((client, request)))),
+            Err(fault) if fault.is_memory() => Err(AllocError),
+            Err(fault) => {
+                let opening = opening_in(alloc, from)?;
+                Ok(Input {
+                    asked: Some(Err(fault)),
+                    opening,
+                })
+            }
+        }
+    }
+
+    /// What a message by its parts asks for. The sizes are tested first, then whether the texts are JSON. Err: the
+    /// first test that fails, or Memory.
+    #[tactic(auto, unfolding(crate::specs::Inputs::message_input))]
+    pub fn message_input<'a>(
+        &self,
+        alloc: Global,
+        client: u32,
+        header: &'a [u8],
+        metadata: &'a [u8],
+        content: &'a [u8],
+        buffers: &'a [u8],
+        sizes: &'a [usize],
+        scratch: &'a mut PartsScratch,
+    ) -> Result<Input, CallFault>
+        ensures input { Gives (λ i. i) result
+            (message_input (machine self.now.core) self.now.numbers client header.now metadata.now
+            content.now buffers.now sizes.now) }
+        ensures allowed { IfOk result IsAllowed }
+    {
+        test_buffers(buffers, sizes)?;
+        let lists = Bump::new(alloc);
+        match parse_parts(
+            client, header, metadata, content, buffers, sizes, scratch, &lists,
+        ) {
+            Ok(read) => Ok(self.envelope_input(alloc, &read.envelope())?),
+            Err(MessageFault::Memory) => Err(CallFault::Memory),
+            Err(_) => Err(CallFault::NotJson),
+        }
+    }
+}
