@@ -1,16 +1,19 @@
 """A frontend over ZeroMQ, by jupyter_client: starts the kernel, sends what a notebook sends, and gathers what comes
 back. Numbers that aren't whole go and come by their texts (number_texts)."""
 
+import json
+import os
 import pathlib
+import sys
 import tempfile
 from typing import NamedTuple
 
 from jupyter_client import BlockingKernelClient, KernelManager
 from jupyter_client.kernelspec import KernelSpecManager
 
-import spec
 from number_texts import dumps, loads
 
+NAME, KERNEL = "proved_comms", pathlib.Path(__file__).resolve().parent / "kernel.py"
 SECONDS = 120  # a machine may be busy with proofs
 
 
@@ -22,14 +25,18 @@ class Message(NamedTuple):
 
 
 class Frontend:
-    def __init__(self, name=spec.NAME):
+    def __init__(self, name=NAME, protocol=2, kernels=None, **environment):
+        """Starts a kernel: the one of this folder, the stock one, `python3`, or one of the folder `kernels`. The
+        frontends speak this version of the widget protocol."""
         self.specs = tempfile.TemporaryDirectory()
-        folder = pathlib.Path(self.specs.name) / spec.NAME
+        folder = pathlib.Path(self.specs.name) / NAME
         folder.mkdir()
-        spec.write(folder)
-        specs = KernelSpecManager(kernel_dirs=[self.specs.name])
+        argv = [sys.executable, "-B", "-Xfrozen_modules=off", str(KERNEL), "-f", "{connection_file}"]
+        (folder / "kernel.json").write_text(json.dumps({"argv": argv, "display_name": NAME, "language": "python"}))
+        specs = KernelSpecManager(kernel_dirs=[str(kernels or self.specs.name)])
         self.kernel = KernelManager(kernel_name=name, kernel_spec_manager=specs)
-        self.kernel.start_kernel()
+        environment["ROLGUNAI_BROWSER_PROTOCOL"] = str(protocol)
+        self.kernel.start_kernel(env={**os.environ, **environment})
         self.client = self.connected()
 
     def connected(self):
@@ -80,7 +87,7 @@ class Frontend:
         self.kernel.restart_kernel(now=True)
         self.client = self.connected()
 
-    def end(self):
+    def close(self):
         self.client.stop_channels()
         self.kernel.shutdown_kernel(now=True)
         self.specs.cleanup()

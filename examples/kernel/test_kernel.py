@@ -4,20 +4,11 @@ failed', and so is the status."""
 import sys
 import traceback
 
+from checks import check, counted
 from frontend import Frontend
 from number_texts import Number, loads
 
-passed = failed = 0
 PNG = b"\x89PNG\r\n\x1a\n\x00"
-
-
-def check(what, got, wanted):
-    global passed, failed
-    if got == wanted:
-        passed += 1
-    else:
-        failed += 1
-        print(f"FAILED: {what}\n  got    {got!r}\n  wanted {wanted!r}")
 
 
 def kinds(came):
@@ -318,6 +309,17 @@ def fractions_of_ones_own(front):
         check(code, [got.content["data"] for got in front.run(code)[1]], [loads(text)])
 
 
+# As where the garbage collector ends something amid a call, whose end closes a comm.
+AMID = """
+class Amid(dict):
+    def items(self):
+        k.close({"bye": 1})
+        return super().items()
+
+k.send({"n": Amid(x=1)})
+"""
+
+
 def a_comm_of_the_kernels(front):
     """A comm that the kernel's code opens towards a target of the frontend's."""
     code = (
@@ -331,14 +333,11 @@ def a_comm_of_the_kernels(front):
     check("it is open", front.info("front.target"), {comm_id: "front.target"})
     came = front.send("comm_msg", {"comm_id": comm_id, "data": {"y": [1]}})
     check("it hears", [got.content.get("text") for got in came], ["{'y': [1]}\n"])
-    # As where the garbage collector ends something amid a call, whose end closes a comm.
-    amid = (
-        f"comms.play(lambda manager: manager.send('{comm_id}', '{{}}'), comms.parent_message(), "
-        "lambda sent, parent: k.close({'bye': 1}))"
+    printed, came = front.run(AMID)
+    wanted = [("comm_msg", {"n": {"x": 1}}), ("comm_close", {"bye": 1})]
+    check(
+        "a close amid a call comes after it", (printed, [(got.kind, got.content["data"]) for got in came]), ("", wanted)
     )
-    printed, came = front.run(f"print({amid}.name)")
-    closed = ("comm_close", {"comm_id": comm_id, "data": {"bye": 1}}, {}, [])
-    check("a close amid a call comes after it", (printed, [tuple(got) for got in came]), ("DELIVERED\n", [closed]))
     check("it is gone", front.info("front.target"), {})
 
 
@@ -374,17 +373,14 @@ PARTS = (
 
 
 def main():
-    global failed
     front = Frontend()
     for part in PARTS:
         try:
             part(front)
         except Exception:
-            failed += 1
-            print(f"FAILED: {part.__name__}\n{traceback.format_exc()}")
-    front.end()
-    print(f"{passed} passed, {failed} failed")
-    return failed != 0
+            check(f"{part.__name__} ends in no error", traceback.format_exc(), None)
+    front.close()
+    return counted()
 
 
 if __name__ == "__main__":

@@ -1,0 +1,149 @@
+"""What a widget of Python's holds, beside what the manager has of it: the kernel has the last word.
+
+A widget is known by what it does: the method that it gave its comm's `on_msg` is bound to an object with `keys` and
+`get_state(key)`, as ipywidgets' are.
+"""
+
+from __future__ import annotations
+
+import os
+from collections.abc import Callable, Collection, Iterable
+from typing import Any
+
+Data = dict[str, Any]
+_NUMBERS = (int, float)
+_BYTES = (bytes, bytearray, memoryview)
+_SCALARS = (int, float, str, bool)
+_OF_IPYWIDGETS = "ipywidgets.widgets.widget"
+_OFF = ("no", "n", "false", "off", "0", "0.0")
+
+
+def echoes() -> bool:
+    """Whether the environment asks for echoes, as ipywidgets reads it."""
+    return os.environ.get("JUPYTER_WIDGETS_ECHO", "off").lower() not in _OFF
+
+
+def widget_of(comm: Any) -> Any:
+    """The widget that a comm is of, or None."""
+    owner: Any = getattr(getattr(comm, "_msg_callback", None), "__self__", None)
+    is_widget = callable(getattr(owner, "get_state", None)) and hasattr(owner, "keys")
+    return owner if is_widget and not callable(owner.keys) else None
+
+
+def known_part(update: Data, buffers: list[Any], keys: Collection[str]) -> tuple[Data, list[Any]]:
+    """An update with those keys alone that the widget has, as ipywidgets takes it: the manager is told of no other."""
+    state, paths = update.get("state"), update.get("buffer_paths") or []
+    if not paths and isinstance(state, dict) and all(key in keys for key in state):
+        return update, buffers  # as nearly each
+    known = set(keys)
+    if not isinstance(state, dict) or not isinstance(paths, list):
+        return update, buffers
+    strange = [path for path in paths if isinstance(path, list) and _is_strange(path, known)]
+    if not strange and known.issuperset(state):
+        return update, buffers
+    kept = [(path, buffer) for path, buffer in zip(paths, buffers) if path not in strange]
+    state = {key: value for key, value in state.items() if key in known}
+    return {**update, "state": state, "buffer_paths": [path for path, _ in kept]}, [buffer for _, buffer in kept]
+
+
+def _is_strange(path: list[Any], known: set[str]) -> bool:
+    return bool(path) and isinstance(path[0], str) and path[0] not in known
+
+
+def copied(value: Any) -> Any:
+    """A value that stays as it is, whatever Python does with the lists and dicts of the one that it was made of."""
+    if isinstance(value, dict):
+        return {key: copied(item) for key, item in value.items()}
+    if isinstance(value, (list, tuple)):
+        return [copied(item) for item in value]
+    return value
+
+
+def placed(state: Data, paths: Iterable[list[Any]], buffers: Iterable[Any]) -> Data:
+    """A copy of a state, with its buffers at their paths."""
+    state = copied(state)
+    for path, buffer in zip(paths, buffers):
+        at: Any = state
+        for step in path[:-1]:
+            at = at[step]
+        at[path[-1]] = buffer
+    return state
+
+
+def separated(value: Any, path: list[Any], paths: list[list[Any]], buffers: list[Any]) -> Any:
+    """A state without its bytes, whose paths and buffers are appended."""
+    if isinstance(value, dict):
+        kept = {}
+        for key, item in value.items():
+            if isinstance(item, _BYTES):
+                paths.append([*path, key])
+                buffers.append(item)
+            else:
+                kept[key] = separated(item, [*path, key], paths, buffers)
+        return kept
+    if isinstance(value, (list, tuple)):
+        items: list[Any] = []
+        for place, item in enumerate(value):
+            if isinstance(item, _BYTES):
+                paths.append([*path, place])
+                buffers.append(item)
+                items.append(None)
+            else:
+                items.append(separated(item, [*path, place], paths, buffers))
+        return items
+    return value
+
+
+def same(one: Any, other: Any) -> bool:
+    """Whether two values are the same to a frontend: 3 and 3.0 are, and neither 1 and true nor a text and its bytes."""
+    if isinstance(one, bool) or isinstance(other, bool):
+        return one is other
+    if isinstance(one, _NUMBERS) and isinstance(other, _NUMBERS):
+        return one == other
+    if one is None or other is None:
+        return one is other
+    if isinstance(one, str) and isinstance(other, str):
+        return one == other
+    if isinstance(one, _BYTES) and isinstance(other, _BYTES):
+        return _flat(one) == _flat(other)
+    if isinstance(one, (list, tuple)) and isinstance(other, (list, tuple)):
+        return len(one) == len(other) and all(map(same, one, other))
+    if isinstance(one, dict) and isinstance(other, dict):
+        return one.keys() == other.keys() and all(same(item, other[key]) for key, item in one.items())
+    return False
+
+
+def _flat(buffer: Any) -> memoryview:
+    view = memoryview(buffer)
+    return view.cast("B") if view.contiguous and view.nbytes else memoryview(view.tobytes())
+
+
+def differences(widget: Any, keys: Iterable[str], held: Data, plain: Callable[[Any], Any]) -> Data:
+    """What the widget holds of these keys, where it differs from what the manager has of them. `plain` makes of a value
+    what a frontend would read."""
+    known = widget.keys
+    differ = {}
+    for key in keys:
+        if key not in known or (key in held and _is_plainly(widget, key, held[key])):
+            continue
+        value = widget.get_state(key)[key]  # a list of keys ends in an error in Debian's ipywidgets 6
+        if key not in held or not (same(held[key], value) or _is_read_as(held[key], value, plain)):
+            differ[key] = value
+    return differ
+
+
+def _is_plainly(widget: Any, key: str, held: Any) -> bool:
+    """Whether a trait of ipywidgets' has this number or text, and is sent as it is: `get_state` takes longer to say."""
+    kind = type(widget)
+    if kind.get_state.__module__ != _OF_IPYWIDGETS or kind._trait_to_json.__module__ != _OF_IPYWIDGETS:
+        return False
+    value = getattr(widget, key)
+    return type(value) in _SCALARS and same(held, value) and widget.trait_metadata(key, "to_json") is None
+
+
+def _is_read_as(held: Any, value: Any, plain: Callable[[Any], Any]) -> bool:
+    """Whether a value that is none of JSON's, as an enumeration or an array, is read as what the manager has."""
+    try:
+        return same(held, plain(value))
+    except (TypeError, ValueError):
+        return False

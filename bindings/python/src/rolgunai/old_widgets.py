@@ -1,0 +1,64 @@
+"""Version 1 of the widget protocol, translated at the edge: the manager speaks version 2.
+
+ipywidgets 6 and its browser side, as Debian 12 has them, speak version 1, in which the data of an open is the state, a
+frontend's update has the method `backbone`, and buffers stand at the top of a state, by their keys. Nothing else of the
+package knows of it. Here `kernel` is the side of Python, `frontend` that of the browser.
+"""
+
+from __future__ import annotations
+
+import json
+from typing import Any
+
+Data = dict[str, Any]
+
+
+def is_old_open(data: Any) -> bool:
+    """Whether the data of an open by the kernel is a widget's state itself."""
+    return isinstance(data, dict) and "_model_name" in data and "state" not in data
+
+
+def is_old_ask(data: Any) -> bool:
+    """Whether a frontend asks for a widget of a class, as in version 1."""
+    return isinstance(data, dict) and "widget_class" in data and "state" not in data
+
+
+def from_kernel(msg_type: str, data: Data) -> Data:
+    """What Python says in version 1, in version 2."""
+    if msg_type == "comm_open":
+        return {"state": data, "buffer_paths": []}
+    if data.get("method") == "update":
+        paths = [[key] for key in data.get("buffers") or ()]
+        return {"method": "update", "state": data.get("state"), "buffer_paths": paths}
+    return data
+
+
+def to_kernel(data: Data) -> Data:
+    """What a frontend says in version 2, as Python hears it in version 1."""
+    if data.get("method") != "update":
+        return data
+    keys = [path[0] for path in data.get("buffer_paths") or ()]
+    return {"method": "backbone", "sync_data": data.get("state"), "buffer_keys": keys}
+
+
+def from_frontend(data: Data) -> Data:
+    """What a frontend says in version 1, in version 2."""
+    if data.get("method") != "backbone":
+        return data
+    keys = data.get("buffer_keys") or []
+    paths = [[key] for key in keys] if isinstance(keys, list) else keys
+    return {"method": "update", "state": data.get("sync_data"), "buffer_paths": paths}
+
+
+def to_frontend(content: bytes, has_buffers: bool) -> bytes | None:
+    """The content of a `comm_msg` in version 2, as a frontend reads it in version 1: None where it has no such message.
+    An update without buffers is the same in both."""
+    if has_buffers or b'"echo_update"' in content:
+        value = json.loads(content)
+        method = value["data"].get("method")
+        if method == "echo_update":
+            return None
+        if method == "update":
+            value["data"]["buffers"] = [path[0] for path in value["data"].pop("buffer_paths")]
+            return json.dumps(value, separators=(",", ":")).encode()
+    return content

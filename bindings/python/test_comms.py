@@ -1,0 +1,306 @@
+"""The comm manager for kernels: what it sends, and what it tells the kernel's code.
+
+test_comms.py PACKAGE, the folder where the package is built.
+"""
+
+import doctest
+import gc
+import sys
+import threading
+
+from comms_kernel import UUID, WIDGET, Kernel, opened, said  # first, since it says where the package is
+import comm
+import rolgunai.comms
+import rolgunai.hub
+from checks import check, raised, run
+from rolgunai.comms import Comm, CommManager, CommRefused
+
+# Ids of the caller's own, which have to come back as they are.
+IDS = (
+    UUID,
+    UUID.upper(),
+    UUID.replace("-", ""),
+    "{" + UUID + "}",
+    "urn:uuid:" + UUID,
+    "a",
+    "é ☃ \U0001f600",
+    'with "quotes" and \\',
+    " ",
+    "x" * 5000,
+)
+
+
+def ids_of_any_form():
+    for comm_id in IDS:
+        name = comm_id[:40]
+        for target, data in ((WIDGET, {"state": {"v": 1}, "buffer_paths": []}), ("my.target", {"v": 1})):
+            kernel = Kernel()
+            made = comm.create_comm(target, data=data, comm_id=comm_id)
+            ((kind, told, content, *_),) = kernel.came()
+            check(f"{name} opens", (kind, told, content["data"], made.comm_id), ("comm_open", comm_id, data, comm_id))
+            check(f"{name} is open", (kernel.info(), list(kernel.manager.comms)), ({comm_id: target}, [comm_id]))
+            heard = []
+            made.on_msg(lambda message: heard.append(message["content"]["data"]))
+            update = {"method": "update", "state": {"v": 2}, "buffer_paths": []}
+            check(f"{name} hears", (kernel.hear("comm_msg", comm_id, update), heard), ([], [update]))
+            made.send(update)
+            check(f"{name} says", kernel.came(), [said(comm_id, update)])
+            made.close({"bye": 1})
+            check(f"{name} closes", kernel.came(), [said(comm_id, {"bye": 1}, kind="comm_close")])
+            check(f"{name} is gone", (kernel.info(), kernel.manager.comms), ({}, {}))
+
+
+def what_comm_makes():
+    kernel = Kernel()
+    made = Comm("t")
+    check("an id of its own", (len(made.comm_id), made.topic), (36, b"comm-" + made.comm_id.encode()))
+    check("it opens", kernel.came(), [opened(made.comm_id, "t", {})])
+    other = Comm("t", {"d": 1}, {"m": 2}, [b"x"], "b", True, "module", _close_data={"c": 3})
+    check("all of an open", kernel.came(), [opened("b", "t", {"d": 1}, {"m": 2}, [b"x"], "module")])
+    other.close()
+    check("close data", kernel.came(), [said("b", {"c": 3}, kind="comm_close")])
+    Comm(WIDGET, {"state": {}}, comm_id=UUID, target_module="module")
+    check("a widget's module", kernel.came()[0][2]["target_module"], "module")
+    check("its version", Comm(WIDGET, {"state": {}}, {"m": 1}).comm_id in kernel.info(), True)
+    check("metadata beside it", kernel.came()[0][3], {"version": "2.1.0", "m": 1})
+
+
+# Data that may be anything on a comm that is no widget's.
+DATA = ({"x": [1.5, None]}, [], [1], "text", 0, 0.5, True, "", {"": {"": 1e300}}, 2**70, {"nested": [[[{}]]]})
+
+
+def data_of_any_kind():
+    kernel = Kernel()
+    heard = []
+    kernel.manager.register_target("any", lambda made, message: made.on_msg(heard.append))
+    for data in DATA:
+        check(f"an open with {data!r}", kernel.hear("comm_open", "f", data, target_name="any"), [])
+        heard.clear()
+        kernel.hear("comm_msg", "f", data, [b"\x00", b""])
+        check(f"{data!r} is heard", [(m["content"]["data"], m["buffers"]) for m in heard], [(data, [b"\x00", b""])])
+        kernel.manager.comms["f"].send(data, {"m": data}, [b"\xff"])
+        check(f"{data!r} is said", kernel.came(), [said("f", data, {"m": data}, [b"\xff"])])
+        closed = []
+        kernel.manager.comms["f"].on_close(closed.append)
+        kernel.hear("comm_close", "f", data)
+        check(f"a close with {data!r}", [message["content"]["data"] for message in closed], [data])
+        made = Comm("any", data=data, comm_id="k")
+        check(f"the kernel's open with {data!r}", kernel.came(), [opened("k", "any", data)])
+        made.close(data, {"m": 1}, [b"b"])
+        check(f"its close with {data!r}", kernel.came(), [said("k", data, {"m": 1}, [b"b"], "comm_close")])
+
+
+def targets():
+    kernel = Kernel()
+    manager = kernel.manager
+    manager.register_target("path", "collections.OrderedDict")
+    check("a target by its path", manager.targets["path"].__name__, "OrderedDict")
+
+    def fails(made, message):
+        raise ValueError("as the test wants it")
+
+    manager.register_target("fails", fails)
+    closed = [said("a", {}, kind="comm_close")]
+    check("a target that fails closes", kernel.hear("comm_open", "a", {}, target_name="fails"), closed)
+    check("no target", kernel.hear("comm_open", "a", {}, target_name="nobody"), closed)
+    Comm("matplotlib", comm_id="figure")
+    kernel.came()
+    check("one the kernel only opens towards", kernel.hear("comm_open", "a", {}, target_name="matplotlib"), closed)
+    check("the kernel's stays", (kernel.info(), list(manager.comms)), ({"figure": "matplotlib"}, ["figure"]))
+    manager.register_target("mine", lambda made, message: None)
+    for comm_id in "ba":
+        kernel.hear("comm_open", comm_id, {}, target_name="mine")
+    live = manager.comms["a"]
+    check("an id in use from a frontend", kernel.hear("comm_open", "a", {}, target_name="mine"), [])
+    check("an id in use in the kernel", str(raised(lambda: Comm("mine", comm_id="a"))), "comm_open: id_in_use")
+    check("the live comm stays", (manager.comms["a"] is live, kernel.hear("comm_msg", "a", {})), (True, []))
+    manager.register_target("mine", fails)
+    check("registered again, its comms stay", (manager.comms["a"] is live, kernel.came()), (True, []))
+    check("an unregister gives the callback", manager.unregister_target("mine", fails), fails)
+    check("and closes in order", kernel.came(), [said(comm_id, {}, kind="comm_close") for comm_id in "ba"])
+    check("the comms know", (live._closed, live.close(), kernel.came()), (True, None, []))
+    check("a target that isn't there", type(raised(lambda: manager.unregister_target("mine", None))), KeyError)
+    check("a comm that isn't there", type(raised(lambda: manager.unregister_comm(live))), KeyError)
+    forgotten = Comm("other", comm_id="x")
+    kernel.came()
+    manager.unregister_comm(forgotten)
+    check("one that is forgotten", (kernel.came(), "x" in kernel.info()), ([], False))
+    check("its id is free", Comm("other", comm_id="x").comm_id in kernel.info(), True)
+    kernel.came()
+    check("a message to nobody", (kernel.hear("comm_msg", "a", {}), manager.get_comm("a")), ([], None))
+    check("a send after the close", str(raised(lambda: live.send({}))), "comm_msg: no_comm")
+
+
+# What the kernel's code says of a widget, and why it is refused.
+REFUSED = (
+    (lambda: Comm(WIDGET, {"state": []}), "comm_open: bad_field state"),
+    (lambda: Comm(WIDGET, {"state": []}, comm_id="a"), "comm_open: refused bad_state"),
+    (lambda: Comm(WIDGET, {"state": {}, "buffer_paths": [["x"]]}), "comm_open: buffer_missing 0"),
+    (lambda: Comm(WIDGET, {"state": {}, "buffer_paths": [["x"]]}, comm_id="a"), "comm_open: refused buffer_missing 0"),
+    (lambda: Comm(WIDGET, [1]), "comm_open: bad_content data"),
+)
+
+
+def refusals():
+    kernel = Kernel()
+    for n, (call, words) in enumerate(REFUSED):
+        error = raised(call)
+        check(f"refusal {n}", (type(error), str(error)), (CommRefused, words))
+        check(f"refusal {n} leaves nothing", (kernel.came(), kernel.info(), kernel.manager.comms), ([], {}, {}))
+    widget = Comm(WIDGET, {"state": {"v": 1}}, comm_id=UUID)
+    kernel.came()
+    check(
+        "no push of no state",
+        str(raised(lambda: widget.send({"method": "update", "state": 1}))),
+        "comm_msg: bad_field state",
+    )
+    check("no number", type(raised(lambda: widget.send({"v": float("nan")}))), ValueError)
+    check("nothing went out", kernel.came(), [])
+
+
+class Foreign(comm.base_comm.BaseComm):
+    def publish_msg(self, *parts, **keys):
+        raise AssertionError("it publishes by itself")
+
+
+def comms_of_another_class():
+    kernel = Kernel()
+    made = Foreign("other", {"x": 1}, comm_id="f")
+    check("it opens by the manager", (kernel.came(), kernel.info()), ([opened("f", "other", {"x": 1})], {"f": "other"}))
+    made.send({"y": 2})
+    made.close()
+    check("it says and closes", kernel.came(), [said("f", {"y": 2}), said("f", {}, kind="comm_close")])
+
+
+def finalizers():
+    kernel = Kernel()
+    first, second = Comm("t", comm_id="1"), Comm("t", comm_id="2")
+    kernel.came()
+    kernel.amid = second.close
+    first.send({"n": 1})
+    check(
+        "a close amid a call is sent after it", kernel.came(), [said("1", {"n": 1}), said("2", {}, kind="comm_close")]
+    )
+    kernel.amid = lambda: first.send({"n": 3})
+    first.send({"n": 2})
+    check("so is a message", kernel.came(), [said("1", {"n": 2}), said("1", {"n": 3})])
+    inside, go = threading.Event(), threading.Event()
+
+    def wait():
+        inside.set()
+        go.wait(60)
+
+    third = Comm("t", comm_id="3")
+    kernel.came()
+    kernel.amid = wait
+    sender = threading.Thread(target=first.send, args=({"n": 4},))
+    sender.start()
+    inside.wait(60)
+    third.close()  # a thread whose finalizers run while another one sends isn't held up
+    check("it comes later", (kernel.came(), "3" in kernel.manager.comms), ([], False))
+    go.set()
+    sender.join(60)
+    wanted = [said("1", {"n": 4}), said("3", {}, kind="comm_close")]
+    check("right after that", (kernel.came(), kernel.info()), (wanted, {"1": "t"}))
+    last, real, plays = Comm("t", comm_id="5"), kernel.manager._play_late, []
+    kernel.came()
+
+    def play_late():
+        real()
+        plays.append(1)
+        if len(plays) == 2:  # all that waits is played, and the lock is held yet
+            other = threading.Thread(target=last.close)
+            other.start()
+            other.join(60)
+
+    kernel.manager._play_late = play_late
+    first.send({"n": 5})
+    kernel.manager._play_late = real
+    check("a close at the last moment", kernel.came(), [said("1", {"n": 5}), said("5", {}, kind="comm_close")])
+    fourth = Comm("t", comm_id="4")
+    kernel.came()
+    del kernel.manager.comms["4"], fourth
+    gc.collect()
+    check("one that nobody has closes", kernel.came(), [said("4", {}, kind="comm_close")])
+
+
+def many_threads():
+    kernel = Kernel()
+    kernel.manager.register_target("t", lambda made, message: None)
+
+    def work(number):
+        for n in range(100):
+            made = Comm("t", comm_id=f"{number}.{n}")
+            made.send({"n": n})
+            kernel.manager.register_target(f"t{number}", lambda made, message: None)
+            made.close()
+
+    threads = [threading.Thread(target=work, args=(number,)) for number in range(8)]
+    for thread in threads:
+        thread.start()
+    for thread in threads:
+        thread.join(120)
+    told = {}
+    for kind, comm_id, *_ in kernel.came():
+        told.setdefault(comm_id, []).append(kind)
+    check(
+        "each comm's messages in their order", set(map(tuple, told.values())), {("comm_open", "comm_msg", "comm_close")}
+    )
+    check("of all", (len(told), kernel.info(), kernel.manager.comms), (800, {}, {}))
+
+
+class Owner:
+    """What only the garbage collector ends, which closes its comm then."""
+
+    def __init__(self):
+        self.comm, self.itself = Comm("t"), self
+        self.comm.send({"n": 1})
+
+    def __del__(self):
+        self.comm.close()
+
+
+def garbage_of_many_threads():
+    kernel = Kernel()
+    threshold = gc.get_threshold()
+    gc.set_threshold(7, 2, 2)
+    threads = [threading.Thread(target=lambda: [Owner() for _ in range(150)] and None) for _ in range(6)]
+    try:
+        for thread in threads:
+            thread.start()
+        for thread in threads:
+            thread.join(120)
+    finally:
+        gc.set_threshold(*threshold)
+    gc.collect()
+    check("no thread waits for ever", [thread.is_alive() for thread in threads], [False] * 6)
+    check("all are closed", (kernel.info(), kernel.manager.comms), ({}, {}))
+    told = {}
+    for kind, comm_id, *_ in kernel.came():
+        told.setdefault(comm_id, []).append(kind)
+    wanted = {("comm_open", "comm_msg", "comm_close")}
+    check("each in its order", (len(told), set(map(tuple, told.values()))), (900, wanted))
+
+
+def documented():
+    for module in (rolgunai.hub, rolgunai.comms):
+        result = doctest.testmod(module)
+        check(f"the examples of {module.__name__}", (result.failed, result.attempted > 5), (0, True))
+    check("what comm has then", type(comm.get_comm_manager()), CommManager)
+
+
+if __name__ == "__main__":
+    sys.exit(
+        run(
+            ids_of_any_form,
+            what_comm_makes,
+            data_of_any_kind,
+            targets,
+            refusals,
+            comms_of_another_class,
+            finalizers,
+            many_threads,
+            garbage_of_many_threads,
+            documented,
+        )
+    )
