@@ -132,6 +132,7 @@ class Sums(Room):
 
     def test_a_comment_at_the_end_of_a_line_counts(self):
         self.assertEqual(sums.said("a // b\n  // c\n\nd\n", ".rt"), "a // b\nd ")
+        self.assertEqual(sums.said("    #[inline(always)]\n    #[tactic(auto)]\n", ".rt"), "#[tactic(auto)] ")
 
     def test_how_a_source_is_broken_into_lines_leaves_the_sum(self):
         one = "pub fn f() -> u8\n    ensures { a × b }\n{\n    2\n}\n"

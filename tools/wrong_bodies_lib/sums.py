@@ -3,12 +3,13 @@ and the kit.
 
 Of the crates below, the check reads what they state: items and contracts, definitions, and lemmas. Neither the bodies
 of their functions nor the answers that prove them: the gate builds each library as its statements alone. Lines that are
-blank or only a comment change nothing and are left out."""
+blank or only a comment change nothing and are left out, and so are those that only say what is inlined."""
 import hashlib
 import re
 from pathlib import Path
 
-FORM = "3"
+FORM = "4"
+INLINED = re.compile(r" *#\[inline(?:\((?:always|never)\))?\]")
 COMMENTS = {".rt": "//", ".antt": "--"}
 ANSWERS = ("Answers.antt", "Invariants.antt", "Proof.antt")
 
@@ -18,12 +19,14 @@ IMPORTS = re.compile(r"(?<=ghost use )([\w.]+)\.\{([^{}]*)\}; ghost use \1\.\{")
 
 
 def said(text, suffix):
-    """The text without the lines that are blank or only a comment. The lines of a source are joined but where a comment
-    ends one, since how they are broken and indented says nothing; so are imports of one module."""
+    """The text without the lines that are blank, only a comment or only an inline attribute, which is for the compiler
+    alone. The lines of a source are joined but where a comment ends one, since how they are broken and indented says
+    nothing; so are imports of one module."""
     mark = COMMENTS[suffix]
     lines = [line for line in text.splitlines() if line.strip() and not line.lstrip().startswith(mark)]
     if suffix != ".rt":
         return "\n".join(lines)
+    lines = [line for line in lines if not INLINED.fullmatch(line)]
     joined = "".join(line.strip() + ("\n" if mark in line else " ") for line in lines)
     while (shorter := IMPORTS.sub(r"\1.{\2, ", joined)) != joined:
         joined = shorter
