@@ -118,6 +118,7 @@ impl<'v, 'a> ItemsRef<'v, 'a> {
 
 impl<'v, 'a> ObjectRef<'v, 'a> {
     /// The value at a key, compared by bytes. None: no member has it. O(n) in the members of a line's object.
+    #[inline(always)]
     pub fn get(self, key: &str) -> Option<JsonRef<'v, 'a>>
         ensures { option_map behind result ≡ get_member key.now (members self.entry) }
     {
@@ -134,7 +135,9 @@ impl<'v, 'a> ObjectRef<'v, 'a> {
     }
 }
 
-// The value of the last member with this key.
+// The value of the last member with this key. Inlined up to where the key is a constant, whose bytes are then compared
+// in place.
+#[inline(always)]
 fn last_of<'v, 'a>(list: &'v LineMembers<'a>, key: &str) -> Option<&'v LineValue<'a>>
     ensures { option_map (λ v. tidy (value_view v.now)) result
         ≡ get_member key.now (tidy_members (members_view list.now.items) no_members) }

@@ -63,6 +63,7 @@ pub fn fields_of<'v, 'a>(object: &'v LineMembers<'a>) -> Fields<'v, 'a>
 }
 
 /// The value of a member by its name. None: there is no such member.
+#[inline(always)]
 pub fn member<'v, 'a>(of: Fields<'v, 'a>, name: &str) -> Option<JsonRef<'v, 'a>>
     ensures { behind result ≡ get_member name.now (fields of.entry) }
 {

@@ -150,6 +150,7 @@ fn type_named(name: &str) -> Result<MessageType, MessageFault>
     }
 }
 
+#[inline(always)]
 fn text_at<'v>(field: Field, key: &str, of: Fields<'v, '_>) -> Result<&'v str, MessageFault>
     ensures { Gives (λ t. t.now) result (text_at field key.now (fields of.entry)) }
 {
@@ -173,6 +174,7 @@ pub fn object_of<'v, 'a>(
     }
 }
 
+#[inline(always)]
 fn object_at<'v, 'a>(
     field: Field,
     key: &str,

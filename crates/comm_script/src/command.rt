@@ -25,6 +25,7 @@ use comm_value::{Buffers, Dict, Numbers, Path, Text, Val, ValueFault, paths_of, 
 use std::alloc::Global;
 use uuid::Uuid;
 
+#[inline(always)]
 fn text_field<'v>(key: Key, name: &str, line: Fields<'v, '_>) -> Result<&'v str, LineFault>
     ensures { Gives (λ t. t.now) result (text_field key name.now (fields line.entry)) }
 {
@@ -34,6 +35,7 @@ fn text_field<'v>(key: Key, name: &str, line: Fields<'v, '_>) -> Result<&'v str,
     }
 }
 
+#[inline(always)]
 fn object_field<'v, 'a>(
     key: Key,
     name: &str,
