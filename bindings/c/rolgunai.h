@@ -49,8 +49,8 @@ typedef struct rolgunai_handle {
 } rolgunai_handle;
 
 /* The status that each call gives. Where more than one test fails, the first of CLOSED or ALREADY_OPEN, BAD_LIMIT,
- * BAD_KIND, BAD_SIZES, BAD_NAME, NOT_JSON, EXHAUSTED gives it; ROLGUNAI_MEMORY may come in place of any but the first.
- * After any but ROLGUNAI_OK, ROLGUNAI_BUFFER_TOO_SMALL and ROLGUNAI_NO_TEXT the manager is as it was before the call,
+ * BAD_KIND, BAD_SIZES, BAD_NAME, NOT_JSON, EXHAUSTED gives it; ROLGUNAI_MEMORY may come in place of the last four. After
+ * any but ROLGUNAI_OK, ROLGUNAI_BUFFER_TOO_SMALL and ROLGUNAI_NO_TEXT the manager is as it was before the call,
  * with its last result; `out` is as it was after any but ROLGUNAI_OK; and `*size`, `*reply`, `*sent` and `*index` are 0
  * where the call doesn't say otherwise. */
 enum {
