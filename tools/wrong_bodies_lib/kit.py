@@ -129,7 +129,7 @@ def build_archive(crate):
     rt = loaded()
     rt.rtlib.guarded()
     rt.share_work(True)
-    return crate.build_static([])
+    return crate.build_static(["--jobs", str(min(4, rt.processors()))])
 
 
 @contextlib.contextmanager
