@@ -3,6 +3,7 @@
 test_comms.py PACKAGE, the folder where the package is built.
 """
 
+import collections
 import doctest
 import gc
 import sys
@@ -202,20 +203,22 @@ def finalizers():
     sender.join(60)
     wanted = [said("1", {"n": 4}), said("3", {}, kind="comm_close")]
     check("right after that", (kernel.came(), kernel.info()), (wanted, {"1": "t"}))
-    last, real, plays = Comm("t", comm_id="5"), kernel.manager._play_late, []
+    last, looks = Comm("t", comm_id="5"), []
     kernel.came()
 
-    def play_late():
-        real()
-        plays.append(1)
-        if len(plays) == 2:  # all that waits is played, and the lock is held yet
-            other = threading.Thread(target=last.close)
-            other.start()
-            other.join(60)
+    class Late(collections.deque):
+        def __bool__(self):
+            waits = len(self) > 0
+            looks.append(1)
+            if len(looks) == 2:  # nothing waits any more, and the lock is held yet
+                other = threading.Thread(target=last.close)
+                other.start()
+                other.join(60)
+            return waits
 
-    kernel.manager._play_late = play_late
+    kernel.manager._late = Late()
     first.send({"n": 5})
-    kernel.manager._play_late = real
+    kernel.manager._late = collections.deque()
     check("a close at the last moment", kernel.came(), [said("1", {"n": 5}), said("5", {}, kind="comm_close")])
     fourth = Comm("t", comm_id="4")
     kernel.came()
@@ -282,6 +285,75 @@ def garbage_of_many_threads():
     check("each in its order", (len(told), set(map(tuple, told.values()))), (900, wanted))
 
 
+def opens_that_are_not_sent():
+    for target, data in (("t", {}), (WIDGET, {"state": {}}), (WIDGET, {"_model_name": "M"})):
+        for comm_id in (UUID, "a"):
+            kernel = Kernel()
+            send, kernel.manager._send = kernel.manager._send, lambda *parts: 1 // 0
+            error = raised(lambda: Comm(target, data, comm_id=comm_id))
+            left = kernel.info(), kernel.manager.comms, kernel.manager._old
+            check(f"{target} {comm_id}: nothing is left", (type(error), *left), (ZeroDivisionError, {}, {}, set()))
+            kernel.manager._send = send
+            made = Comm(target, data, comm_id=comm_id)
+            check("it opens then", (kernel.info(), kernel.manager.comms), ({comm_id: target}, {comm_id: made}))
+
+
+def a_comm_that_is_unregistered():
+    kernel = Kernel()
+    one = Comm("t", comm_id="x")
+    kernel.manager.unregister_comm(one)
+    other = Comm("t", comm_id="x")
+    kernel.came()
+    one.close()
+    del one
+    gc.collect()
+    check("it closes no other of its id", (kernel.came(), kernel.info()), ([], {"x": "t"}))
+    other.send({})
+    check("which goes on", kernel.came(), [said("x", {})])
+
+
+def keys_of_any_kind():
+    kernel = Kernel()
+    made = Comm("t", comm_id="x")
+    kernel.came()
+    made.send({(1, 2): {3: [{frozenset(): None}]}, "a": 1})
+    check("are texts", kernel.came(), [said("x", {"(1, 2)": {"3": [{"frozenset()": None}]}, "a": 1})])
+    for value in ({(1,): 1, "(1,)": 2}, {"v": object()}):
+        error = raised(lambda: made.send(value))
+        check(f"not {list(value)}", (type(error) in (TypeError, ValueError), kernel.came()), (True, []))
+
+
+def a_forked_child():
+    kernel = Kernel()
+    made = Comm("t", comm_id="x")
+    kernel.came()
+    kernel.manager._pid += 1  # as in another process
+    made.send({})
+    check("it says nothing", kernel.came(), [])
+
+
+def installed_without_a_kernel():
+    stock = comm.base_comm.CommManager()
+    stock.register_target("t", print)
+    comm.get_comm_manager = lambda: stock
+    manager = rolgunai.comms.install(send=lambda *parts: None)
+    check("targets that were registered", manager.targets, {"t": print})
+    made = comm.create_comm("t")
+    error = raised(lambda: rolgunai.comms.install(send=print))
+    check("not where comms are open", "1 comms are open" in str(error), True)
+    made.close()
+    check("else again", rolgunai.comms.install(send=print) is not manager, True)
+
+
+def what_is_no_object():
+    kernel = Kernel()
+    for kind in ("comm_open", "comm_msg", "comm_close"):
+        for content in ([], None, "text", float("nan")):
+            message = {"header": {"msg_type": kind}, "metadata": {}, "content": content, "buffers": []}
+            error = raised(lambda: getattr(kernel.manager, kind)(None, None, message))
+            check(f"{kind} with the content {content!r}", (error, kernel.came()), (None, []))
+
+
 def documented():
     for module in (rolgunai.hub, rolgunai.comms):
         result = doctest.testmod(module)
@@ -301,6 +373,12 @@ if __name__ == "__main__":
             finalizers,
             many_threads,
             garbage_of_many_threads,
+            opens_that_are_not_sent,
+            a_comm_that_is_unregistered,
+            keys_of_any_kind,
+            a_forked_child,
+            installed_without_a_kernel,
+            what_is_no_object,
             documented,
         )
     )

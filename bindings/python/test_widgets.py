@@ -8,7 +8,7 @@ import sys
 
 from comms_kernel import UUID, WIDGET, Kernel, said  # first, since it says where the package is
 from checks import check, raised, run
-from rolgunai import _widgets, old_widgets
+from rolgunai import _widgets
 from rolgunai.comms import Comm
 
 
@@ -106,7 +106,7 @@ def last_words_on_keys_and_bytes():
     check("the manager has them", has(), ({"v": 2}, [["b"]], [b"sent"]))
     others = kernel.hear("comm_msg", widget.comm.comm_id, wanted, [b"others"])
     check("other bytes", others, [said(widget.comm.comm_id, wanted, (), [b"sent"])])
-    for size in (2**16 - 1, 2**16, 2**20):  # long ones go another way
+    for size in (22, 23, 24, 2**16 - 1, 2**16, 2**20):  # long ones stay in Python
         state = {"method": "update", "state": {"v": size}, "buffer_paths": [["b"]]}
         widget.state.update(v=size, b=bytes(size))
         widget.comm.send(state, {"m": 1}, [widget.state["b"]])
@@ -141,23 +141,25 @@ def opened_by_a_frontend():
     check("all are open", kernel.info(), {"f": WIDGET, "h": WIDGET})
 
 
+def echoes_and_clamps(widget, message):
+    state = {**message["content"]["data"]["state"], "v": 50}
+    widget.comm.send({"method": "echo_update", "state": state, "buffer_paths": []}, None, message["buffers"])
+    widget.state["v"] = 10
+
+
 def echoes():
-    for word, wanted in (("1", True), ("TRUE", True), ("off", False), ("0", False), ("No", False), (None, False)):
-        environment = {} if word is None else {"JUPYTER_WIDGETS_ECHO": word}
-        before, _widgets.os.environ = _widgets.os.environ, environment
-        kernel = Kernel()
-        _widgets.os.environ = before
-        widget = Holds(takes, v=1)
-        kernel.came()
-        comm_id = widget.comm.comm_id
-        came = kernel.hear("comm_msg", comm_id, {"method": "update", "state": {"v": 2}, "buffer_paths": []})
-        check(
-            f"JUPYTER_WIDGETS_ECHO={word}",
-            [content["data"]["method"] for _, _, content, *_ in came],
-            ["echo_update"] * wanted,
-        )
-        widget.comm.send({"method": "echo_update", "state": {"v": 2}})
-        check(f"{word}: ipywidgets' own echo", len(kernel.came()), 0 if wanted else 1)
+    """ipywidgets echoes what it likes to, as one message more."""
+    kernel = Kernel()
+    widget = Holds(echoes_and_clamps, v=1)
+    kernel.came()
+    update = {"method": "update", "state": {"v": 2}, "buffer_paths": []}
+    echo = {"method": "echo_update", "state": {"v": 50}, "buffer_paths": []}
+    came = kernel.hear("comm_msg", widget.comm.comm_id, update, [b"x"])
+    wanted = [echo, {"method": "update", "state": {"v": 10}, "buffer_paths": []}]
+    check("an echo, then the last word", [content["data"] for _, _, content, *_ in came], wanted)
+    check("with its buffers", [buffers for *_, buffers in came], [[b"x"], []])
+    ((_, _, content, *_),) = kernel.hear("comm_msg", widget.comm.comm_id, {"method": "request_state"})
+    check("it changes no state", content["data"]["state"], {"v": 10})
 
 
 # Version 1 of the widget protocol and version 2, in both directions.
@@ -191,9 +193,6 @@ def old_protocol():
         "frontends of version 2",
         kernel.came()[0][2]["data"],
         {"buffer_paths": [], "state": {"_model_name": "M", "v": 1}},
-    )
-    check(
-        "an echo has no old form", old_widgets.to_frontend(b'{"data":{"method":"echo_update","state":{}}}', False), None
     )
 
 
@@ -243,5 +242,12 @@ def hostile_frontends():
 
 if __name__ == "__main__":
     sys.exit(
-        run(last_words, last_words_on_keys_and_bytes, opened_by_a_frontend, echoes, old_protocol, hostile_frontends)
+        run(
+            last_words,
+            last_words_on_keys_and_bytes,
+            opened_by_a_frontend,
+            echoes,
+            old_protocol,
+            hostile_frontends,
+        )
     )

@@ -3,9 +3,9 @@ callback, from `slider.value = n` to the message on the socket, and for sliders 
 
     ROLGUNAI_PACKAGE=FOLDER /usr/bin/python3 bench.py [--cpu] [ROUNDS [COUNT]]
 
-Both kernels run with Debian's ipywidgets, measure by themselves, and take turns, ROUNDS (5) times; the best of each
-counts. COUNT (400) is how many messages are measured each time; five times as many
-sliders are made, at most 1,000.
+Both kernels run with the ipywidgets that this Python has, Debian's or that of PYTHONPATH, measure by themselves, and
+take turns, ROUNDS (5) times; the best of each counts. COUNT (400) is how many messages are measured each time; five
+times as many sliders are made, at most 1,000.
 With --cpu it is the processor's time of the kernel's thread, on which other work of the machine counts less.
 """
 
@@ -20,14 +20,19 @@ import ipywidgets, traitlets, zmq
 from time import {clock} as clock
 kernel, count, file = get_ipython().kernel, {count}, {file!r}
 idents, parent = [b"bench"], kernel.get_parent("shell")
+is_old = int(ipywidgets.__version__.split(".")[0]) < 7
 
 class Blob(ipywidgets.DOMWidget):
     value = traitlets.Bytes().tag(sync=True, from_json=lambda value, widget: bytes(value))
 
 def frames(comm_id, n, value):
+    "A move of a slider, as the browser side of this ipywidgets sends it: by version 1 of the protocol, or by version 2"
     is_bytes = isinstance(value, bytes)
-    data = dict(method="backbone", sync_data=dict() if is_bytes else dict(value=value))
-    data["buffer_keys"] = ["value"] if is_bytes else []
+    state = dict() if is_bytes else dict(value=value)
+    if is_old:
+        data = dict(method="backbone", sync_data=state, buffer_keys=["value"] * is_bytes)
+    else:
+        data = dict(method="update", state=state, buffer_paths=[["value"]] * is_bytes)
     message = kernel.session.msg("comm_msg", dict(comm_id=comm_id, data=data))
     return [zmq.Frame(part) for part in kernel.session.serialize(message, idents) + [value] * is_bytes]
 

@@ -49,11 +49,18 @@ class Server:
             "JUPYTER_DATA_DIR": str(data),
             "JUPYTER_CONFIG_DIR": str(self.folder / "config"),
         }
-        environment = {**os.environ, **home, "PYTHONPATH": package, "IPYTHONDIR": str(self.folder / "ipython")}
+        environment = {**os.environ, **home, "IPYTHONDIR": str(self.folder / "ipython")}
         environment.pop("ROLGUNAI_BROWSER_PROTOCOL", None)
-        words = [sys.executable, "-B", "-m", "rolgunai.kernel", "install", "--user"]
-        subprocess.run(words, env=environment, check=True, stdout=subprocess.DEVNULL)
-        for kernel in ("python3", "rolgunai"):
+        newer = environment.pop("PYTHONPATH", None)  # for the kernels, and for the browser; the server is Debian's
+        paths = os.pathsep.join([package, newer] if newer else [package])
+        if newer:
+            data.mkdir()
+            (data / "nbextensions").symlink_to(pathlib.Path(newer).parents[2] / "share/jupyter/nbextensions")
+        for kernel, module in (("python3", "ipykernel"), ("rolgunai", "rolgunai.kernel")):
+            words = [sys.executable, "-B", "-m", module, "install", "--user"]
+            subprocess.run(words, env={**environment, "PYTHONPATH": paths}, check=True, stdout=subprocess.DEVNULL)
+            spec = data / "kernels" / kernel / "kernel.json"
+            spec.write_text(json.dumps({**json.loads(spec.read_text()), "env": {"PYTHONPATH": paths}}))
             self.write(kernel, cells)
         settings = {"token": "", "password": "", "open_browser": False, "ip": "127.0.0.1", "port": self.port}
         settings |= {"notebook_dir": str(self.folder / "notebooks"), "allow_root": True, "port_retries": 0}

@@ -24,6 +24,11 @@ class Message(NamedTuple):
     buffers: list
 
 
+def printed_by(came):
+    """The text of what is printed, which may come in several messages."""
+    return "".join(got.content["text"] for got in came if got.kind == "stream")
+
+
 class Frontend:
     def __init__(self, name=NAME, protocol=2, kernels=None, **environment):
         """Starts a kernel: the one of this folder, the stock one, `python3`, or one of the folder `kernels`. The
@@ -67,9 +72,13 @@ class Frontend:
         """Runs a cell. Gives what it prints, with the error that it ends in, and the comms' messages."""
         # ipykernel aborts what comes within a tenth of a second after a cell that failed and asked to stop on errors
         came = self.send("execute_request", {"code": code, "silent": False, "stop_on_error": False})
-        printed = "".join(got.content["text"] for got in came if got.kind == "stream")
+        printed = printed_by(came)
         printed += "".join(f"{got.content['ename']}: {got.content['evalue']}" for got in came if got.kind == "error")
         return printed, [got for got in came if got.kind.startswith("comm_")]
+
+    def speaks_old_widgets(self):
+        """Whether the kernel's ipywidgets speaks version 1 of the widget protocol."""
+        return int(self.run("import ipywidgets; print(ipywidgets.__version__.split('.')[0])")[0]) < 7
 
     def info(self, target=None, client=None):
         """The open comms and their targets, as comm_info_reply has them."""

@@ -51,8 +51,9 @@ text = ipywidgets.Text(value="hello")
 display(text)
 """,
     """
-import types  # Debian's tqdm wants a style of ipywidgets 7
-ipywidgets.FloatProgress.style = types.SimpleNamespace()
+import types
+if ipywidgets.__version__ < "7":  # tqdm wants a style, which came with that
+    ipywidgets.FloatProgress.style = types.SimpleNamespace()
 from tqdm.notebook import tqdm
 bar = tqdm(range(5), desc="steps")
 for _ in bar:
@@ -76,7 +77,9 @@ class Even(ipywidgets.IntText):
 even = Even(value=2)
 """
 TYPED = "return document.querySelector(arguments[0]).value"
-HANDLE, READOUT = " .ui-slider-handle", " .widget-readout"
+# As the page has them by ipywidgets 6 and by 8.
+HANDLE, READOUT = " :is(.ui-slider-handle, .noUi-handle)", " .widget-readout"
+AREA = " :is(.widget-area, .output_area)"
 # Whether the figure's canvas has a line in matplotlib's first colour.
 DRAWN = """
     return Array.from(document.querySelectorAll(arguments[0] + " canvas")).some(function (canvas) {
@@ -90,11 +93,12 @@ DRAWN = """
 """
 
 
-# The open comms by their targets, but for those by which a page that starts asks for the kernel's version of widgets.
+# The open comms by their targets, but for those by which a page that starts asks for the kernel's version of widgets
+# (jupyter.widget.version), or for their states (jupyter.widget.control).
 COUNTS = """
 import collections
-comms = get_ipython().kernel.comm_manager.comms.values()
-print(sorted(collections.Counter(c.target_name for c in comms if "version" not in c.target_name).items()))
+names = [comm.target_name for comm in get_ipython().kernel.comm_manager.comms.values()]
+print(sorted(collections.Counter(name for name in names if not name.startswith("jupyter.widget.")).items()))
 """
 
 
@@ -124,9 +128,9 @@ def steps(page):
     page.keys(linked + HANDLE, Keys.ARROW_RIGHT, Keys.ARROW_RIGHT, Keys.ARROW_RIGHT)
     yield "two linked sliders", page.show(linked + READOUT, ["3", "3"]), ["3", "3"]
     page.click(pressed + " .widget-button")
-    yield "a button with its output", page.shows(pressed + " .widget-area .output_stdout", "pressed"), "pressed"
+    yield "a button with its output", page.shows(pressed + AREA + " .output_stdout", "pressed"), "pressed"
     yield "the text", page.script(TYPED, typed + " input"), "hello"
-    page.keys(typed + " .widget-area input", Keys.END, " you")
+    page.keys(typed + AREA + " input", Keys.END, " you")
     yield "typed", page.prints(value("text"), "hello you\n"), "hello you\n"
     yield "tqdm's bar", page.show(bar + " .widget-html", 2, len)[0][:11], "steps: 100%"
     filled = "return document.querySelector(arguments[0]).style.width"
@@ -140,7 +144,7 @@ def steps(page):
     page.reload()
     yield "reloaded: the slider", page.shows(whole + READOUT, "8"), "8"
     yield "the linked ones", page.show(linked + READOUT, ["3", "3"]), ["3", "3"]
-    yield "the text", page.finds(lambda: page.script(TYPED, typed + " .widget-area input")), "hello you"
+    yield "the text", page.finds(lambda: page.script(TYPED, typed + AREA + " input")), "hello you"
     page.keys(whole + HANDLE, Keys.ARROW_LEFT)
     yield "moved again", page.shows(whole + READOUT, "7"), "7"
     yield "its value in the kernel", page.prints(value("slider"), "7\n"), "7\n"
@@ -157,7 +161,7 @@ def refused(page):
 
     page.run(EVEN)
     page.add_cell("display(even)")
-    box = page.cell(len(CELLS)) + " .widget-area input"
+    box = page.cell(len(CELLS)) + AREA + " input"
     page.keys(box, Keys.CONTROL + "a", "5", Keys.TAB)
     page.show_value(box, "2")
     return page.script(TYPED, box), page.run("print(even.value)")

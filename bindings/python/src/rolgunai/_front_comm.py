@@ -17,6 +17,8 @@ class Comm(HubComm, base_comm.BaseComm):
     """What `comm.create_comm` makes: `comm`'s own comm, which says by the hub what it says. One that is handed no id
     gets a UUID in its hyphened form."""
 
+    kernel: Any = None  # the one that `install` was for: ipywidgets 7 says nothing on a comm without one
+
     def __init__(
         self,
         target_name: str = "comm",

@@ -21,11 +21,12 @@ class Comm(HubComm, stock.Comm):
 
     def handle_msg(self, msg: Any) -> None:
         """Calls the callback, as ever; ipykernel's own also makes a record of the message, which nobody is shown."""
-        if self._msg_callback:
+        callback = self._msg_callback
+        if callback:
             shell = self.kernel.shell
             if shell:
                 shell.events.trigger("pre_execute")
-            self._msg_callback(msg)
+            callback(msg)
             if shell:
                 shell.events.trigger("post_execute")
 

@@ -1,14 +1,20 @@
-"""What sends on the iopub socket of a kernel of ipykernel's, as jupyter_client's `Session.send` does: the parent's
-header, which is one for all that a cell says, is written once."""
+"""What sends on the iopub socket of a kernel of ipykernel's, as jupyter_client's `Session.send` does. What stays the
+same from message to message is written once: a header but for its number and date, and the parent's header, which is
+one for all that a cell says."""
 
 from __future__ import annotations
 
 import os
+import time
+from datetime import datetime, timezone
 from typing import Any
 
-from jupyter_client.session import DELIM, Session, extract_header
+from jupyter_client.session import DELIM, Session, extract_header, protocol_version
 
-from rolgunai._wire import packer
+from rolgunai._wire import packer, read
+
+_VERSION = {"version": "2.1.0"}
+_VERSION_TEXT = b'{"version":"2.1.0"}'
 
 
 class Sender:
@@ -16,35 +22,72 @@ class Sender:
 
     def __init__(self, kernel: Any) -> None:
         self._kernel = kernel
-        self._parent: Any = None
         self._dumps = packer()
+        self._session: Any = None  # whose settings are known; None where they may have changed
+        self._parent: Any = None
         self._parent_text = b"{}"
+        self._second, self._day = 0, ""
 
     def __call__(
         self, msg_type: str, comm_id: str, content: bytes, metadata: dict[str, Any], buffers: list[Any], parent: Any
     ) -> None:
         session, stream = self._kernel.session, self._kernel.iopub_socket
+        if session is not self._session:
+            self._learn(session)
         topic = f"comm-{comm_id}".encode()
-        if type(session) is not Session or session.packer != "json" or session.adapt_version or session.debug:
+        if not self._is_known:
             keys = {"parent": parent, "ident": topic, "metadata": metadata, "buffers": buffers}
-            session.send(stream, msg_type, content, **keys)
+            session.send(stream, msg_type, read(content.decode()), **keys)
             return
-        if stream is None or (session.check_pid and os.getpid() != session.pid):
+        pid = os.getpid()
+        if stream is None or (self._pid is not None and pid != self._pid):
             return  # a forked child has no frontends
         for number, buffer in enumerate(buffers):
-            if not memoryview(buffer).contiguous:
+            if type(buffer) is not bytes and not memoryview(buffer).contiguous:
                 raise ValueError(f"Buffer {number} ({buffer!r}) is not contiguous")
-        header = session.msg_header(msg_type)
-        header["date"] = header["date"].isoformat().replace("+00:00", "Z")
-        metadata = {**session.metadata, **metadata}
-        known = session.pack(metadata) if metadata else b"{}"
-        frames = [self._dumps(header).encode(), self._text_of(session, parent), known, content]
-        sent = [topic, DELIM, session.sign(frames), *frames, *buffers]
-        copy = max(map(len, sent)) < session.copy_threshold
-        stream.send_multipart(sent, copy=copy)
-
-    def _text_of(self, session: Any, parent: Any) -> bytes:
         if parent is not self._parent:
             self._parent_text = session.pack(extract_header(parent) if parent else {})
             self._parent = parent
-        return self._parent_text
+        known = self._text_of(session, metadata) if metadata or self._metadata else b"{}"
+        frames = (self._header(session, pid, msg_type), self._parent_text, known, content)
+        sent = [topic, DELIM, self._signed(frames), *frames, *buffers]
+        stream.send_multipart(sent, copy=max(map(len, sent)) < self._copy_threshold)
+
+    def _learn(self, session: Any) -> None:
+        """Reads the session's settings, each of which is one of its traits: they are read again where one changes."""
+        session.observe(self._changed)
+        self._is_known = type(session) is Session and session.packer == "json"
+        self._is_known = self._is_known and not session.adapt_version and not session.debug
+        self._pid = session.pid if session.check_pid else None
+        self._metadata, self._copy_threshold, auth = session.metadata, session.copy_threshold, session.auth
+        self._auth = getattr(auth, "_hmac", None) or auth  # the one of C, where each call isn't one of Python's first
+        name = self._dumps(session.session)[1:-1]  # a part of texts of JSON
+        self._begin = f'{{"msg_id":"{name}_'
+        self._middle = f'","username":{self._dumps(session.username)},"session":"{name}","date":"'
+        self._end = f'Z","version":{self._dumps(protocol_version)}}}'
+        self._session = session
+
+    def _changed(self, change: Any) -> None:
+        self._session = None
+
+    def _header(self, session: Any, pid: int, msg_type: str) -> bytes:
+        number = session.message_count
+        session.message_count = number + 1
+        second, fraction = divmod(time.time_ns() // 1000, 1000000)
+        if second != self._second:
+            self._day = datetime.fromtimestamp(second, timezone.utc).isoformat()[:-6]  # without +00:00
+            self._second = second
+        date = f"{self._day}.{fraction:06}"
+        return f'{self._begin}{pid}_{number}","msg_type":"{msg_type}{self._middle}{date}{self._end}'.encode()
+
+    def _text_of(self, session: Any, metadata: dict[str, Any]) -> bytes:
+        if self._metadata:
+            metadata = {**self._metadata, **metadata}
+        return _VERSION_TEXT if metadata == _VERSION else bytes(session.pack(metadata))
+
+    def _signed(self, frames: tuple[bytes, ...]) -> bytes:
+        if self._auth is None:
+            return b""
+        signer = self._auth.copy()
+        signer.update(b"".join(frames))
+        return bytes(signer.hexdigest().encode())

@@ -3,18 +3,23 @@
 from __future__ import annotations
 
 import collections
-import json
+import functools
 import logging
+import os
 import threading
 from collections.abc import Callable
 from typing import Any, TypeVar
 
-from rolgunai import ArgumentError, Kind, Manager, Outcome, OutcomeMemoryError, Reply, _widgets, old_widgets
-from rolgunai._wire import HEADERS, packer, text_of
+from rolgunai import ArgumentError, Kind, Manager, Outcome, OutcomeMemoryError, Reply, old_widgets
+from rolgunai._long_buffers import LongBuffers
+from rolgunai._wire import HEADERS, packer, read, text_of
 
 WIDGET = "jupyter.widget"
 NOTHING = b"{}"
-_DONE = frozenset({Reply.OPENED, Reply.LAUNCHED, Reply.DELIVERED, Reply.FOR_KERNEL, Reply.CLOSED, Reply.COMM_INFO})
+# By names of their own, and not in a set: Python 3.11 runs code of its own to find an enumeration's member or its hash.
+OPAQUE = Kind.OPAQUE
+_DELIVERED, _OPENED, _CLOSED = Reply.DELIVERED, Reply.OPENED, Reply.CLOSED
+DONE = (_DELIVERED, Reply.FOR_KERNEL, Reply.LAUNCHED, _OPENED, _CLOSED, Reply.COMM_INFO)
 _Result = TypeVar("_Result")
 
 Message = dict[str, Any]
@@ -53,35 +58,49 @@ class Player:
         self.proved = Manager(decimals=True)
         self._send, self._dumps = send, packer(default)
         self._kinds: dict[str, Kind] = {}
-        self._widget_kind = Kind.WIDGET_ECHO if _widgets.echoes() else Kind.WIDGET
         self._old: set[str] = set()  # the comms whose Python side speaks version 1
         self._is_old_browser = is_old_browser
-        self._lock, self._is_busy = threading.RLock(), False
+        self._long = LongBuffers()
+        self._lock, self._is_busy, self._pid = threading.RLock(), False, os.getpid()
         self._late: collections.deque[Callable[[], object]] = collections.deque()
 
     def _heard(self, msg: Message, played: Any, buffers: Any) -> Outcome | None:
         """Plays a message of a frontend, with this content; None where it is refused, which is logged."""
         kind = msg["header"]["msg_type"]
-
-        def hear() -> Outcome:
-            known = msg.get("metadata") or NOTHING if kind == "comm_open" else NOTHING
-            outcome = self._outcome(self._message, kind, known, played, buffers or ())
-            if outcome.sent:
-                self._out(outcome, msg)
-            return outcome
-
         try:
-            outcome = self._play(hear)
+            outcome = self._play(self._hear, kind, msg, played, buffers or ())
         except CommRefused as refused:
             self.log.warning("%s: %s", kind, refused)
             return None
-        if outcome is None or outcome.reply in _DONE:
+        if outcome is None or outcome.reply in DONE:
             return outcome
         self.log.warning("%s: %s", kind, outcome.words)
         return None
 
+    def _hear(self, kind: str, msg: Message, played: Any, buffers: Any) -> Outcome:
+        known = msg.get("metadata") or NOTHING if kind == "comm_open" else NOTHING
+        frames, kept = self._long.handed_in(buffers) if buffers else ((), [])
+        outcome = self._with_frames(kept, self._message, kind, known, played, frames)
+        if outcome.reply is _CLOSED:
+            self._forget(played["comm_id"])
+        elif kept or self._long.tokens:
+            self._keep_long(kind, played, outcome, kept)
+        if outcome.sent:
+            self._out(outcome, msg)
+        return outcome
+
+    def _keep_long(self, kind: str, played: Any, outcome: Outcome, kept: Any) -> None:
+        """Of what a frontend sent, an open's state and an update's stay with the manager."""
+        is_taken = outcome.reply is _OPENED if kind == "comm_open" else outcome.reply is _DELIVERED
+        data = played.get("data") if is_taken else None
+        state = data.get("state") if isinstance(data, dict) else None
+        if isinstance(state, dict) and (kind == "comm_open" or data.get("method") == "update"):
+            self._long.taken(played["comm_id"], state, data.get("buffer_paths") or [], kept)
+        else:
+            self._long.refused(kept)
+
     def _agree(self, kind: str, outcome: Outcome) -> None:
-        if outcome.reply not in _DONE:
+        if outcome.reply not in DONE:
             raise CommRefused(f"{kind}: {outcome.words}")
 
     def _kind(self, target_name: str) -> Kind:
@@ -89,7 +108,7 @@ class Player:
         with self._lock:
             kind = self._kinds.get(target_name)
             if kind is None:
-                kind = self._widget_kind if target_name == WIDGET else Kind.OPAQUE
+                kind = Kind.WIDGET if target_name == WIDGET else OPAQUE
                 self.proved.register(kind, target_name)
                 self._kinds[target_name] = kind
             return kind
@@ -102,45 +121,62 @@ class Player:
             return self.proved.outcome()
         except ArgumentError as error:
             raise CommRefused(error.status.name.lower()) from None
+        except ValueError as error:  # nan and the infinities, which are no JSON
+            raise CommRefused(str(error)) from None
+
+    def _with_frames(self, kept: Any, call: Callable[..., Outcome], *parts: Any) -> Outcome:
+        """So for one that is handed buffers, of which these are kept unless it isn't made."""
+        try:
+            return self._outcome(call, *parts)
+        except Exception:
+            self._long.refused(kept)
+            raise
 
     def _message(self, kind: str, metadata: Any, content: Any, buffers: Any) -> Outcome:
         known = metadata if isinstance(metadata, bytes) else text_of(metadata, self._dumps)
-        text = content if isinstance(content, bytes) else text_of(content, self._dumps)
-        return self.proved.message(HEADERS[kind], known, text, buffers)
+        return self.proved.message(HEADERS[kind], known, text_of(content, self._dumps), buffers)
 
     def _out(self, outcome: Outcome, parent: Any, metadata: dict[str, Any] | None = None) -> None:
         """Sends what a call gives."""
-        for sent in outcome.sent:
-            content: bytes | None = sent.content
-            if sent.comm_id in self._old and self._is_old_browser and sent.msg_type == "comm_msg":
-                content = old_widgets.to_frontend(sent.content, bool(sent.buffers))
-            if content is not None:
-                known = {} if sent.metadata == NOTHING else json.loads(sent.metadata)
-                known.update(metadata or {})
-                self._send(sent.msg_type, sent.comm_id, content, known, list(sent.buffers), parent)
+        for kind, comm_id, content, known, frames in outcome.sent:
+            if comm_id in self._old and self._is_old_browser and kind == "comm_msg":
+                content = old_widgets.to_frontend(content, bool(frames))
+            told = {} if known == NOTHING else read(known.decode())
+            if metadata:
+                told.update(metadata)
+            buffers = self._long.given_out(frames) if frames else []
+            self._send(kind, comm_id, content, told, buffers, parent)
 
-    def _play(self, job: Callable[[], _Result]) -> _Result | None:
+    def _forget(self, comm_id: str) -> None:
+        """A comm is closed."""
+        self._old.discard(comm_id)
+        self._long.forget(comm_id)
+
+    def _play(self, job: Callable[..., _Result], *parts: Any) -> _Result | None:
         """Plays a job under the lock. Where this thread is amid another one, as where the garbage collector runs, it
         comes right after that, and gives None here."""
         try:
             with self._lock:
                 if self._is_busy:
-                    self._late.append(job)
+                    self._late.append(functools.partial(job, *parts))
                     return None
                 self._is_busy = True
                 try:
-                    self._play_late()
-                    result = job()
-                    self._play_late()
+                    if self._late:
+                        self._play_late()
+                    result = job(*parts)
+                    if self._late:
+                        self._play_late()
                     return result
                 finally:
                     self._is_busy = False
         finally:
-            self._catch_up()
+            if self._late:
+                self._catch_up()
 
-    def _soon(self, job: Callable[[], object]) -> None:
+    def _soon(self, job: Callable[..., object], *parts: Any) -> None:
         """Plays a job now, or right after the one that is under way: never waits."""
-        self._late.append(job)
+        self._late.append(functools.partial(job, *parts))
         self._catch_up()
 
     def _catch_up(self) -> None:

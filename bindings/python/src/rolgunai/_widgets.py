@@ -6,34 +6,33 @@ A widget is known by what it does: the method that it gave its comm's `on_msg` i
 
 from __future__ import annotations
 
-import os
 from collections.abc import Callable, Collection, Iterable
 from typing import Any
 
 Data = dict[str, Any]
 _NUMBERS = (int, float)
 _BYTES = (bytes, bytearray, memoryview)
-_SCALARS = (int, float, str, bool)
+_PLAIN = (int, float, str, bool, bytes)
 _OF_IPYWIDGETS = "ipywidgets.widgets.widget"
-_OFF = ("no", "n", "false", "off", "0", "0.0")
 
 
-def echoes() -> bool:
-    """Whether the environment asks for echoes, as ipywidgets reads it."""
-    return os.environ.get("JUPYTER_WIDGETS_ECHO", "off").lower() not in _OFF
+def keys_of(comm: Any) -> Any:
+    """The keys of the widget that a comm is of, or None where it is of none."""
+    owner: Any = getattr(getattr(comm, "_msg_callback", None), "__self__", None)
+    keys = getattr(owner, "keys", None)
+    is_widget = keys is not None and not callable(keys) and callable(getattr(owner, "get_state", None))
+    return keys if is_widget else None
 
 
 def widget_of(comm: Any) -> Any:
     """The widget that a comm is of, or None."""
-    owner: Any = getattr(getattr(comm, "_msg_callback", None), "__self__", None)
-    is_widget = callable(getattr(owner, "get_state", None)) and hasattr(owner, "keys")
-    return owner if is_widget and not callable(owner.keys) else None
+    return None if keys_of(comm) is None else comm._msg_callback.__self__
 
 
 def known_part(update: Data, buffers: list[Any], keys: Collection[str]) -> tuple[Data, list[Any]]:
     """An update with those keys alone that the widget has, as ipywidgets takes it: the manager is told of no other."""
     state, paths = update.get("state"), update.get("buffer_paths") or []
-    if not paths and isinstance(state, dict) and all(key in keys for key in state):
+    if not paths and isinstance(state, dict) and len(state) == 1 and next(iter(state)) in keys:
         return update, buffers  # as nearly each
     known = set(keys)
     if not isinstance(state, dict) or not isinstance(paths, list):
@@ -53,9 +52,9 @@ def _is_strange(path: list[Any], known: set[str]) -> bool:
 def copied(value: Any) -> Any:
     """A value that stays as it is, whatever Python does with the lists and dicts of the one that it was made of."""
     if isinstance(value, dict):
-        return {key: copied(item) for key, item in value.items()}
+        return {key: item if type(item) in _PLAIN else copied(item) for key, item in value.items()}
     if isinstance(value, (list, tuple)):
-        return [copied(item) for item in value]
+        return [item if type(item) in _PLAIN else copied(item) for item in value]
     return value
 
 
@@ -113,9 +112,9 @@ def same(one: Any, other: Any) -> bool:
     return False
 
 
-def _flat(buffer: Any) -> memoryview:
-    view = memoryview(buffer)
-    return view.cast("B") if view.contiguous and view.nbytes else memoryview(view.tobytes())
+def _flat(buffer: Any) -> bytes:
+    """Bytes are compared by one call of C; Python has another for each byte of two views."""
+    return buffer if isinstance(buffer, bytes) else memoryview(buffer).tobytes()
 
 
 def differences(widget: Any, keys: Iterable[str], held: Data, plain: Callable[[Any], Any]) -> Data:
@@ -133,12 +132,13 @@ def differences(widget: Any, keys: Iterable[str], held: Data, plain: Callable[[A
 
 
 def _is_plainly(widget: Any, key: str, held: Any) -> bool:
-    """Whether a trait of ipywidgets' has this number or text, and is sent as it is: `get_state` takes longer to say."""
+    """Whether a trait of ipywidgets' has this number, text or bytes, and is sent as it is: `get_state` takes longer to
+    say."""
     kind = type(widget)
     if kind.get_state.__module__ != _OF_IPYWIDGETS or kind._trait_to_json.__module__ != _OF_IPYWIDGETS:
         return False
     value = getattr(widget, key)
-    return type(value) in _SCALARS and same(held, value) and widget.trait_metadata(key, "to_json") is None
+    return type(value) in _PLAIN and same(held, value) and widget.trait_metadata(key, "to_json") is None
 
 
 def _is_read_as(held: Any, value: Any, plain: Callable[[Any], Any]) -> bool:

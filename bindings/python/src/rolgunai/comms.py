@@ -36,13 +36,14 @@ told: the kernel has the last word. Keys that a widget hasn't don't reach the ma
 
 from __future__ import annotations
 
+import functools
 import importlib.util
+import json
 import os
 import sys
 from collections.abc import Callable
 from typing import TYPE_CHECKING, Any, cast
 
-from rolgunai._wire import unpack
 from rolgunai._player import Send
 from rolgunai.hub import CommRefused, Hub
 
@@ -65,24 +66,33 @@ def install(kernel: Any = None, *, send: Send | None = None, request: Callable[[
     ROLGUNAI_BROWSER_PROTOCOL=2 in the environment says that frontends speak version 2 of the widget protocol also where
     ipywidgets in Python speaks version 1; else they are taken to speak the same."""
     kernel = kernel or _running_kernel()
-    stock = getattr(kernel, "comm_manager", None)
-    if isinstance(stock, Hub):
+    stock = getattr(kernel, "comm_manager", None) if kernel is not None else _manager_of_comm()
+    if isinstance(stock, Hub) and kernel is not None:
         return cast(CommManager, stock)
     if kernel is None and send is None:
         raise RuntimeError("no kernel of ipykernel runs here: hand in how to send, install(send=..)")
     if stock is not None and stock.comms:
         raise RuntimeError(f"{len(stock.comms)} comms are open: install() comes before them, in a fresh kernel")
-    manager = _made(kernel, send or _sender(kernel), request or (lambda: kernel and kernel.get_parent("shell")))
+    if request is None:
+        request = functools.partial(kernel.get_parent, "shell") if kernel is not None else lambda: None
+    manager = _made(kernel, send or _sender(kernel), request)
+    for name, f in (stock.targets if stock is not None else {}).items():
+        manager.register_target(name, f)
     if kernel is not None:
         _take_over(kernel, stock, manager)
     if importlib.util.find_spec("comm") is not None:
-        _put_behind_comm(manager)
+        _put_behind_comm(manager, kernel)
     return cast(CommManager, manager)
 
 
 def _running_kernel() -> Any:
     base = sys.modules.get("ipykernel.kernelbase")
     return base.Kernel.instance() if base is not None and base.Kernel.initialized() else None
+
+
+def _manager_of_comm() -> Any:
+    """The manager that the package `comm` gives, where it is here."""
+    return importlib.import_module("comm").get_comm_manager() if importlib.util.find_spec("comm") is not None else None
 
 
 def _has_own_comms(kernel: Any) -> bool:
@@ -112,18 +122,16 @@ def _sender(kernel: Any) -> Send:
 
 def _take_over(kernel: Any, stock: Any, manager: Any) -> None:
     """Has the kernel take this manager in the place of its own."""
-    for name, f in (stock.targets if stock is not None else {}).items():
-        manager.register_target(name, f)
     configurables = kernel.shell.configurables if kernel.shell is not None else []
     configurables[:] = [manager if each is stock else each for each in configurables]
     kernel.comm_manager = manager
-    kernel.session.unpack = unpack
+    importlib.import_module("rolgunai._session").use(kernel.session)
     for kind in _HANDLED:
         kernel.shell_handlers[kind] = getattr(manager, kind)
 
     async def comm_info_request(stream: Any, ident: Any, parent: Any) -> None:
         try:
-            content: Any = manager.comm_info(parent)
+            content: Any = json.loads(manager.comm_info(parent))
         except CommRefused as refused:
             content = {"status": "error", "ename": "CommRefused", "evalue": str(refused), "traceback": []}
         kernel.session.send(stream, "comm_info_reply", content, parent, ident)
@@ -137,10 +145,11 @@ def _take_over(kernel: Any, stock: Any, manager: Any) -> None:
             sys.modules[name].Comm = front.Comm  # type: ignore[attr-defined]
 
 
-def _put_behind_comm(manager: Any) -> None:
+def _put_behind_comm(manager: Any, kernel: Any) -> None:
     import comm
 
     from rolgunai._front_comm import Comm
 
+    Comm.kernel = kernel
     comm.create_comm = lambda *parts, **keys: Comm(*parts, **keys)
     comm.get_comm_manager = lambda: manager

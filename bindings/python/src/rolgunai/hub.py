@@ -38,26 +38,31 @@ from __future__ import annotations
 
 import functools
 import json
+import os
 import pkgutil
 import re
 from collections.abc import Callable
 from typing import Any
 
-from rolgunai import Kind, Reply, _widgets, old_widgets
-from rolgunai._player import NOTHING, WIDGET, CommRefused, HubComm, Message, Player, Send
+from rolgunai import Outcome, Reply, _widgets, old_widgets
+from rolgunai._last_word import LastWord
+from rolgunai._long_buffers import Kept
+from rolgunai._player import DONE, NOTHING, OPAQUE, WIDGET, CommRefused, HubComm, Message, Send
+from rolgunai._wire import read
 
 __all__ = ["CommRefused", "Hub", "HubComm"]
 
 _LAUNCHED_AS_IT_IS = re.compile(r"[0-9a-f]{8}-[0-9a-f]{4}-[0-9a-f]{4}-[0-9a-f]{4}-[0-9a-f]{12}").fullmatch
 _VERSION = b'{"version":"2.1.0"}'
-_LONG = 2**16
+_LAUNCHED = frozenset({"state", "buffer_paths"})
 
 
-def _size(buffers: list[Any]) -> int:
-    return sum(memoryview(buffer).nbytes for buffer in buffers)
+def _object(content: Any) -> Any:
+    """The content of a message; one that isn't an object counts as empty, and is refused."""
+    return content if isinstance(content, dict) else {}
 
 
-class Hub(Player):
+class Hub(LastWord):
     """A comm manager; the module says more.
 
     `send(msg_type, comm_id, content, metadata, buffers, parent)` sends to all frontends: the content is JSON, the
@@ -81,7 +86,6 @@ class Hub(Player):
         super().__init__(send, default, is_old_browser)
         self.comms, self.targets = {}, {}
         self._request, self._make = request, make
-        self._held: dict[str, list[dict[str, Any]]] = {}
 
     # Targets and comms, as the kernel's code has them.
 
@@ -96,20 +100,18 @@ class Hub(Player):
     def unregister_target(self, target_name: str, f: Any) -> Any:
         """Takes the target out, and closes its comms, which ipykernel leaves open."""
         found = self.targets.pop(target_name)
-        parent = self._request()
-
-        def unregister() -> None:
-            outcome = self._outcome(self.proved.unregister, target_name)
-            self._kinds.pop(target_name, None)
-            for comm_id in json.loads(outcome.content or b"[]"):
-                self._old.discard(comm_id)
-                comm = self.comms.pop(comm_id, None)
-                if comm is not None:
-                    comm._closed = True
-            self._out(outcome, parent)
-
-        self._play(unregister)
+        self._play(self._unregister, target_name, self._request())
         return found
+
+    def _unregister(self, target_name: str, parent: Any) -> None:
+        outcome = self._outcome(self.proved.unregister, target_name)
+        self._kinds.pop(target_name, None)
+        for comm_id in json.loads(outcome.content or b"[]"):
+            self._forget(comm_id)
+            comm = self.comms.pop(comm_id, None)
+            if comm is not None:
+                comm._closed = True
+        self._out(outcome, parent)
 
     def register_comm(self, comm: Any) -> str:
         """Takes a comm in. One of another class publishes through the manager from then on."""
@@ -128,8 +130,12 @@ class Hub(Player):
             raise KeyError(comm.comm_id)
         del self.comms[comm.comm_id]
         if not comm._closed:
-            content = {"comm_id": comm.comm_id}
-            self._play(lambda: self._outcome(self._message, "comm_close", NOTHING, content, ()))
+            comm._closed = True  # its id may be another's from now on
+            self._play(self._drop, comm.comm_id)
+
+    def _drop(self, comm_id: str) -> None:
+        self._outcome(self._message, "comm_close", NOTHING, {"comm_id": comm_id}, ())
+        self._forget(comm_id)
 
     def get_comm(self, comm_id: str) -> Any:
         """The open comm of an id, or None, which is logged."""
@@ -142,7 +148,7 @@ class Hub(Player):
 
     def comm_open(self, stream: Any, ident: Any, msg: Message) -> None:
         """Plays an open, and calls the target's callback where it is one."""
-        content = played = msg["content"]
+        content = played = _object(msg["content"])
         heard, held, buffers = msg, None, msg.get("buffers") or ()
         target_name, data = content.get("target_name"), content.get("data")
         is_old = target_name == WIDGET and old_widgets.is_old_ask(data)
@@ -164,21 +170,20 @@ class Hub(Player):
         if held is not None:
             self._watch(comm.comm_id, held)
         try:
-            is_taken = self._is_taken(comm, msg, f)
+            if not self._is_taken(comm, msg, f):
+                self._give_up(comm)
+            elif held is not None:
+                self._last_word(comm, held, None)
         finally:
             if held is not None:
                 self._unwatch(comm.comm_id, held)
-        if not is_taken:
-            self._give_up(comm)
-        elif held is not None:
-            self._last_word(comm, held, None)
 
     def comm_msg(self, stream: Any, ident: Any, msg: Message) -> None:
         """Plays a message, and calls the comm's callback, but for a `request_state`, which the manager answers."""
-        content = msg["content"]
+        content = _object(msg["content"])
         comm_id = content.get("comm_id")
         comm = self.comms.get(comm_id) if isinstance(comm_id, str) else None
-        if comm is not None and self._kinds.get(comm.target_name) == Kind.OPAQUE:
+        if comm is not None and self._kinds.get(comm.target_name) is OPAQUE:
             played: Any = {"comm_id": comm.comm_id}
             if self._heard(msg, played, ()) is not None:
                 self._deliver(comm, msg)
@@ -192,7 +197,6 @@ class Hub(Player):
         if self._heard(msg, msg["content"], ()) is None:
             return
         comm_id = msg["content"]["comm_id"]
-        self._old.discard(comm_id)
         comm = self.comms.pop(comm_id, None)
         if comm is not None:
             comm._closed = True
@@ -203,7 +207,8 @@ class Hub(Player):
 
     def comm_info(self, msg: Message) -> bytes:
         """The content of the reply to a `comm_info_request`, as JSON."""
-        outcome = self._outcome(self._message, "comm_info_request", NOTHING, msg["content"], ())
+        with self._lock:
+            outcome = self._outcome(self._message, "comm_info_request", NOTHING, msg["content"], ())
         self._agree("comm_info_request", outcome)
         return outcome.sent[0].content
 
@@ -220,84 +225,109 @@ class Hub(Player):
         buffers: Any = None,
         **keys: Any,
     ) -> None:
-        """Plays what the kernel says on a comm, and sends it. Metadata, and the data of a close, are the caller's: the
-        manager says nothing of them. Raises CommRefused where the manager refuses."""
-        data, parent = {} if data is None else data, self._request()
-        frame = (dict(metadata or {}), list(buffers or ()), parent)
+        """Plays what the kernel says on a comm, and sends it; not in a forked child, which has no frontends. Metadata,
+        and the data of a close, are the caller's: the manager says nothing of them. Raises CommRefused where the manager
+        refuses, ValueError or TypeError for what isn't JSON."""
+        if os.getpid() != self._pid:
+            return
+        data = {} if data is None else data
+        frame = (dict(metadata or {}), list(buffers or ()), self._request())
         if msg_type == "comm_close":
-            text = self._content(comm_id, data, keys)
-            self._soon(lambda: self._close(comm_id, text, *frame))
+            self._soon(self._close, comm_id, self._content(comm_id, data, keys), *frame)
         elif msg_type == "comm_open":
-            self._play(lambda: self._open(comm_id, target_name, data, keys, *frame))
+            self._play(self._open, comm_id, target_name, data, keys, *frame)
         else:
-            self._play(lambda: self._say(comm_id, target_name, msg_type, data, keys, *frame))
+            self._play(self._say, comm_id, target_name, msg_type, data, keys, *frame)
 
-    def _content(self, comm_id: str, data: Any, keys: dict[str, Any]) -> bytes:
-        return self._dumps({"comm_id": comm_id, "data": data, **keys}).encode()
+    def _content(self, comm_id: str, data: Any, keys: dict[str, Any], text: str | None = None) -> bytes:
+        """The content of a message; `text` is the data's, where it has been written."""
+        if text is None:
+            return self._dumps({"comm_id": comm_id, "data": data, **keys}).encode()
+        return f'{self._dumps({"comm_id": comm_id, **keys})[:-1]},"data":{text}}}'.encode()
 
     def _open(self, comm_id: str, name: str, data: Any, keys: Any, metadata: Any, buffers: Any, parent: Any) -> None:
-        is_old = name == WIDGET and old_widgets.is_old_open(data)
-        played = old_widgets.from_kernel("comm_open", data) if is_old else data
-        told = data if is_old and self._is_old_browser else played
-        content = self._content(comm_id, told, keys)
-        launches = name == WIDGET and isinstance(played, dict) and _LAUNCHED_AS_IT_IS(comm_id)
+        if name == WIDGET:
+            self._open_widget(comm_id, data, keys, metadata, buffers, parent)
+            return
+        content = self._content(comm_id, data, keys)
         self._kind(name)
+        opened = {"comm_id": comm_id, "target_name": name}
+        self._agree("comm_open", self._outcome(self._message, "comm_open", NOTHING, opened, ()))
+        try:
+            self._send("comm_open", comm_id, content, metadata, buffers, parent)
+        except BaseException:
+            self._drop(comm_id)  # no frontend has heard of it
+            raise
+
+    def _open_widget(self, comm_id: str, data: Any, keys: Any, metadata: Any, buffers: Any, parent: Any) -> None:
+        is_old = old_widgets.is_old_open(data)
+        played = old_widgets.from_kernel("comm_open", data) if is_old else data
+        is_told_old = is_old and self._is_old_browser
+        launches = isinstance(played, dict) and _LAUNCHED.issuperset(played) and "state" in played
+        launches = launches and _LAUNCHED_AS_IT_IS(comm_id) is not None
+        state = self._dumps(played.get("state")) if launches else None
+        is_said_by_manager = launches and not is_told_old and keys.get("target_module") is None
+        if not is_said_by_manager:
+            content = self._content(comm_id, data if is_told_old else played, keys, state if is_told_old else None)
+        frames, kept = self._long.handed_in(buffers) if buffers else ((), [])
+        self._kind(WIDGET)
         if launches:
-            state, paths = self._dumps(played.get("state")), self._dumps(played.get("buffer_paths") or [])
-            outcome = self._outcome(self.proved.launch, WIDGET, comm_id, state, paths, buffers)
+            paths = played.get("buffer_paths")
+            where = self._dumps(paths) if paths else "[]"
+            outcome = self._with_frames(kept, self.proved.launch, WIDGET, comm_id, state, where, frames)
         else:
-            opened = {"comm_id": comm_id, "target_name": name}
-            if name == WIDGET:
-                opened["data"] = played
-            handed = buffers if name == WIDGET else ()
-            outcome = self._outcome(self._message, "comm_open", _VERSION, opened, handed)
-        self._agree("comm_open", outcome)
-        if is_old:
-            self._old.add(comm_id)
-        if launches and told is played and keys.get("target_module") is None:
-            self._out(outcome, parent, metadata)
-        else:
-            known = {"version": "2.1.0"} if name == WIDGET else {}
-            self._send("comm_open", comm_id, content, {**known, **metadata}, buffers, parent)
+            opened = {"comm_id": comm_id, "target_name": WIDGET, "data": played}
+            outcome = self._with_frames(kept, self._message, "comm_open", _VERSION, opened, frames)
+        self._agree_on("comm_open", outcome, kept)
+        try:
+            if kept:
+                self._long.taken(comm_id, {}, self._plain(played.get("buffer_paths") or []), kept)
+            if is_old:
+                self._old.add(comm_id)
+            if is_said_by_manager:
+                self._out(outcome, parent, metadata)
+            else:
+                self._send("comm_open", comm_id, content, {"version": "2.1.0", **metadata}, buffers, parent)
+        except BaseException:
+            self._drop(comm_id)
+            raise
+
+    def _agree_on(self, kind: str, outcome: Outcome, kept: Kept) -> None:
+        if kept and outcome.reply not in DONE:
+            self._long.refused(kept)
+        self._agree(kind, outcome)
 
     def _say(
         self, comm_id: str, name: str, kind: str, data: Any, keys: Any, metadata: Any, buffers: Any, parent: Any
     ) -> None:
-        if comm_id in self._old:
+        if comm_id in self._old and isinstance(data, dict):
             data = old_widgets.from_kernel(kind, data)
         method = data.get("method") if name == WIDGET and isinstance(data, dict) else None
-        if method == "echo_update" and self._widget_kind == Kind.WIDGET_ECHO:
-            return  # the manager has said so
         if method == "update":
-            paths = data.get("buffer_paths") or []
-            if buffers and self._widget_kind == Kind.WIDGET and _size(buffers) >= _LONG:
-                self._say_long(comm_id, data, metadata, buffers, parent)
-                return
-            state, where = self._dumps(data.get("state")), self._dumps(paths) if paths else "[]"
-            outcome = self._outcome(self.proved.push, comm_id, state, where, buffers)
-            self._agree(kind, outcome)
-            self._now_holds(comm_id, data.get("state") or {}, paths, buffers)
-            self._out(outcome, parent, metadata)
+            self._push(comm_id, data.get("state"), data.get("buffer_paths"), buffers, parent, metadata)
         else:
             content = self._content(comm_id, data, keys)
             outcome = self._outcome(self.proved.send, comm_id, NOTHING)
             self._agree(kind, outcome)
             self._send(kind, comm_id, content, metadata, buffers, parent)
 
-    def _say_long(self, comm_id: str, data: Any, metadata: Any, buffers: Any, parent: Any) -> None:
-        """An update with long buffers is played as a frontend's is, and sent with the buffers that the caller has: a push
-        gives a copy of each."""
-        content = self._content(comm_id, data, {})
-        outcome = self._outcome(self._message, "comm_msg", NOTHING, content, buffers)
-        self._agree("comm_msg", outcome)
-        self._now_holds(comm_id, data.get("state") or {}, data.get("buffer_paths") or [], buffers)
-        if comm_id in self._old and self._is_old_browser:
-            content = old_widgets.to_frontend(content, True) or content
-        self._send("comm_msg", comm_id, content, metadata, buffers, parent)
+    def _push(
+        self, comm_id: str, state: Any, paths: Any, buffers: Any, parent: Any, metadata: dict[str, Any] | None = None
+    ) -> None:
+        text, where = self._dumps({} if state is None else state), self._dumps(paths) if paths else "[]"
+        frames, kept = self._long.handed_in(buffers) if buffers else ((), [])
+        outcome = self._with_frames(kept, self.proved.push, comm_id, text, where, frames)
+        self._agree_on("comm_msg", outcome, kept)
+        placed = read(where) if paths else []
+        if kept or comm_id in self._long.tokens:
+            self._long.taken(comm_id, read(text), placed, kept)
+        if self._held:
+            self._now_holds(comm_id, text, placed, buffers)
+        self._out(outcome, parent, metadata)
 
     def _close(self, comm_id: str, content: bytes, metadata: Any, buffers: Any, parent: Any) -> None:
         outcome = self._outcome(self.proved.close, comm_id)
-        self._old.discard(comm_id)
+        self._forget(comm_id)
         for sent in outcome.sent:
             self._send(sent.msg_type, comm_id, content, metadata, buffers, parent)
 
@@ -327,72 +357,30 @@ class Hub(Player):
             self.log.error("Could not close comm during `comm_open` failure clean-up", exc_info=True)
 
     def _widget_msg(self, comm: Any, msg: Message) -> None:
-        content, buffers = msg["content"], list(msg.get("buffers") or ())
-        widget = _widgets.widget_of(comm)
+        content, comm_id = msg["content"], msg["content"]["comm_id"]
         data = said = old_widgets.from_frontend(content["data"])
-        is_update = said.get("method") == "update"
-        if is_update and widget is not None:
-            said, buffers = _widgets.known_part(said, buffers, widget.keys)
+        method = said.get("method")
+        is_update = method == "update"
+        buffers = list(msg.get("buffers") or ()) if is_update else []
+        keys = _widgets.keys_of(comm) if is_update else None
+        if keys is not None:
+            said, buffers = _widgets.known_part(said, buffers, keys)
         played = content if said is content["data"] else {**content, "data": said}
-        if self._heard(msg, played, buffers) is None or said.get("method") == "request_state":
+        if self._heard(msg, played, buffers) is None or method == "request_state":
             return
-        if comm.comm_id in self._old:
+        if comm_id in self._old:
             data = old_widgets.to_kernel(content["data"])
         if data is not content["data"]:
             msg = {**msg, "content": {**content, "data": data}}
         if not is_update:
             self._deliver(comm, msg)
             return
-        held = _widgets.placed(said.get("state") or {}, said.get("buffer_paths") or (), buffers)
-        keys = list(held)
-        self._watch(comm.comm_id, held)
+        state = said.get("state")  # without which the manager takes nothing
+        held = {} if state is None else _widgets.placed(state, said.get("buffer_paths") or (), buffers)
+        told = list(held)
+        self._watch(comm_id, held)
         try:
             self._deliver(comm, msg)
+            self._last_word(comm, held, told)
         finally:
-            self._unwatch(comm.comm_id, held)
-        self._last_word(comm, held, keys)
-
-    def _watch(self, comm_id: str, held: dict[str, Any]) -> None:
-        """Until `_unwatch`, what the kernel says of the comm's state counts as what the manager has."""
-        with self._lock:
-            self._held.setdefault(comm_id, []).append(held)
-
-    def _unwatch(self, comm_id: str, held: dict[str, Any]) -> None:
-        with self._lock:
-            others = [other for other in self._held.pop(comm_id, ()) if other is not held]
-            if others:
-                self._held[comm_id] = others
-
-    def _now_holds(self, comm_id: str, state: Any, paths: Any, buffers: Any) -> None:
-        watchers = self._held.get(comm_id)
-        if watchers:
-            placed = _widgets.placed(state, paths, buffers)
-            for held in watchers:
-                held.update(placed)
-
-    def _last_word(self, comm: Any, held: dict[str, Any], keys: list[str] | None) -> None:
-        """What the widget itself holds of the keys goes to the manager and to every frontend where it isn't what they
-        were told: a value that was refused, clamped, or made another."""
-        widget = _widgets.widget_of(comm)
-        if widget is None or self.comms.get(comm.comm_id) is not comm:
-            return
-        try:
-            differ = _widgets.differences(widget, widget.keys if keys is None else keys, held, self._plain)
-            if differ:
-                paths: list[list[Any]] = []
-                buffers: list[Any] = []
-                state = _widgets.separated(differ, [], paths, buffers)
-                texts = self._dumps(state), self._dumps(paths)
-                parent = self._request()
-                self._play(lambda: self._push(comm.comm_id, *texts, buffers, parent))
-        except Exception:
-            self.log.warning("The state of %s couldn't be compared", comm.comm_id, exc_info=True)
-
-    def _push(self, comm_id: str, state: str, paths: str, buffers: Any, parent: Any) -> None:
-        outcome = self._outcome(self.proved.push, comm_id, state, paths, buffers)
-        self._agree("comm_msg", outcome)
-        self._out(outcome, parent)
-
-    def _plain(self, value: Any) -> Any:
-        """A value as a frontend reads it."""
-        return json.loads(self._dumps(value))
+            self._unwatch(comm_id, held)

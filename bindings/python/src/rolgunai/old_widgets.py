@@ -11,6 +11,8 @@ import json
 from typing import Any
 
 Data = dict[str, Any]
+_PATHS = '"data":{"buffer_paths":'
+_decoder = json.JSONDecoder()
 
 
 def is_old_open(data: Any) -> bool:
@@ -50,15 +52,12 @@ def from_frontend(data: Data) -> Data:
     return {"method": "update", "state": data.get("sync_data"), "buffer_paths": paths}
 
 
-def to_frontend(content: bytes, has_buffers: bool) -> bytes | None:
-    """The content of a `comm_msg` in version 2, as a frontend reads it in version 1: None where it has no such message.
-    An update without buffers is the same in both."""
-    if has_buffers or b'"echo_update"' in content:
-        value = json.loads(content)
-        method = value["data"].get("method")
-        if method == "echo_update":
-            return None
-        if method == "update":
-            value["data"]["buffers"] = [path[0] for path in value["data"].pop("buffer_paths")]
-            return json.dumps(value, separators=(",", ":")).encode()
+def to_frontend(content: bytes, has_buffers: bool) -> bytes:
+    """The content of a `comm_msg` of the manager's in version 2, as a frontend reads it in version 1. An update without
+    buffers is the same in both."""
+    if has_buffers:  # the manager writes the keys in their order, so that the paths come first
+        before, _, after = content.decode().partition(_PATHS)
+        paths, end = _decoder.raw_decode(after)
+        keys = ",".join([json.dumps(path[0]) for path in paths])
+        return f'{before}"data":{{"buffers":[{keys}]{after[end:]}'.encode()
     return content
