@@ -2,7 +2,7 @@
 import hashlib
 from enum import Enum
 
-SHARE = 24
+SHARE = 8
 
 
 class Mode(Enum):
