@@ -185,6 +185,11 @@ def finalizers():
     kernel.amid = lambda: first.send({"n": 3})
     first.send({"n": 2})
     check("so is a message", kernel.came(), [said("1", {"n": 2}), said("1", {"n": 3})])
+    made = []
+    kernel.amid = lambda: made.append(Comm(WIDGET, {"state": []}))
+    first.send({"n": 4})
+    check("an open that is refused then", (made[0]._closed, list(kernel.manager.comms)), (True, ["1"]))
+    check("says nothing", (kernel.came(), kernel.info()), ([said("1", {"n": 4})], {"1": "t"}))
     inside, go = threading.Event(), threading.Event()
 
     def wait():

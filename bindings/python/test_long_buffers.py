@@ -4,6 +4,7 @@ test_long_buffers.py PACKAGE, the folder where the package is built.
 """
 
 import doctest
+import importlib.util
 import sys
 
 from comms_kernel import UUID, WIDGET, Kernel, said  # first, since it says where the package is
@@ -19,6 +20,11 @@ def places(widget, message):
     takes(widget, message)
     keys = [key for key, *_ in message["content"]["data"]["buffer_paths"]]
     widget.state.update(zip(keys, map(bytes, message["buffers"])))
+
+
+def writes(widget, message):
+    message["buffers"][0][0] = 7
+    places(widget, message)
 
 
 class Pictures(Kernel):
@@ -72,6 +78,13 @@ def long_buffers():
     check("and none", (type(raised(lambda: kernel.says("text"))), kernel.has()["b"]), (TypeError, bytes(2**17)))
     kernel.hears(OTHER, PICTURE, paths="bc")
     check("a frontend's", kernel.has(), {"b": OTHER, "c": PICTURE})
+    written, kernel.widget.rule = bytearray(OTHER), writes
+    came = kernel.hears(written)
+    check("what a callback writes is the widget's", (came, kernel.has()["b"]), ([], b"\x07" + OTHER[1:]))
+    written[:2] = b"no"
+    check("and nothing later is", kernel.has()["b"], b"\x07" + OTHER[1:])
+    kernel.widget.rule = places
+    kernel.hears(OTHER)
     kernel.widget.rule = lambda widget, message: widget.state.update(c=OTHER, b=PICTURE)
     came = kernel.hears(PICTURE, paths="c")
     check("the last word", ([sent for *_, sent in came], kernel.has()), ([[OTHER]], {"b": OTHER, "c": OTHER}))
@@ -123,6 +136,21 @@ def long_buffers_are_let_go_of():
         kernel.says(PICTURE, OTHER, paths="bc")
         end(kernel)
         check(f"end {n}", (kernel.info(), kernel.kept(), kernel.manager._long.tokens), ({}, 0, {}))
+
+
+def orders():
+    """The bytes of an array are sent as they lie, as a kernel's session sends them."""
+    if importlib.util.find_spec("numpy") is None:
+        return
+    import numpy
+
+    kernel = Pictures()
+    for size in (6, 2**17):
+        array = numpy.asfortranarray(numpy.arange(size).astype("u1").reshape(2, -1))
+        check(f"a Fortran array of {size}", kernel.says(memoryview(array)), [[array.tobytes("A")]])
+        check("is had", kernel.has()["b"], array.tobytes("A"))
+        both = kernel.says(memoryview(array), memoryview(array[:, ::2]), paths="bc")
+        check("and one beside it that lies apart", both, [[array.tobytes("A"), array[:, ::2].tobytes()]])
 
 
 def interrupted():
@@ -183,6 +211,12 @@ def documented():
 if __name__ == "__main__":
     sys.exit(
         run(
-            long_buffers, long_buffers_are_let_go_of, interrupted, without_a_state, opened_with_long_buffers, documented
+            long_buffers,
+            orders,
+            long_buffers_are_let_go_of,
+            interrupted,
+            without_a_state,
+            opened_with_long_buffers,
+            documented,
         )
     )

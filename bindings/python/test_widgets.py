@@ -100,6 +100,8 @@ def last_words_on_keys_and_bytes():
 
     kernel.hear("comm_msg", widget.comm.comm_id, update, [b"odd", b"new"])
     check("keys that it hasn't stay out; its bytes are put right", has(), ({"v": 2}, [["b"]], [b"old"]))
+    kernel.hear("comm_msg", widget.comm.comm_id, {**update, "state": {"v": 3, "strange": 1}}, [b"odd"])
+    check("a buffer that is missing beside such keys is missed", has(), ({"v": 2}, [["b"]], [b"old"]))
     widget.rule = lambda widget, message: widget.state.update(b=memoryview(b"sent"))
     wanted = {"method": "update", "state": {}, "buffer_paths": [["b"]]}
     check("the same bytes", kernel.hear("comm_msg", widget.comm.comm_id, wanted, [b"sent"]), [])

@@ -42,6 +42,9 @@ int read_number(PyObject *object, uint32_t *into) {
   return 0;
 }
 
+/* Whether the buffer's bytes stand together; the order is theirs, C's or Fortran's, as where a kernel sends them. */
+static int stands_together(const Py_buffer *view) { return PyBuffer_IsContiguous(view, 'A'); }
+
 /* Puts several buffers, or one whose bytes don't stand together, one after another. */
 static int join(frames *read) {
   uint8_t *at = read->joined = malloc(read->size ? read->size : 1);
@@ -50,13 +53,13 @@ static int join(frames *read) {
     return -1;
   }
   for (size_t i = 0; i < read->count; at += read->sizes[i++])
-    if (!PyBuffer_IsContiguous(&read->views[i], 'C')
+    if (!stands_together(&read->views[i])
         && PyBuffer_ToContiguous(at, &read->views[i], read->views[i].len, 'C') < 0)
       return -1;
   PyThreadState *let_go = read->size >= LONG_WORK ? PyEval_SaveThread() : NULL;
   at = read->joined;
   for (size_t i = 0; i < read->count; at += read->sizes[i++])
-    if (PyBuffer_IsContiguous(&read->views[i], 'C') && read->sizes[i]) memcpy(at, read->views[i].buf, read->sizes[i]);
+    if (stands_together(&read->views[i]) && read->sizes[i]) memcpy(at, read->views[i].buf, read->sizes[i]);
   if (let_go) PyEval_RestoreThread(let_go);
   read->bytes = read->joined;
   return 0;
@@ -104,7 +107,7 @@ int read_frames(PyObject *object, frames *into) {
   if (into->count) {
     status = give_places(into);
     if (status == 0) status = view_each(buffers, into);
-    if (status == 0 && into->count == 1 && PyBuffer_IsContiguous(&into->views[0], 'C') && into->size)
+    if (status == 0 && into->count == 1 && stands_together(&into->views[0]) && into->size)
       into->bytes = into->views[0].buf;
     else if (status == 0) status = join(into);
   }

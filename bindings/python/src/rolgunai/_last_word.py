@@ -25,7 +25,8 @@ class LastWord(Player):
         raise NotImplementedError
 
     def _watch(self, comm_id: str, held: dict[str, Any]) -> None:
-        """Until `_unwatch`, what the kernel says of the comm's state counts as what the manager has."""
+        """Until `_unwatch`, when the callbacks are through, what the kernel says of the comm's state counts as what the
+        manager has."""
         with self._lock:
             self._held.setdefault(comm_id, []).append(held)
 
@@ -34,6 +35,7 @@ class LastWord(Player):
             others = [other for other in self._held.pop(comm_id, ()) if other is not held]
             if others:
                 self._held[comm_id] = others
+            self._long.settle()
 
     def _now_holds(self, comm_id: str, state: str, paths: Any, buffers: Any) -> None:
         watchers = self._held.get(comm_id)

@@ -18,6 +18,16 @@ another value, or where its comm ends.
     >>> long.taken("a", {"y": None}, [], [])
     >>> len(long)
     0
+
+What comes in a frontend's message may be changed until its callbacks ran, which are handed it: it is copied then.
+
+    >>> frame = bytearray(LONG)
+    >>> frames, kept = long.handed_in([frame], is_lent=True)
+    >>> frame[0] = 1
+    >>> long.settle()
+    >>> frame[0] = 2
+    >>> long.given_out(frames)[0][:2]
+    b'\\x01\\x00'
 """
 
 from __future__ import annotations
@@ -35,16 +45,17 @@ class LongBuffers:
 
     def __init__(self) -> None:
         self._buffers: dict[bytes, Any] = {}  # by their tokens
+        self._lent: set[bytes] = set()  # the tokens of those that may still be changed
         self.tokens: dict[str, dict[str, list[bytes]]] = {}  # of each comm, by the keys of its state
         self._numbers = itertools.count()
 
     def __len__(self) -> int:
         return len(self._buffers)
 
-    def handed_in(self, buffers: Iterable[Any]) -> tuple[list[Any], Kept]:
+    def handed_in(self, buffers: Iterable[Any], *, is_lent: bool = False) -> tuple[list[Any], Kept]:
         """What the manager is to be handed for these buffers, and the places and tokens of those that stay here, as
-        nobody can change them. They are here before the call, so that an interrupt after it loses none: `taken` or
-        `refused` is told of each."""
+        nobody can change them, or, where they are lent, as they are until `settle`. They are here before the call, so
+        that an interrupt after it loses none: `taken` or `refused` is told of each."""
         frames = list(buffers)
         kept: Kept = []
         fixed: dict[bytes, Any] = {}
@@ -52,10 +63,18 @@ class LongBuffers:
             size = len(buffer) if type(buffer) is bytes else memoryview(buffer).nbytes
             if size >= LONG or size == SIZE:
                 frames[place] = token = b"%0*d" % (SIZE, next(self._numbers))
-                fixed[token] = buffer if type(buffer) is bytes else _fixed(buffer)
+                fixed[token] = buffer if type(buffer) is bytes or is_lent else _fixed(buffer)
                 kept.append((place, token))
         self._buffers.update(fixed)
+        if is_lent:
+            self._lent.update(token for token, buffer in fixed.items() if type(buffer) is not bytes)
         return frames, kept
+
+    def settle(self) -> None:
+        """Nobody changes any more what was lent: what callbacks have written into it is the widget's."""
+        for token in tuple(self._lent):
+            self._buffers[token] = _fixed(self._buffers[token])
+            self._lent.discard(token)
 
     def refused(self, kept: Kept) -> None:
         """The manager didn't take them."""
@@ -89,6 +108,7 @@ class LongBuffers:
     def _drop(self, tokens: Iterable[bytes]) -> None:
         for token in tokens:
             del self._buffers[token]
+            self._lent.discard(token)
 
 
 def _fixed(buffer: Any) -> Any:
@@ -96,4 +116,4 @@ def _fixed(buffer: Any) -> Any:
     view = memoryview(buffer)
     if type(view.obj) is bytes and view.c_contiguous and 2 * view.nbytes >= len(view.obj):
         return view.cast("B")
-    return view.tobytes()
+    return view.tobytes("A")  # those of a Fortran array in its own order, as they lie

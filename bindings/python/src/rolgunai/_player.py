@@ -79,7 +79,7 @@ class Player:
 
     def _hear(self, kind: str, msg: Message, played: Any, buffers: Any) -> Outcome:
         known = msg.get("metadata") or NOTHING if kind == "comm_open" else NOTHING
-        frames, kept = self._long.handed_in(buffers) if buffers else ((), [])
+        frames, kept = self._long.handed_in(buffers, is_lent=True) if buffers else ((), [])
         outcome = self._with_frames(kept, self._message, kind, known, played, frames)
         if outcome.reply is _CLOSED:
             self._forget(played["comm_id"])
@@ -152,13 +152,15 @@ class Player:
         self._old.discard(comm_id)
         self._long.forget(comm_id)
 
-    def _play(self, job: Callable[..., _Result], *parts: Any) -> _Result | None:
-        """Plays a job under the lock. Where this thread is amid another one, as where the garbage collector runs, it
-        comes right after that, and gives None here."""
+    def _play(
+        self, job: Callable[..., _Result], *parts: Any, late: Callable[..., object] | None = None
+    ) -> _Result | None:
+        """Plays a job under the lock. Where this thread is amid another one, as where the garbage collector runs, it, or
+        `late` in its place, comes right after that, and None is given here."""
         try:
             with self._lock:
                 if self._is_busy:
-                    self._late.append(functools.partial(job, *parts))
+                    self._late.append(functools.partial(late or job, *parts))
                     return None
                 self._is_busy = True
                 try:

@@ -40,9 +40,9 @@ def known_part(update: Data, buffers: list[Any], keys: Collection[str]) -> tuple
     strange = [path for path in paths if isinstance(path, list) and _is_strange(path, known)]
     if not strange and known.issuperset(state):
         return update, buffers
-    kept = [(path, buffer) for path, buffer in zip(paths, buffers) if path not in strange]
     state = {key: value for key, value in state.items() if key in known}
-    return {**update, "state": state, "buffer_paths": [path for path, _ in kept]}, [buffer for _, buffer in kept]
+    buffers = [buffer for place, buffer in enumerate(buffers) if place >= len(paths) or paths[place] not in strange]
+    return {**update, "state": state, "buffer_paths": [path for path in paths if path not in strange]}, buffers
 
 
 def _is_strange(path: list[Any], known: set[str]) -> bool:
@@ -104,7 +104,7 @@ def same(one: Any, other: Any) -> bool:
     if isinstance(one, str) and isinstance(other, str):
         return one == other
     if isinstance(one, _BYTES) and isinstance(other, _BYTES):
-        return _flat(one) == _flat(other)
+        return one is other or _flat(one) == _flat(other)
     if isinstance(one, (list, tuple)) and isinstance(other, (list, tuple)):
         return len(one) == len(other) and all(map(same, one, other))
     if isinstance(one, dict) and isinstance(other, dict):

@@ -235,7 +235,7 @@ class Hub(LastWord):
         if msg_type == "comm_close":
             self._soon(self._close, comm_id, self._content(comm_id, data, keys), *frame)
         elif msg_type == "comm_open":
-            self._play(self._open, comm_id, target_name, data, keys, *frame)
+            self._play(self._open, comm_id, target_name, data, keys, *frame, late=self._open_late)
         else:
             self._play(self._say, comm_id, target_name, msg_type, data, keys, *frame)
 
@@ -257,6 +257,16 @@ class Hub(LastWord):
             self._send("comm_open", comm_id, content, metadata, buffers, parent)
         except BaseException:
             self._drop(comm_id)  # no frontend has heard of it
+            raise
+
+    def _open_late(self, comm_id: str, *parts: Any) -> None:
+        """An open that came amid another call. Who made the comm can't be told any more that it is refused: it is closed."""
+        try:
+            self._open(comm_id, *parts)
+        except BaseException:
+            comm = self.comms.pop(comm_id, None)
+            if comm is not None:
+                comm._closed = True
             raise
 
     def _open_widget(self, comm_id: str, data: Any, keys: Any, metadata: Any, buffers: Any, parent: Any) -> None:
