@@ -15,10 +15,11 @@ import warnings
 sys.path.insert(0, sys.argv[1])
 
 from checks import check, raised, run
+from ipykernel.kernelbase import Kernel as StockKernel
 from jupyter_client.jsonutil import extract_dates
 from jupyter_client.session import Session, json_packer, json_unpacker
 from rolgunai import _session, _wire
-from rolgunai._iopub import Sender
+from rolgunai._iopub import Sender, say_states
 
 HEARD = {"header": {"msg_id": "1", "date": datetime.datetime(2026, 1, 2, 3, 4, 5, 6, datetime.timezone.utc)}}
 
@@ -123,6 +124,44 @@ def pickled():
     wanted = ("comm_msg", {"comm_id": "a", "data": 1.5}, {"m": 1}, HEARD["header"]["msg_id"])
     got = heard["msg_type"], heard["content"], heard["metadata"], heard["parent_header"]["msg_id"]
     check("a session that pickles", got, wanted)
+
+
+class Alone(StockKernel):
+    """A kernel of ipykernel's, which isn't started."""
+
+    shell, implementation, language, banner = None, "test", "none", ""
+
+    def get_parent(self, channel=None):
+        return HEARD if channel == "shell" else {}
+
+
+class Own(Alone):
+    def _publish_status(self, status, channel, parent=None):
+        raise AssertionError("a way of its own")
+
+
+# What a kernel says of its state: the state, the channel, and the message that it says it for.
+STATES = (("busy", "shell", None), ("idle", "control", None), ("busy", "shell", {"header": {"msg_id": "2"}}))
+
+
+def states():
+    for settings in ({}, {"debug": True}):
+        socket = Kernel(**settings)
+        kernel = Alone(session=socket.session)
+        kernel.iopub_socket = socket
+
+        def said():
+            for words in STATES:
+                with contextlib.redirect_stdout(io.StringIO()):
+                    kernel._publish_status(*words)
+                yield socket.came()[0]
+
+        wanted = list(said())
+        say_states(kernel)
+        check(f"a kernel's states, with {settings}", list(said()), wanted)
+    own = Own()
+    say_states(own)
+    check("a class that says them in a way of its own", "_publish_status" in vars(own), False)
 
 
 class Colour(enum.IntEnum):
@@ -232,4 +271,4 @@ def a_session_that_is_used():
 
 
 if __name__ == "__main__":
-    sys.exit(run(as_session_send, pickled, written, read, a_session_that_is_used))
+    sys.exit(run(as_session_send, pickled, states, written, read, a_session_that_is_used))

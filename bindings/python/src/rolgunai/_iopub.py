@@ -5,10 +5,13 @@ one for all that a cell says."""
 from __future__ import annotations
 
 import os
+import threading
 import time
+from collections.abc import Sequence
 from datetime import datetime, timezone
 from typing import Any
 
+from ipykernel.kernelbase import Kernel
 from jupyter_client.session import DELIM, Session, extract_header, protocol_version
 
 from rolgunai._wire import packer, read
@@ -18,7 +21,7 @@ _VERSION_TEXT = b'{"version":"2.1.0"}'
 
 
 class Sender:
-    """Sends for a kernel."""
+    """Sends for a kernel, a call at a time."""
 
     def __init__(self, kernel: Any) -> None:
         self._kernel = kernel
@@ -31,17 +34,23 @@ class Sender:
     def __call__(
         self, msg_type: str, comm_id: str, content: bytes, metadata: dict[str, Any], buffers: list[Any], parent: Any
     ) -> None:
+        topic = f"comm-{comm_id}".encode()
+        if not self.put(topic, msg_type, content, metadata, buffers, parent):
+            keys = {"parent": parent, "ident": topic, "metadata": metadata, "buffers": buffers}
+            self._kernel.session.send(self._kernel.iopub_socket, msg_type, read(content.decode()), **keys)
+
+    def put(
+        self, topic: bytes, msg_type: str, content: bytes, metadata: dict[str, Any], buffers: Sequence[Any], parent: Any
+    ) -> bool:
+        """Sends, and says whether it did: not for a session that has ways of its own."""
         session, stream = self._kernel.session, self._kernel.iopub_socket
         if session is not self._session:
             self._learn(session)
-        topic = f"comm-{comm_id}".encode()
         if not self._is_known:
-            keys = {"parent": parent, "ident": topic, "metadata": metadata, "buffers": buffers}
-            session.send(stream, msg_type, read(content.decode()), **keys)
-            return
+            return False
         pid = os.getpid()
         if stream is None or (self._pid is not None and pid != self._pid):
-            return  # a forked child has no frontends
+            return True  # a forked child has no frontends
         for number, buffer in enumerate(buffers):
             if type(buffer) is not bytes and not memoryview(buffer).contiguous:
                 raise ValueError(f"Buffer {number} ({buffer!r}) is not contiguous")
@@ -52,6 +61,7 @@ class Sender:
         frames = (self._header(session, pid, msg_type), self._parent_text, known, content)
         sent = [topic, DELIM, self._signed(frames), *frames, *buffers]
         stream.send_multipart(sent, copy=max(map(len, sent)) < self._copy_threshold)
+        return True
 
     def _learn(self, session: Any) -> None:
         """Reads the session's settings, each of which is one of its traits: they are read again where one changes."""
@@ -91,3 +101,21 @@ class Sender:
         signer = self._auth.copy()
         signer.update(b"".join(frames))
         return bytes(signer.hexdigest().encode())
+
+
+def say_states(kernel: Any) -> None:
+    """Has the kernel send so too that it is busy, and idle: around each message that it handles, and so before each
+    callback of a comm. Not where a kernel's class says it in a way of its own."""
+    if type(kernel)._publish_status is not Kernel._publish_status:
+        return
+    sender, lock, stock = Sender(kernel), threading.Lock(), kernel._publish_status
+
+    def publish(status: str, channel: str, parent: Any = None) -> None:
+        content = f'{{"execution_state": "{status}"}}'.encode()
+        heard = parent or kernel.get_parent(channel)
+        with lock:  # shell and control have threads of their own
+            is_sent = sender.put(kernel._topic("status"), "status", content, {}, (), heard)
+        if not is_sent:
+            stock(status, channel, parent)
+
+    kernel._publish_status = publish

@@ -127,6 +127,7 @@ def _take_over(kernel: Any, stock: Any, manager: Any) -> None:
     configurables[:] = [manager if each is stock else each for each in configurables]
     kernel.comm_manager = manager
     importlib.import_module("rolgunai._session").use(kernel.session)
+    importlib.import_module("rolgunai._iopub").say_states(kernel)
     for kind in _HANDLED:
         kernel.shell_handlers[kind] = getattr(manager, kind)
 
