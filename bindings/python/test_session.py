@@ -158,6 +158,7 @@ def states():
 
         wanted = list(said())
         say_states(kernel)
+        check("another way than the stock one", "_publish_status" in vars(kernel), True)
         check(f"a kernel's states, with {settings}", list(said()), wanted)
     own = Own()
     say_states(own)

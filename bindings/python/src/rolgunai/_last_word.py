@@ -46,8 +46,8 @@ class LastWord(Player):
 
     def _last_word(self, comm: Any, held: dict[str, Any], keys: list[str] | None) -> None:
         """What the widget itself holds of the keys goes to the manager and to every frontend where it isn't what they
-        were told: a value that was refused, clamped, or made another. Once it went, it is looked at again, since another
-        thread may have said something else meanwhile."""
+        were told: a value that was refused, clamped, or made another. Once it went, it is looked at again, since
+        another thread may have said something else meanwhile."""
         widget = _widgets.widget_of(comm)
         if widget is None or self.comms.get(comm.comm_id) is not comm:
             return

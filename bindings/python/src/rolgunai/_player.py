@@ -155,8 +155,8 @@ class Player:
     def _play(
         self, job: Callable[..., _Result], *parts: Any, late: Callable[..., object] | None = None
     ) -> _Result | None:
-        """Plays a job under the lock. Where this thread is amid another one, as where the garbage collector runs, it, or
-        `late` in its place, comes right after that, and None is given here."""
+        """Plays a job under the lock. Where this thread is amid another one, as where the garbage collector runs, it
+        comes right after that, or `late` in its place, and None is given here."""
         try:
             with self._lock:
                 if self._is_busy:

@@ -26,10 +26,10 @@ Its own code then has comms as ever, towards targets of the frontends':
     >>> plot.close({"bye": True})
     comm_close {} {'bye': True}
 
-What is other than in `comm` and ipykernel: an id that is in use isn't taken from its comm; a widget's state lies with the
-manager, which answers `request_state` and refuses what the widget protocol doesn't have; a target that is unregistered
-closes its comms, and one that the kernel opened a comm towards stays known; each message goes out under the topic
-`comm-ID`. What the manager refuses the kernel's code gets as CommRefused, a ValueError, and nothing goes out.
+What is other than in `comm` and ipykernel: an id that is in use isn't taken from its comm; a widget's state lies with
+the manager, which answers `request_state` and refuses what the widget protocol doesn't have; a target that is
+unregistered closes its comms, and one that the kernel opened a comm towards stays known; each message goes out under
+the topic `comm-ID`. What the manager refuses the kernel's code gets as CommRefused, a ValueError, and nothing goes out.
 
 After an update's callbacks ran, what the widget itself holds is sent to every frontend where it isn't what they were
 told: the kernel has the last word. Keys that a widget hasn't don't reach the manager.

@@ -1,8 +1,8 @@
 """The comm manager of a kernel in Python over the proved one, whatever the kernel is.
 
 Which comms are open, whom a message goes to, what state a widget has and what goes out is said by the proved `Manager`
-alone. A `Hub` keeps what that can't have: the callbacks of targets and comms. It knows neither ipykernel nor `comm`, and
-is handed how to send; `rolgunai.comms` has what makes it a kernel's comm manager.
+alone. A `Hub` keeps what that can't have: the callbacks of targets and comms. It knows neither ipykernel nor `comm`,
+and is handed how to send; `rolgunai.comms` has what makes it a kernel's comm manager.
 
     >>> from rolgunai.hub import Hub, HubComm
     >>> class Comm(HubComm):
@@ -66,9 +66,9 @@ class Hub(LastWord):
     """A comm manager; the module says more.
 
     `send(msg_type, comm_id, content, metadata, buffers, parent)` sends to all frontends: the content is JSON, the
-    metadata a dict. `request()` is the message that the kernel's code runs for, `make(comm_id=, target_name=, primary=)`
-    makes a comm that a frontend opens, and `default` makes JSON of what isn't. `is_old_browser` says whether the
-    browser side of widgets that speak version 1 of the protocol in Python speaks that too.
+    metadata a dict. `request()` is the message that the kernel's code runs for, `make(comm_id=, target_name=,
+    primary=)` makes a comm that a frontend opens, and `default` makes JSON of what isn't. `is_old_browser` says whether
+    the browser side of widgets that speak version 1 of the protocol in Python speaks that too.
     """
 
     comms: Any
@@ -226,8 +226,8 @@ class Hub(LastWord):
         **keys: Any,
     ) -> None:
         """Plays what the kernel says on a comm, and sends it; not in a forked child, which has no frontends. Metadata,
-        and the data of a close, are the caller's: the manager says nothing of them. Raises CommRefused where the manager
-        refuses, ValueError or TypeError for what isn't JSON."""
+        and the data of a close, are the caller's: the manager says nothing of them. Raises CommRefused where the
+        manager refuses, ValueError or TypeError for what isn't JSON."""
         if os.getpid() != self._pid:
             return
         data = {} if data is None else data
@@ -260,7 +260,8 @@ class Hub(LastWord):
             raise
 
     def _open_late(self, comm_id: str, *parts: Any) -> None:
-        """An open that came amid another call. Who made the comm can't be told any more that it is refused: it is closed."""
+        """An open that came amid another call. Where it is refused, its maker can't be told any more: the comm is
+        closed."""
         try:
             self._open(comm_id, *parts)
         except BaseException:
