@@ -202,8 +202,8 @@ class Choice(unittest.TestCase):
         self.assertEqual(sorted(it for turn in turns for it in turn), sorted(self.edits[2:]))
 
     def test_a_share_is_of_one_crate(self):
-        edits = self.edits + [edit(f"e{n}", "high") for n in range(choice.SHARE + 1)] + [edit("e", "top")]
-        made = choice.shares(edits, choice.SHARE)
+        edits = self.edits + [edit(f"e{n}", "high") for n in range(25)] + [edit("e", "top")]
+        made = choice.shares(edits, 24)
         self.assertEqual(sorted(it for share in made for it in share), sorted(edits))
         self.assertEqual(
             [(share[0].crate, len({it.crate for it in share}), len(share)) for share in made],
