@@ -39,3 +39,13 @@ def body_fault(text):
         return "it names no file"
     other = [file for file in files if not file.startswith("src/")]
     return f"it changes {other[0]}, which is no body" if other else None
+
+
+def places_of(text):
+    """The places that the text of an edit changes: a file, and the line that it finds there."""
+    file = ""
+    for line in text.splitlines():
+        if line.startswith("file: "):
+            file = line.removeprefix("file: ").strip()
+        elif line.startswith("old: "):
+            yield file, line.removeprefix("old: ")

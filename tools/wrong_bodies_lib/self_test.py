@@ -2,15 +2,15 @@
 the cheapest crate with wrong bodies of its own."""
 import shutil
 import sys
-import tempfile
 import unittest
 from pathlib import Path
 
-from . import batches, choice, edits, kit, lanes, record, sums
+from . import batches, choice, edits, kit, lanes, record, sums, sums_test
 from .choice import Mode
 from .edits import Edit
 from .record import Record
 from .room import copied
+from .sums_test import Room, edit
 from .trying import Run, Wish
 
 CRATE = "test_support"
@@ -49,118 +49,28 @@ WANTED = {
 GB = 1_000_000_000
 
 
-def edit(name, crate="low"):
-    return Edit(crate, "wrong-bodies", name)
-
-
-class Room(unittest.TestCase):
-    """A repository of two crates, the second above the first."""
-
-    def setUp(self):
-        folder = tempfile.TemporaryDirectory()
-        self.addCleanup(folder.cleanup)
-        self.root = Path(folder.name)
-        self.write("crates.txt", "# the crates\nlow: json\nhigh: low\n")
-        for crate in ("low", "high"):
-            self.write(f"crates/{crate}/src/lib.rt", "// why\nfn f() {}\n")
-            self.write(f"crates/{crate}/specs/Lib.antt", "-- what\nf : Nat\n")
-            self.write(f"crates/{crate}/proofs/Lemmas.antt", "lemma : f\n")
-            self.write(f"crates/{crate}/proofs/f/Answers.antt", "answer = f\n")
-            self.write(f"crates/{crate}/wrong-bodies/one.edit", "file: src/lib.rt\nold: {}\nnew: {1}\n")
-
-    def write(self, path, text):
-        path = self.root / path
-        path.parent.mkdir(parents=True, exist_ok=True)
-        path.write_text(text)
-
-    def sum(self, crate, version="kit-1"):
-        return sums.Sums(self.root, version).of(edit("one", crate))
-
-
-class Sums(Room):
-    def changes(self, path, text, crate):
-        before = self.sum(crate)
-        self.write(path, text)
-        return self.sum(crate) != before
-
-    def test_what_changes_the_sum(self):
-        self.assertTrue(self.changes("crates/low/src/lib.rt", "fn g() {}\n", "low"))
-        self.assertTrue(self.changes("crates/low/specs/Lib.antt", "f : Bool\n", "high"))
-        self.assertTrue(self.changes("crates/low/src/lib.rt", "fn h() {}\n", "high"))
-        self.assertTrue(self.changes("crates/low/proofs/Lemmas.antt", "lemma : g\n", "high"))
-        self.assertTrue(self.changes("crates/low/proofs/f/Answers.antt", "answer = g\n", "low"))
-        self.assertTrue(
-            self.changes("crates/low/wrong-bodies/one.edit", "file: src/lib.rt\nold: {}\nnew: {2}\n", "low")
-        )
-        self.assertTrue(self.changes("crates/high/src/more.rt", "fn more() {}\n", "high"))
-        self.assertTrue(self.changes("crates.txt", "low: json serde\nhigh: low\n", "high"))
-        self.assertNotEqual(self.sum("low", "kit-1"), self.sum("low", "kit-2"))
-
-    def test_what_leaves_the_sum(self):
-        self.assertFalse(self.changes("crates/low/src/lib.rt", "// another why\n\nfn f() {}\n", "high"))
-        self.assertFalse(self.changes("crates/low/specs/Lib.antt", "-- other words\nf : Nat\n", "low"))
-        self.assertFalse(self.changes("crates/low/proofs/f/Answers.antt", "answer = h\n", "high"))
-        self.assertFalse(self.changes("crates/high/src/lib.rt", "fn g() {}\n", "low"))
-        self.assertFalse(self.changes("crates/low/wrong-bodies/two.edit", "file: src/lib.rt\n", "low"))
-        self.assertFalse(self.changes("crates.txt", "high: low # above\nlow : json\n", "high"))
-
-    def test_of_a_crate_below_bodies_leave_the_sum_and_contracts_change_it(self):
-        source = (
-            "pub fn f(\n    n: u8,\n) -> u8\n    ensures {{ {0} }}\n{{\n    {1}\n}}\n\n"
-            "pub const fn g() -> u8 {{\n    {2}\n}}\n"
-        )
-        self.write("crates/low/src/lib.rt", source.format("a", "b", "c"))
-        self.assertFalse(self.changes("crates/low/src/lib.rt", source.format("a", "d", "c"), "high"))
-        self.assertTrue(self.changes("crates/low/src/lib.rt", source.format("a", "e", "c"), "low"))
-        self.assertTrue(self.changes("crates/low/src/lib.rt", source.format("b", "e", "c"), "high"))
-        self.assertTrue(self.changes("crates/low/src/lib.rt", source.format("b", "e", "d"), "high"))
-
-    def test_what_a_source_states(self):
-        for source, stated in (
-            ("fn f() {\n    g();\n}\nstruct S {\n    a: u8,\n}", "fn f() {\n}\nstruct S {\n    a: u8,\n}"),
-            (
-                "trait T {\n    fn f(&self) -> u8\n        ensures { a };\n    fn g();\n}",
-                "trait T {\n    fn f(&self) -> u8\n        ensures { a };\n    fn g();\n}",
-            ),
-            (
-                "    fn f()\n        ensures { λ n.\n            n }\n    {\n        loop {\n        }\n    }\n    b",
-                "    fn f()\n        ensures { λ n.\n            n }\n    {\n    }\n    b",
-            ),
-            ("fn f() {}\nfn g() {\n    h();", "fn f() {}\nfn g() {\n    h();"),
-        ):
-            self.assertEqual(sums.stated(source), stated)
-
-    def test_a_comment_at_the_end_of_a_line_counts(self):
-        self.assertEqual(sums.said("a // b\n  // c\n\nd\n", ".rt"), "a // b\nd ")
-        self.assertEqual(sums.said("    #[inline(always)]\n    #[tactic(auto)]\n", ".rt"), "#[tactic(auto)] ")
-
-    def test_how_a_source_is_broken_into_lines_leaves_the_sum(self):
-        one = "pub fn f() -> u8\n    ensures { a × b }\n{\n    2\n}\n"
-        self.write("crates/low/src/lib.rt", one)
-        self.assertFalse(self.changes("crates/low/src/lib.rt", one.replace(" × b", "\n        × b"), "low"))
-        self.assertFalse(self.changes("crates/low/src/lib.rt", one, "high"))
-        self.changes("crates/low/src/lib.rt", "ghost use a.b.{c, d, e};\n" + one, "low")
-        parts = "ghost use a.b.{c};\nghost use a.b.{d};\nghost use a.b.{e};\n"
-        self.assertFalse(self.changes("crates/low/src/lib.rt", parts + one, "low"))
-        self.assertTrue(self.changes("crates/low/src/lib.rt", parts.replace("b.{d", "c.{d") + one, "low"))
-        self.changes("crates/low/src/lib.rt", one, "low")
-        self.assertTrue(self.changes("crates/low/src/lib.rt", one.replace(" × b", " × c"), "high"))
-        self.assertTrue(self.changes("crates/low/specs/Lib.antt", "f :\n  Bool\n", "low"))
-
-
 class Edits(Room):
     def test_which_there_are(self):
         self.write("crates/low/must-fail/two.edit", "file: src/lib.rt\n")
         self.assertEqual(
             [str(it) for it in edits.edits_below(self.root, ("wrong-bodies",))],
-            ["high/wrong-bodies/one", "low/wrong-bodies/one"],
+            ["high/wrong-bodies/of_bare", "high/wrong-bodies/of_size", "low/wrong-bodies/of_area"],
         )
-        self.assertEqual([it.name for it in edits.edits_below(self.root, edits.FOLDERS, ("low",))], ["two", "one"])
+        self.assertEqual([it.name for it in edits.edits_below(self.root, edits.FOLDERS, ("low",))], ["two", "of_area"])
 
     def test_only_bodies(self):
         self.assertIsNone(edits.body_fault("file: src/lib.rt\nold: a\nnew: b\n"))
         self.assertIn("specs/", edits.body_fault("file: src/lib.rt\nold: a\nnew: b\nfile: specs/A.antt\n"))
         self.assertIn("no file", edits.body_fault("old: a\nnew: b\n"))
+
+    def test_the_places(self):
+        text = "file: src/a.rt\nold: one: 1\nnew: 2\nold: b\nnew: c\nfile: src/d.rt\nold:  e\nnew:\n"
+        self.assertEqual([*edits.places_of(text)], [("src/a.rt", "one: 1"), ("src/a.rt", "b"), ("src/d.rt", " e")])
+
+    def test_the_function_at_a_place(self):
+        for line, wanted in (("area(shape, limit())", "size"), ("    4", None), ("fn size", None), ("    } ", None)):
+            found = sums.function_at("src/lib.rt", sums_test.HIGH, line)
+            self.assertEqual(found and found.name, wanted)
 
 
 class Records(Room):
@@ -366,7 +276,8 @@ def faults(told, record, sums):
 
 
 def run(root, at):
-    tests = unittest.defaultTestLoader.loadTestsFromModule(sys.modules[__name__])
+    load = unittest.defaultTestLoader.loadTestsFromModule
+    tests = unittest.TestSuite([load(sums_test), load(sys.modules[__name__])])
     units = unittest.TextTestRunner(stream=sys.stderr).run(tests)
     small = small_copy(root, at)
     plan = Run(Wish(small), at / "plan")

@@ -1,38 +1,55 @@
-"""A sum of all that the outcome of a wrong body depends on: the edit, its crate, the statements of the crates below,
-and the kit.
+"""A sum of all that the outcome of a wrong body depends on: the edit, the function that it changes with what proves it,
+the statements that are named from there on, and the kit.
 
-Of the crates below, the check reads what they state: items and contracts, definitions, and lemmas. Neither the bodies
-of their functions nor the answers that prove them: the gate builds each library as its statements alone. Lines that are
-blank or only a comment change nothing and are left out, and so are those that only say what is inlined."""
+Of its own crate and of those below, that function's proof reads what they state: items and contracts, definitions, and
+lemmas. Neither the bodies of other functions nor the answers that prove them: a call is known by its contract. Of these
+statements those count that are named (reach.py); definitions and lemmas all. An edit of another form has all of its
+crate in its sum. Lines that are blank or only a comment change nothing and are left out, and so are those that only say
+what is inlined."""
 import hashlib
 import re
 from pathlib import Path
 
-FORM = "4"
+from .edits import places_of
+from .reach import Index, Reached, Stated, units_of
+
+FORM = "5"
+CONTRACT = re.compile(r" *ensures\b")
 INLINED = re.compile(r" *#\[inline(?:\((?:always|never)\))?\]")
 COMMENTS = {".rt": "//", ".antt": "--"}
 ANSWERS = ("Answers.antt", "Invariants.antt", "Proof.antt")
+
+
+def is_answer(path):
+    """Whether a file of a crate proves a function of it."""
+    return path.startswith("proofs/") and path.endswith(ANSWERS)
 
 
 # Two imports of one module, one after the other.
 IMPORTS = re.compile(r"(?<=ghost use )([\w.]+)\.\{([^{}]*)\}; ghost use \1\.\{")
 
 
-def said(text, suffix):
+def plain(text, suffix):
     """The text without the lines that are blank, only a comment or only an inline attribute, which is for the compiler
-    alone. The lines of a source are joined but where a comment ends one, since how they are broken and indented says
-    nothing; so are imports of one module."""
-    mark = COMMENTS[suffix]
-    lines = [line for line in text.splitlines() if line.strip() and not line.lstrip().startswith(mark)]
+    alone."""
+    lines = [line for line in text.splitlines() if line.strip() and not line.lstrip().startswith(COMMENTS[suffix])]
+    return "\n".join(line for line in lines if suffix != ".rt" or not INLINED.fullmatch(line))
+
+
+def said(text, suffix):
+    """The plain text. The lines of a source are joined but where a comment ends one, since how they are broken and
+    indented says nothing; so are imports of one module."""
+    text = plain(text, suffix)
     if suffix != ".rt":
-        return "\n".join(lines)
-    lines = [line for line in lines if not INLINED.fullmatch(line)]
-    joined = "".join(line.strip() + ("\n" if mark in line else " ") for line in lines)
+        return text
+    mark = COMMENTS[suffix]
+    joined = "".join(line.strip() + ("\n" if mark in line else " ") for line in text.split("\n"))
     while (shorter := IMPORTS.sub(r"\1.{\2, ", joined)) != joined:
         joined = shorter
     return joined
 
 
+CYCLE = re.compile(r"#\[cycle\((\w+)\)\]")  # its functions are proved together
 FUNCTION = re.compile(r"^( *)(?:pub(?:\([a-z]+\))? )?(?:unsafe |final )*fn ")
 CLAUSE = re.compile(r"^ *(?:requires|ensures|decreases|where)\b")
 
@@ -47,9 +64,13 @@ def stated(text):
         at += 1
         if not function:
             continue
-        indent, line = function[1], kept[-1]
-        while at < len(lines) and not (line.endswith((" {", ";")) and not CLAUSE.match(line)) and line != indent + "{":
+        indent, line, is_clause = function[1], kept[-1], False
+        opens = (indent + "{", indent + "{}")
+        while at < len(lines) and line not in opens and (is_clause or not line.endswith((" {", ";", "{}"))):
+            if is_clause and line.endswith(";") and not lines[at].startswith(indent + " "):
+                break  # It has no body.
             line = lines[at]
+            is_clause = is_clause or CLAUSE.match(line) is not None
             kept.append(line)
             at += 1
         if line.endswith("{") and indent + "}" in lines[at:]:
@@ -79,6 +100,21 @@ def below(rows, crate):
     return sorted(found)
 
 
+def function_at(file, text, line):
+    """The function with a contract in whose body this line stands, once in the text; or None."""
+    if text.count(line) != 1:
+        return None
+    at = text[: text.index(line)].count("\n")
+    for unit in units_of(file, text):
+        if unit.first <= at < unit.last and unit.kind == "function":
+            lines = unit.text.split("\n")
+            indent = re.match(" *", unit.text.rstrip("\n").rpartition("\n")[2])[0]
+            opens = lines.index(indent + "{") if indent + "{" in lines else len(lines)
+            is_proved = any(CONTRACT.match(it) for it in lines[:opens])
+            return unit if is_proved and at - unit.first > opens else None
+    return None
+
+
 class Sums:
     """The sums of one state of the repository."""
 
@@ -87,30 +123,103 @@ class Sums:
         self.rows = listed((self.root / "crates.txt").read_text())
         self.known = {}
 
-    def of_texts(self, crate, is_below):
-        """The sum of a crate's texts: of all, or of those that a crate above reads."""
-        key = crate, is_below
-        if key not in self.known:
-            total = hashlib.sha256()
-            folder = self.root / "crates" / crate
-            for part in ("src", "specs", "proofs"):
-                for path in sorted((folder / part).rglob("*")):
-                    if path.suffix in COMMENTS and not (is_below and part == "proofs" and path.name in ANSWERS):
-                        text = path.read_text()
-                        if is_below and path.suffix == ".rt":
-                            text = stated(text)
-                        total.update(repr((str(path.relative_to(folder)), said(text, path.suffix))).encode())
-            self.known[key] = total.hexdigest()
-        return self.known[key]
+    def kept(self, name, crate, work):
+        """What the work gives for this crate, which is done once."""
+        if (name, crate) not in self.known:
+            self.known[name, crate] = work(crate)
+        return self.known[name, crate]
+
+    def files(self, crate):
+        """The texts of a crate's sources, definitions and proofs, by their paths in its folder."""
+        folder = self.root / "crates" / crate
+        return {
+            str(path.relative_to(folder)): path.read_text()
+            for part in ("src", "specs", "proofs")
+            for path in sorted((folder / part).rglob("*"))
+            if path.suffix in COMMENTS
+        }
+
+    def units(self, crate):
+        """What a crate states of its sources, in parts, each with its text."""
+        return [
+            Stated.of(unit, said(stated(unit.text), ".rt"))
+            for file, text in self.kept("files", crate, self.files).items()
+            if file.endswith(".rt")
+            for unit in units_of(f"{crate}/{file}", text)
+        ]
+
+    def lemmas(self, crate):
+        """The definitions of a crate and its lemmas, but for what proves its functions."""
+        return [
+            (file, said(text, ".antt"))
+            for file, text in self.kept("files", crate, self.files).items()
+            if file.endswith(".antt") and not is_answer(file)
+        ]
+
+    def named(self, crate):
+        """What these name."""
+        found = Reached()
+        for _file, text in self.kept("lemmas", crate, self.lemmas):
+            found.proof(text)
+        return found
+
+    def sum_of_lemmas(self, crate):
+        return hashlib.sha256(repr(self.kept("lemmas", crate, self.lemmas)).encode()).hexdigest()
+
+    def whole(self, crate):
+        """All that a crate says."""
+        return [*self.kept("files", crate, self.files).items()]
+
+    def changed(self, edit):
+        """The function whose body an edit changes. None where it changes another thing, more than one, or a function
+        without a contract, which proves nothing by itself."""
+        files = self.kept("files", edit.crate, self.files)
+        places = [*places_of(edit.path(self.root).read_text())]
+        functions = {function_at(file, files.get(file, ""), old) for file, old in places}
+        return functions.pop() if len(functions) == 1 else None
+
+    def proved(self, crate, function):
+        """A function with what proves it, or it and the others of its cycle."""
+        folders = {function.name, *(f"+{it}" for it in CYCLE.findall(function.text))}
+        files = self.kept("files", crate, self.files).items()
+        answers = [(path, text) for path, text in files if is_answer(path) and Path(path).parent.name in folders]
+        return [(function.file, function.text), *answers]
+
+    def index(self, crates):
+        """What these crates state, as the first of them reads it."""
+        return Index(
+            it
+            for crate in crates
+            for it in self.kept("units", crate, self.units)
+            if crate == crates[0] or not it.unit.is_of_its_crate()
+        )
+
+    def reached(self, edit, texts, owner, names):
+        """What the outcome can depend on, of the statements of these crates: what is named from the edit, these texts
+        and the type whose function is changed on."""
+        found = Reached()
+        found.words |= {owner} - {None}
+        new = edit.path(self.root).read_text()
+        for file in {file for file, _old in places_of(new)}:
+            found.body(f"{edit.crate}/{file}", new)
+        for file, text in texts:
+            found.body(f"{edit.crate}/{file}", plain(text, Path(file).suffix))
+        for name in names:
+            found.add(self.kept("named", name, self.named))
+        of_sources = sorted({(it.unit.file, it.text) for it in found.all_of(self.kept("index", names, self.index))})
+        return of_sources, [(name, self.kept("sum of lemmas", name, self.sum_of_lemmas)) for name in names]
 
     def of(self, edit):
-        names = below(self.rows, edit.crate)
+        names = (edit.crate, *below(self.rows, edit.crate))
+        function = self.changed(edit)
+        owner = function and function.owner
+        texts = self.proved(edit.crate, function) if function else self.kept("whole", edit.crate, self.whole)
         parts = [
             FORM,
             self.kit,
             edit.path(self.root).read_text(),
-            self.of_texts(edit.crate, False),
-            self.rows.get(edit.crate),
+            [(file, said(text, Path(file).suffix)) for file, text in texts],
+            self.reached(edit, texts, owner, names),
+            [(name, self.rows[name]) for name in names],
         ]
-        parts += [(name, self.rows[name], self.of_texts(name, True)) for name in names]
         return hashlib.sha256(repr(parts).encode()).hexdigest()[:16]
