@@ -28,6 +28,7 @@ use Rattle.comm_targets.specs.contracts.echo.Echo as echo
 use Rattle.comm_targets.specs.contracts.plain.PlainTarget as plain
 use Rattle.comm_targets.specs.declared.target.Target as target
 use Rattle.comm_value.proofs.text.Text.TheSendSync as Text
+use Rattle.comm_value.specs.contracts.known_texts.KnownTexts as known_texts
 use Rattle.widget_target.proofs.Sends.{widget_sends}
 use Rattle.widget_target.specs.contracts.widget.WidgetTarget as widget
 use Rattle.comm_c.specs.Handle.{heap, handle_owns}
@@ -123,6 +124,12 @@ scratch_send = search (sendable, crosses) depth 40
 scratch_field_send : IsSend (as_row scratch.the_field)
 scratch_field_send = scratch_send
 
+texts_send : IsSend known_texts.the_row
+texts_send = search (sendable, crosses) depth 40
+
+texts_field_send : IsSend (as_row known_texts.the_field)
+texts_field_send = texts_send
+
 inside_send : IsSend inside.the_row
 inside_send = declared_send inside.the_type (
   search (sendable, crosses, counted_core_field_send) depth 40,
@@ -132,7 +139,10 @@ inside_send = declared_send inside.the_type (
       search (sendable, crosses, call_result_field_send) depth 40,
       (
         search (sendable, crosses, scratch_field_send) depth 40,
-        (search (sendable, crosses) depth 40, (search (sendable, crosses) depth 40, tt)),
+        (
+          search (sendable, crosses, texts_field_send) depth 40,
+          (search (sendable, crosses) depth 40, (search (sendable, crosses) depth 40, tt)),
+        ),
       ),
     ),
   ),

@@ -21,7 +21,7 @@ use crate::input::{CallFault, Input};
 use crate::inputs::{launch_input, line_input, push_input, send_input};
 use comm_core::{Core, Limits, NewFault};
 use comm_messages::PartsScratch;
-use comm_value::{Numbers, Text};
+use comm_value::{KnownTexts, Numbers, Text};
 use std::alloc::{AllocError, Global};
 use std::marker::Model;
 use std::mem;
@@ -30,12 +30,13 @@ use std::mem;
 pub const MAX_CALLS: u64 = 4_611_686_018_427_387_904;
 
 /// A core with its counts, how many calls were made, and the result of the last one. The memory that calls are parsed
-/// into is kept; so is the result's text, once it was asked for.
+/// into is kept, and short texts that were met; so is the result's text, once it was asked for.
 pub struct HeldManager {
     counted_core: CountedCore,
     number: u64,
     call_result: CallResult,
     scratch: PartsScratch,
+    texts: KnownTexts,
     text: Vec<u8>,
     is_written: bool,
 }
@@ -83,6 +84,7 @@ impl HeldManager {
             number: 0,
             call_result: CallResult::Nothing,
             scratch: PartsScratch::new(alloc),
+            texts: KnownTexts::new(alloc),
             text: Vec::new(alloc),
             is_written: false,
         })
@@ -130,6 +132,7 @@ impl HeldManager {
             buffers,
             sizes,
             &mut self.scratch,
+            &mut self.texts,
         )
     }
 
@@ -162,6 +165,7 @@ impl HeldManager {
             buffers,
             sizes,
             &mut self.scratch,
+            &mut self.texts,
         )
     }
 
@@ -192,6 +196,7 @@ impl HeldManager {
             buffers,
             sizes,
             &mut self.scratch,
+            &mut self.texts,
         )
     }
 
@@ -220,6 +225,7 @@ impl HeldManager {
             buffers,
             sizes,
             &mut self.scratch.content,
+            &mut self.texts,
         )
     }
 
@@ -252,6 +258,7 @@ impl HeldManager {
             self.counted_core.numbers,
             line,
             &mut self.scratch.content,
+            &mut self.texts,
         )?;
         self.play(alloc, input)
     }
@@ -308,6 +315,7 @@ impl Drop for HeldManager {
             number: _,
             call_result,
             scratch: _,
+            texts: _,
             text: _,
             is_written: _,
         } = self;

@@ -10,7 +10,7 @@ use comm_core::Call;
 use comm_json::{JsonRef, TextScratch};
 use comm_messages::{BuffersRef, PartsScratch};
 use comm_script::{Request, is_blank, launch_with, parse_line_among, push_with, send_with};
-use comm_value::{Numbers, Text};
+use comm_value::{KnownTexts, Numbers, Text};
 use std::alloc::{AllocError, Global};
 
 /// What a line asks for. Err: memory.
@@ -19,6 +19,7 @@ pub fn line_input<'a>(
     numbers: Numbers,
     line: &'a [u8],
     scratch: &'a mut TextScratch,
+    texts: &mut KnownTexts,
 ) -> Result<Input, AllocError>
     ensures input { IfOk result (λ i. i ≡ line_input numbers line.now) }
     ensures allowed { IfOk result IsAllowed }
@@ -30,7 +31,7 @@ pub fn line_input<'a>(
         });
     }
     let lists = Bump::new(alloc);
-    match parse_line_among(alloc, line, MAX_CLIENTS, numbers, scratch, &lists) {
+    match parse_line_among(alloc, line, MAX_CLIENTS, numbers, scratch, &lists, texts) {
         Ok((client, request)) => Ok(Input::reading(Ok((client, request)))),
         Err(fault) if fault.is_memory() => Err(AllocError),
         Err(fault) => Ok(Input::reading(Err(fault))),
@@ -51,6 +52,7 @@ pub fn launch_input<'a>(
     buffers: &[u8],
     sizes: &[usize],
     scratch: &'a mut PartsScratch,
+    texts: &mut KnownTexts,
 ) -> Result<Input, CallFault>
     ensures input { Gives (λ i. i) result (launch_input numbers client target.now uuid.now
         state.now paths.now buffers.now sizes.now) }
@@ -64,6 +66,7 @@ pub fn launch_input<'a>(
     let request = launch_with(
         alloc,
         numbers,
+        texts,
         name,
         id,
         JsonRef::Borrowed(&values.0),
@@ -88,6 +91,7 @@ pub fn push_input<'a>(
     buffers: &[u8],
     sizes: &[usize],
     scratch: &'a mut PartsScratch,
+    texts: &mut KnownTexts,
 ) -> Result<Input, CallFault>
     ensures input { Gives (λ i. i) result (push_input numbers client id.now state.now paths.now
         buffers.now sizes.now) }
@@ -100,6 +104,7 @@ pub fn push_input<'a>(
     let request = push_with(
         alloc,
         numbers,
+        texts,
         name,
         JsonRef::Borrowed(&values.0),
         JsonRef::Borrowed(&values.1),
@@ -122,6 +127,7 @@ pub fn send_input<'a>(
     buffers: &[u8],
     sizes: &[usize],
     scratch: &'a mut TextScratch,
+    texts: &mut KnownTexts,
 ) -> Result<Input, CallFault>
     ensures input { Gives (λ i. i) result
         (send_input numbers client id.now content.now buffers.now sizes.now) }
@@ -134,6 +140,7 @@ pub fn send_input<'a>(
     let request = send_with(
         alloc,
         numbers,
+        texts,
         name,
         JsonRef::Borrowed(&value),
         BuffersRef::Raw {

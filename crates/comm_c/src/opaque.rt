@@ -4,22 +4,23 @@ ghost use Rattle.comm_messages.specs.Envelope.{envelope};
 ghost use Rattle.comm_messages.specs.Fields.{fields};
 ghost use Rattle.comm_core.specs.Ready.{HandsNothingIn, machine};
 ghost use Rattle.comm_script.specs.Command.{HandsNothing};
+ghost use Rattle.comm_script.specs.Line.{Gives as ReadGives};
 ghost use Rattle.comm_c.specs.Handles.{IsAllowed};
 ghost use Rattle.comm_c.specs.Inputs.{Gives, envelope_input, message_input};
-ghost use Rattle.comm_c.specs.Opaque.{comm_id_in, is_opaque, is_opaque_comm, is_opaque_target, opaque_call};
-ghost use Rattle.comm_c.specs.Opaque.{nothing_in, opaque_close, opaque_in, opaque_msg, opaque_open, opening_in};
+ghost use Rattle.comm_c.specs.Opaque.{asked_of, comm_id_in, is_opaque, is_opaque_comm, is_opaque_target};
+ghost use Rattle.comm_c.specs.Opaque.{nothing_in, opaque_call, opaque_close, opaque_msg, opaque_open, opening_in};
 
 use crate::counted_core::CountedCore;
 use crate::input::{CallFault, Input, MAX_CLIENTS, test_buffers};
 use bumpalo::Bump;
 use comm_core::Call;
 use comm_messages::{
-    Body, EnvelopeRef, Field, Fields, MessageFault, MessageType, PartsScratch, heading, member,
-    object_of, parse_parts, text, type_of,
+    Body, EnvelopeRef, Field, Fields, MessageFault, MessageType, PartsScratch, heading,
+    incoming_in, member, object_of, parse_parts, text, type_of,
 };
-use comm_script::{Request, asked_from};
+use comm_script::{LineFault, Request, asked_by_message};
 use comm_targets::Kind;
-use comm_value::{Buffers, Dict, Text};
+use comm_value::{Buffers, Dict, KnownTexts, Text};
 use std::alloc::{AllocError, Global};
 
 fn is_opaque(kind: Option<Kind>) -> bool
@@ -108,7 +109,12 @@ impl CountedCore {
         }
     }
 
-    fn opaque_msg(&self, alloc: Global, id: Option<&str>) -> Result<Option<Call>, AllocError>
+    fn opaque_msg(
+        &self,
+        alloc: Global,
+        texts: &mut KnownTexts,
+        id: Option<&str>,
+    ) -> Result<Option<Call>, AllocError>
         ensures call { IfOk result (λ c. c ≡ opaque_msg (machine self.now.core)
             (option_map (λ t. t.now) id.entry)) }
         ensures handless { IfOk result (λ c. IfSome c HandsNothingIn) }
@@ -116,7 +122,7 @@ impl CountedCore {
         let Some(id) = id else {
             return Ok(None);
         };
-        let id = Text::copy_of(alloc, id)?;
+        let id = texts.text(alloc, id)?;
         if self.is_opaque_comm(&id) {
             Ok(Some(Call::Msg {
                 id,
@@ -127,7 +133,12 @@ impl CountedCore {
         }
     }
 
-    fn opaque_close(&self, alloc: Global, id: Option<&str>) -> Result<Option<Call>, AllocError>
+    fn opaque_close(
+        &self,
+        alloc: Global,
+        texts: &mut KnownTexts,
+        id: Option<&str>,
+    ) -> Result<Option<Call>, AllocError>
         ensures call { IfOk result (λ c. c ≡ opaque_close (machine self.now.core)
             (option_map (λ t. t.now) id.entry)) }
         ensures handless { IfOk result (λ c. IfSome c HandsNothingIn) }
@@ -135,7 +146,7 @@ impl CountedCore {
         let Some(id) = id else {
             return Ok(None);
         };
-        let id = Text::copy_of(alloc, id)?;
+        let id = texts.text(alloc, id)?;
         if self.is_opaque_comm(&id) {
             Ok(Some(Call::Close { id }))
         } else {
@@ -146,6 +157,7 @@ impl CountedCore {
     fn opaque_call(
         &self,
         alloc: Global,
+        texts: &mut KnownTexts,
         type_: MessageType,
         content: Fields<'_, '_>,
     ) -> Result<Option<Call>, AllocError>
@@ -158,47 +170,54 @@ impl CountedCore {
                 let target = text(member(content, "target_name"));
                 self.opaque_open(alloc, comm_id_in(content), target)
             }
-            MessageType::Msg => self.opaque_msg(alloc, comm_id_in(content)),
-            MessageType::Close => self.opaque_close(alloc, comm_id_in(content)),
+            MessageType::Msg => self.opaque_msg(alloc, texts, comm_id_in(content)),
+            MessageType::Close => self.opaque_close(alloc, texts, comm_id_in(content)),
             MessageType::InfoRequest => Ok(None),
         }
     }
 
-    // What a message for an opaque target asks for; None of any other message, and where a test fails. Err: memory.
-    fn opaque_in(
+    // What the message of an envelope asks for, of an opaque target by its heading and the names in its content alone.
+    // Err: the first test that fails, or Memory.
+    #[tactic(auto, unfolding(comm_messages::specs::Message::message_from))]
+    fn asked_of(
         &self,
         alloc: Global,
         from: &EnvelopeRef<'_, '_>,
-    ) -> Result<Option<(u8, Request)>, AllocError>
-        ensures asked { IfOk result
-            (λ o. o ≡ opaque_in (machine self.now.core) (envelope from.now)) }
-        ensures below { IfOk result (λ o. IfSome o (λ r. r.0 < 4)) }
-        ensures handless { IfOk result (λ o. IfSome o (λ r. HandsNothing r.1)) }
+        texts: &mut KnownTexts,
+    ) -> Result<(u8, Request), LineFault>
+        ensures asked { ReadGives (λ r. (r.0, r.1)) result
+            (asked_of (machine self.now.core) self.now.numbers (envelope from.now)) }
+        ensures below { IfOk result (λ r. r.0 < 4) }
+        ensures handless { IfOk result (λ r. HandsNothing r.1) }
     {
-        match heading(from, MAX_CLIENTS) {
-            Ok((client, type_)) => match object_of(Field::Content, from.content) {
-                Ok(content) => match self.opaque_call(alloc, type_, content)? {
-                    Some(call) => Ok(Some((client, Request::Change(call)))),
-                    None => Ok(None),
-                },
-                Err(MessageFault::Memory) => Err(AllocError),
-                Err(_) => Ok(None),
-            },
-            Err(MessageFault::Memory) => Err(AllocError),
-            Err(_) => Ok(None),
-        }
+        let (client, type_) = heading(from, MAX_CLIENTS)?;
+        let content = object_of(Field::Content, from.content)?;
+        let request = match self.opaque_call(alloc, texts, type_, content)? {
+            Some(call) => Request::Change(call),
+            None => asked_by_message(incoming_in(
+                alloc,
+                self.numbers,
+                texts,
+                type_,
+                from,
+                content,
+            )?),
+        };
+        Ok((client, request))
     }
 
     // What the message of an envelope asks for. Err: memory.
-    fn envelope_input(&self, alloc: Global, from: &EnvelopeRef<'_, '_>) -> Result<Input, AllocError>
+    fn envelope_input(
+        &self,
+        alloc: Global,
+        from: &EnvelopeRef<'_, '_>,
+        texts: &mut KnownTexts,
+    ) -> Result<Input, AllocError>
         ensures input { IfOk result (λ i. i
             ≡ envelope_input (machine self.now.core) self.now.numbers (envelope from.now)) }
         ensures allowed { IfOk result IsAllowed }
     {
-        if let Some((client, request)) = self.opaque_in(alloc, from)? {
-            return Ok(Input::reading(Ok((client, request))));
-        }
-        match asked_from(alloc, from, MAX_CLIENTS, self.numbers) {
+        match self.asked_of(alloc, from, texts) {
             Ok((client, request)) => Ok(Input::reading(Ok((client, request)))),
             Err(fault) if fault.is_memory() => Err(AllocError),
             Err(fault) => {
@@ -224,6 +243,7 @@ impl CountedCore {
         buffers: &'a [u8],
         sizes: &'a [usize],
         scratch: &'a mut PartsScratch,
+        texts: &mut KnownTexts,
     ) -> Result<Input, CallFault>
         ensures input { Gives (λ i. i) result
             (message_input (machine self.now.core) self.now.numbers client header.now metadata.now
@@ -235,7 +255,7 @@ impl CountedCore {
         match parse_parts(
             client, header, metadata, content, buffers, sizes, scratch, &lists,
         ) {
-            Ok(read) => Ok(self.envelope_input(alloc, &read.envelope())?),
+            Ok(read) => Ok(self.envelope_input(alloc, &read.envelope(), texts)?),
             Err(MessageFault::Memory) => Err(CallFault::Memory),
             Err(_) => Err(CallFault::NotJson),
         }

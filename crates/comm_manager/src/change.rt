@@ -16,6 +16,7 @@ ghost use Rattle.comm_manager.specs.Why.{IsReason, IsHistoryFirst};
 
 use crate::answered::Answered;
 use crate::change_log::ChangeLog;
+use crate::journal::HistoryStore;
 use crate::ledger::ClientSeq;
 use crate::manager_id::ManagerId;
 use comm_core::{
@@ -133,9 +134,9 @@ fn check_seen<M: ManagerId, R: Wait>(rt: &R, reader: &VersionReader<M>, made: us
 
 // Whether a change may be made: there is room for it in the history and in the queue, and in the latter for an end
 // besides. The client made as many changes as the totals say, and has seen no more than there is.
-fn reserve<M: ManagerId, R: Wait>(
+fn reserve<M: ManagerId, S: HistoryStore, R: Wait>(
     rt: &R,
-    log: &mut ChangeLog<M>,
+    log: &mut ChangeLog<M, S>,
     reader: &VersionReader<M>,
     seq: &mut ClientSeq<M>,
 ) -> Result<(), Unavailable<Stamp<M>>>
@@ -166,11 +167,11 @@ fn reserve<M: ManagerId, R: Wait>(
     Ok(())
 }
 
-// Completes a change whose entry is pending: the entry is appended to the history, it is published, its client hears
-// of it, and it goes out. Gives the place of the entry, from 1, and the stamp. Nothing here takes memory or can fail.
-fn complete<M: ManagerId, R: Wait>(
+// Completes a change whose entry is pending: it is published, its client hears of it, the entry is appended to the
+// history, and it goes out. Gives the place of the entry, from 1, and the stamp. Nothing here takes memory or can fail.
+fn complete<M: ManagerId, S: HistoryStore, R: Wait>(
     rt: &R,
-    log: &mut ChangeLog<M>,
+    log: &mut ChangeLog<M, S>,
     reader: &mut VersionReader<M>,
     seq: &mut ClientSeq<M>,
     kept: Arc<Entry, Global>,
@@ -193,21 +194,21 @@ fn complete<M: ManagerId, R: Wait>(
     ensures totals { log.new.totals ≡ slice_set log.old.totals seq.old.client (seq.old.number + 1) }
     ensures seq { seq.new ≡ seq_view seq.old.client (seq.old.number + 1) }
 {
-    log.journal.add(kept);
     let stamp = publish(rt, &mut log.writer, reader);
+    log.journal.add(kept, stamp.copy());
     log.outbox.put(rt, sent);
     log.totals.increment(seq);
     (stamp.number(), stamp)
 }
 
 /// Makes one change of a client that hands no target in, in this order: room in the history and in the queue; the call
-/// is prepared; its entry is built and made pending; the change is made; its entry is appended, published, heard by its
-/// client, and put into the queue. Err: the change wasn't made, and all is as it was.
-pub fn ask<M: ManagerId, T: Target, R: Wait>(
+/// is prepared; its entry is built and made pending; the change is made; its entry is published, heard by its client,
+/// appended, and put into the queue. Err: the change wasn't made, and all is as it was.
+pub fn ask<M: ManagerId, T: Target, S: HistoryStore, R: Wait>(
     rt: &R,
     alloc: Global,
     core: &mut Core<T>,
-    log: &mut ChangeLog<M>,
+    log: &mut ChangeLog<M, S>,
     reader: &mut VersionReader<M>,
     seq: &mut ClientSeq<M>,
     call: Call,
@@ -264,11 +265,11 @@ pub fn ask<M: ManagerId, T: Target, R: Wait>(
 }
 
 /// Registers a target, in the same order. Err: the change wasn't made, all is as it was, and the target comes back.
-pub fn register<M: ManagerId, T: Target, R: Wait>(
+pub fn register<M: ManagerId, T: Target, S: HistoryStore, R: Wait>(
     rt: &R,
     alloc: Global,
     core: &mut Core<T>,
-    log: &mut ChangeLog<M>,
+    log: &mut ChangeLog<M, S>,
     reader: &mut VersionReader<M>,
     seq: &mut ClientSeq<M>,
     name: Text,

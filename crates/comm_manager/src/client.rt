@@ -15,6 +15,7 @@ ghost use Rattle.comm_versions.specs.declared.reads.ReadFault.TheVariants as fau
 
 use crate::answered::Answered;
 use crate::change::AnsweredChange;
+use crate::journal::HistoryStore;
 use crate::ledger::{ClientSeq, SeqTotals};
 use crate::manager_id::ManagerId;
 use crate::shared::Manager;
@@ -113,10 +114,10 @@ impl<M: ManagerId> Client<M> {
 
     /// Makes the change of a call that hands no target in; the functions below put that call together. Err: the
     /// change wasn't made, and why.
-    pub fn ask<T: Target, R: Wait>(
+    pub fn ask<T: Target, S: HistoryStore, R: Wait>(
         &mut self,
         rt: &R,
-        manager: &Manager<M, T>,
+        manager: &Manager<M, T, S>,
         call: Call,
     ) -> Result<Answered<M>, Unavailable<Stamp<M>>>
         requires { HandsNothingIn call }
@@ -138,10 +139,10 @@ impl<M: ManagerId> Client<M> {
 
     /// Registers a target under a name, in the place of the one that has it, if there is one: that one ends. Err: the
     /// change wasn't made, and the target comes back as it was.
-    pub fn register<T: Target, R: Wait>(
+    pub fn register<T: Target, S: HistoryStore, R: Wait>(
         &mut self,
         rt: &R,
-        manager: &Manager<M, T>,
+        manager: &Manager<M, T, S>,
         name: Text,
         target: T,
     ) -> Result<Answered<M>, (Unavailable<Stamp<M>>, T)>
@@ -169,10 +170,10 @@ impl<M: ManagerId> Client<M> {
 
     /// Opens a comm towards a target, as the frontend asks by `comm_open`. `version` is the widget protocol's, of the
     /// message's metadata. Err: as of `ask`.
-    pub fn open_comm<T: Target, R: Wait>(
+    pub fn open_comm<T: Target, S: HistoryStore, R: Wait>(
         &mut self,
         rt: &R,
-        manager: &Manager<M, T>,
+        manager: &Manager<M, T, S>,
         id: Text,
         target: Text,
         version: Option<Text>,
@@ -197,10 +198,10 @@ impl<M: ManagerId> Client<M> {
     }
 
     /// Hands a `comm_msg` of the frontend to the comm's target. Err: as of `ask`.
-    pub fn message<T: Target, R: Wait>(
+    pub fn message<T: Target, S: HistoryStore, R: Wait>(
         &mut self,
         rt: &R,
-        manager: &Manager<M, T>,
+        manager: &Manager<M, T, S>,
         id: Text,
         body: Body,
     ) -> Result<Answered<M>, Unavailable<Stamp<M>>>
@@ -213,10 +214,10 @@ impl<M: ManagerId> Client<M> {
     }
 
     /// Closes a comm, as the frontend asks by `comm_close`. Err: as of `ask`.
-    pub fn close_comm<T: Target, R: Wait>(
+    pub fn close_comm<T: Target, S: HistoryStore, R: Wait>(
         &mut self,
         rt: &R,
-        manager: &Manager<M, T>,
+        manager: &Manager<M, T, S>,
         id: Text,
     ) -> Result<Answered<M>, Unavailable<Stamp<M>>>
         ensures answered { IfOk result (λ a.
@@ -228,10 +229,10 @@ impl<M: ManagerId> Client<M> {
     }
 
     /// Takes a target out: closes its comms, with a `comm_close` for each, and ends it. Err: as of `ask`.
-    pub fn unregister<T: Target, R: Wait>(
+    pub fn unregister<T: Target, S: HistoryStore, R: Wait>(
         &mut self,
         rt: &R,
-        manager: &Manager<M, T>,
+        manager: &Manager<M, T, S>,
         name: Text,
     ) -> Result<Answered<M>, Unavailable<Stamp<M>>>
         ensures answered { IfOk result (λ a.
@@ -243,10 +244,10 @@ impl<M: ManagerId> Client<M> {
     }
 
     /// Opens a widget's comm for the kernel, with this state; sends `comm_open`. Err: as of `ask`.
-    pub fn launch<T: Target, R: Wait>(
+    pub fn launch<T: Target, S: HistoryStore, R: Wait>(
         &mut self,
         rt: &R,
-        manager: &Manager<M, T>,
+        manager: &Manager<M, T, S>,
         id: Uuid,
         target: Text,
         state: Dict,
@@ -262,10 +263,10 @@ impl<M: ManagerId> Client<M> {
 
     /// Changes these keys of a widget's state for the kernel; sends an `update` with just them. Err: as of
     /// `ask`.
-    pub fn push<T: Target, R: Wait>(
+    pub fn push<T: Target, S: HistoryStore, R: Wait>(
         &mut self,
         rt: &R,
-        manager: &Manager<M, T>,
+        manager: &Manager<M, T, S>,
         id: Text,
         state: Dict,
     ) -> Result<Answered<M>, Unavailable<Stamp<M>>>
@@ -278,10 +279,10 @@ impl<M: ManagerId> Client<M> {
     }
 
     /// Sends a `comm_msg` of the kernel on a comm, past its target. Err: as of `ask`.
-    pub fn send<T: Target, R: Wait>(
+    pub fn send<T: Target, S: HistoryStore, R: Wait>(
         &mut self,
         rt: &R,
-        manager: &Manager<M, T>,
+        manager: &Manager<M, T, S>,
         id: Text,
         body: Body,
     ) -> Result<Answered<M>, Unavailable<Stamp<M>>>
@@ -294,10 +295,10 @@ impl<M: ManagerId> Client<M> {
     }
 
     /// Closes a comm for the kernel; sends `comm_close`. Err: as of `ask`.
-    pub fn hang_up<T: Target, R: Wait>(
+    pub fn hang_up<T: Target, S: HistoryStore, R: Wait>(
         &mut self,
         rt: &R,
-        manager: &Manager<M, T>,
+        manager: &Manager<M, T, S>,
         id: Text,
     ) -> Result<Answered<M>, Unavailable<Stamp<M>>>
         ensures answered { IfOk result (λ a.

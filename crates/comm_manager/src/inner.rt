@@ -1,5 +1,5 @@
 //! What lies under the lock.
-ghost use Rattle.std.specs.Prelude.{◌≡◌, ◌+◌, ◌<◌, ◌≤◌, ◌++◌, [], ◌∷◌, length, false, All, IfOk, IfErr, OnErr, true};
+ghost use Rattle.std.specs.Prelude.{OnOk, ◌≡◌, ◌+◌, ◌<◌, ◌≤◌, ◌++◌, [], ◌∷◌, length, false, All, IfOk, IfErr, OnErr, true};
 ghost use Rattle.std.specs.Prelude.{vec_capacity};
 ghost use Rattle.std.specs.Arc.{arc_value};
 ghost use Rattle.std.specs.Mem.{manually_drop_value};
@@ -20,7 +20,7 @@ ghost use Rattle.comm_manager.specs.Why.{IsReason, IsHistoryFirst};
 use crate::change::{self, AnsweredChange};
 use crate::change_log::ChangeLog;
 use crate::client::Client;
-use crate::journal::Journal;
+use crate::journal::{HistoryStore, Journal, KeptHistory};
 use crate::ledger::SeqTotals;
 use crate::manager_id::ManagerId;
 use crate::publisher::Publisher;
@@ -42,13 +42,13 @@ use std::sync::{Arc, Wait};
 /// The history is legal, is what is published and what was put into the queue; its replay is the machine of the
 /// tables and the targets, and nothing is staged. That is true whenever the lock is got, and is proved again of each
 /// call that is made under it.
-pub struct Inner<M: ManagerId, T: Target> {
+pub struct Inner<M: ManagerId, T: Target, S: HistoryStore> {
     core: Core<T>,
     // The kit can't prove how the log's writer would be dropped. It never is: `VersionWriter::end` alone ends it.
-    log: ManuallyDrop<ChangeLog<M>>,
+    log: ManuallyDrop<ChangeLog<M, S>>,
 }
 
-impl<M: ManagerId, T: Target> Model for Inner<M, T> {
+impl<M: ManagerId, T: Target, S: HistoryStore> Model for Inner<M, T, S> {
     ghost use Rattle.std.specs.Prelude.{◌≡◌, List};
     ghost use Rattle.comm_core.specs.declared.entry.Entry.{Entry};
     ghost use Rattle.comm_versions.specs.Code.{entries_code};
@@ -64,7 +64,7 @@ impl<M: ManagerId, T: Target> Model for Inner<M, T> {
     ghost invariant = { λ s. LogInvariant M.queue M.limits (manually_drop_value s.log) s.core };
 }
 
-impl<M: ManagerId, T: Target> Inner<M, T> {
+impl<M: ManagerId, T: Target, S: HistoryStore> Inner<M, T, S> {
     /// A manager that has made no change.
     pub fn new(
         alloc: Global,
@@ -73,7 +73,7 @@ impl<M: ManagerId, T: Target> Inner<M, T> {
         writer: VersionWriter<M>,
         outbox: Outbox,
         totals: SeqTotals<M>,
-    ) -> Inner<M, T>
+    ) -> Inner<M, T, S>
         requires limits { (limits ≡ M.limits) × AreAllowed limits }
         requires core { core ≡ state limits.comms [] [] true }
         requires writer { (writer.front ≡ []) × (writer.pending ≡ []) }
@@ -84,7 +84,7 @@ impl<M: ManagerId, T: Target> Inner<M, T> {
     {
         let log = ChangeLog {
             limits,
-            journal: Journal::new(alloc),
+            journal: Journal::new(alloc, writer.stamp()),
             writer,
             outbox,
             totals,
@@ -180,15 +180,15 @@ impl<M: ManagerId, T: Target> Inner<M, T> {
         alloc: Global,
         clients: Vec<Client<M>>,
         publisher: Publisher<M>,
-    ) -> Result<Farewell, (Inner<M, T>, Vec<Client<M>>, Publisher<M>)>
-        ensures history { IfOk result (λ f. entries_of f.history.items ≡ self ++ End ∷ []) }
-        ensures legal { IfOk result (λ f.
-            IsLegal M.limits.clients M.limits.comms (entries_of f.history.items)) }
+    ) -> Result<Farewell<S>, (Inner<M, T, S>, Vec<Client<M>>, Publisher<M>)>
+        ensures history { IfOk result (λ f. S.leaves f.history (self ++ End ∷ [])) }
+        ensures legal { OnOk result
+            (IsLegal M.limits.clients M.limits.comms (self ++ End ∷ [])) }
         ensures few { length self ≤ M.limits.history }
-        ensures settled { IfOk result (λ f.
-            All (λ w. IsSettled (entries_of f.history.items) w) clients.items) }
+        ensures settled { OnOk result
+            (All (λ w. IsSettled (self ++ End ∷ []) w) clients.items) }
         ensures untaken { IfOk result (λ f.
-            publisher ++ entries_of f.untaken.items ≡ entries_of f.history.items) }
+            publisher ++ entries_of f.untaken.items ≡ self ++ End ∷ []) }
         ensures err { IfErr result (λ e. (e.0 ≡ self) × (e.1 ≡ clients) × (e.2 ≡ publisher)) }
     {
         let Inner { core, log } = self;
@@ -213,7 +213,7 @@ impl<M: ManagerId, T: Target> Inner<M, T> {
                 writer.end(rt);
                 core.stop_all();
                 Ok(Farewell {
-                    history: journal.into_list(),
+                    history: journal.end(),
                     untaken: outbox.take_rest(rt, publisher.into_side(), room),
                 })
             }
@@ -244,16 +244,17 @@ impl<M: ManagerId, T: Target> Inner<M, T> {
 }
 
 // The log isn't dropped from now on. It is the one `unsafe` of this crate.
-fn wrap_log<M: ManagerId>(log: ChangeLog<M>) -> ManuallyDrop<ChangeLog<M>>
+fn wrap_log<M: ManagerId, S: HistoryStore>(log: ChangeLog<M, S>) -> ManuallyDrop<ChangeLog<M, S>>
     ensures { manually_drop_value result ≡ log }
 {
     unsafe { ManuallyDrop::new_unchecked(log) }
 }
 
-/// What a manager leaves: all entries, an end as the last, and those of them that its publisher hadn't taken.
+/// What a manager leaves: its history, all entries or how many there were, an end as the last; and those of them that its
+/// publisher hadn't taken.
 #[derive(Drop)]
-pub struct Farewell {
-    pub history: Vec<Arc<Entry, Global>>,
+pub struct Farewell<S = KeptHistory> {
+    pub history: S,
     pub untaken: Vec<Arc<Entry, Global>>,
 }
 
@@ -284,10 +285,10 @@ fn build_end(
 
 // Ends the history, publishes that, and lets it go out. Gives the stamp of the end, and a list with room for all that
 // the publisher hasn't taken. Err: memory; nothing changed.
-fn end_history<M: ManagerId, R: Wait>(
+fn end_history<M: ManagerId, S: HistoryStore, R: Wait>(
     rt: &R,
     alloc: Global,
-    journal: &mut Journal,
+    journal: &mut Journal<M, S>,
     writer: &mut VersionWriter<M>,
     outbox: &mut Outbox,
     publisher: &Publisher<M>,
@@ -314,9 +315,9 @@ fn end_history<M: ManagerId, R: Wait>(
     let (change, kept, sent, room) = build_end(alloc, left as usize)?;
     writer.append(change)?;
     writer.publish(rt);
-    journal.add(kept);
-    outbox.put(rt, sent);
     let stamp = writer.stamp();
+    journal.add(kept, stamp.copy());
+    outbox.put(rt, sent);
     let _legal = stamp.number();
     Ok((stamp, room))
 }

@@ -45,8 +45,8 @@
 //! - A target that was handed in comes back as it was where the change isn't made (`boxed` of [`Client::register`]).
 //! - A read, or a stamp that is heard, leaves the client's changes (`made` of the reads and of [`Client::hear`]).
 //! - What is taken is the history from its beginning, each entry once and in order: it grows by the very entry, and
-//!   is legal; and followed by what was left it is the whole history (`next`, `legal` of [`Publisher::take`],
-//!   `untaken` of [`Manager::shutdown`]).
+//!   is legal; and followed by what was left it is the whole history, which is handed out, or counted by a manager
+//!   that keeps none (`next`, `legal` of [`Publisher::take`], `history` of [`Manager::shutdown`]; [`CountedHistory`]).
 //! - A shutdown is refused for MissingClients just where a client is missing, and else for want of memory alone; the
 //!   manager, the clients and the publisher come back as they were (`missing`, `err` of [`Manager::shutdown`]).
 //! - The clients of a new manager are those of its limits, in the order of their numbers, and have made no change and
@@ -196,6 +196,7 @@ pub use builder::ManagerBuilder;
 pub use client::Client;
 pub use comm_versions::{InfoRead, OpeningFault, ReadFault, Stamp, StateRead};
 pub use inner::Farewell;
+pub use journal::{CountedHistory, HistoryStore, KeptHistory};
 pub use manager_id::ManagerId;
 pub use publisher::Publisher;
 pub use shared::{Cause, Manager, ShutdownRefused};

@@ -12,6 +12,7 @@ ghost use Rattle.comm_manager.specs.Why.{IsMissing, all_here, is_here};
 use crate::builder::{ManagerBuilder, first_clients};
 use crate::client::Client;
 use crate::inner::{Farewell, Inner};
+use crate::journal::{HistoryStore, KeptHistory};
 use crate::ledger::SeqTotals;
 use crate::manager_id::ManagerId;
 use crate::publisher::Publisher;
@@ -22,10 +23,11 @@ use std::alloc::Global;
 use std::sync::{Mutex, Wait};
 use thiserror::Error;
 
-/// The manager, which threads share by reference. It can't be dropped: `shutdown` or `discard` ends it.
-pub struct Manager<M: ManagerId, T: Target> {
+/// The manager, which threads share by reference. It can't be dropped: `shutdown` or `discard` ends it. With a
+/// [`CountedHistory`](crate::CountedHistory) as `S` it doesn't keep the entries that were taken.
+pub struct Manager<M: ManagerId, T: Target, S: HistoryStore = KeptHistory> {
     pub(crate) alloc: Global,
-    pub(crate) inner: Mutex<Inner<M, T>>,
+    pub(crate) inner: Mutex<Inner<M, T, S>>,
 }
 
 /// Why a manager isn't shut down.
@@ -40,9 +42,9 @@ pub enum Cause {
 }
 
 /// A shutdown that is refused: all that was handed in.
-pub struct ShutdownRefused<M: ManagerId, T: Target> {
+pub struct ShutdownRefused<M: ManagerId, T: Target, S: HistoryStore = KeptHistory> {
     pub cause: Cause,
-    pub manager: Manager<M, T>,
+    pub manager: Manager<M, T, S>,
     pub clients: Vec<Client<M>>,
     pub publisher: Publisher<M>,
 }
@@ -66,7 +68,7 @@ fn are_here<M: ManagerId>(clients: &[Client<M>], count: u8) -> bool
     true
 }
 
-impl<M: ManagerId, T: Target> Manager<M, T> {
+impl<M: ManagerId, T: Target, S: HistoryStore> Manager<M, T, S> {
     /// Opens the manager that was built: gives it, its clients in the order of their numbers, who have made no change
     /// and seen nothing, and its publisher, which has taken nothing. Err: memory, or the versions had no place for a
     /// reader (NoReader).
@@ -74,7 +76,7 @@ impl<M: ManagerId, T: Target> Manager<M, T> {
         rt: &R,
         alloc: Global,
         builder: ManagerBuilder,
-    ) -> Result<(Manager<M, T>, Vec<Client<M>>, Publisher<M>), OpeningFault>
+    ) -> Result<(Manager<M, T, S>, Vec<Client<M>>, Publisher<M>), OpeningFault>
         requires { Named builder M.book M.ledgers M.queue M.limits }
         ensures clients { IfOk result (λ r. r.1.items ≡ all_new M.limits.clients) }
         ensures publisher { IfOk result (λ r. r.2 ≡ []) }
@@ -106,25 +108,25 @@ impl<M: ManagerId, T: Target> Manager<M, T> {
         }
     }
 
-    /// Ends the history, and each target after its comms, and gives the one history, in which an end stands last.
-    /// What each client has seen is a prefix of it, it has of each client just the changes that were answered to it,
-    /// and what the publisher took followed by what it left is all of it. Err: a client is missing, or else there is
+    /// Ends the history, and each target after its comms, and gives the one history, in which an end stands last, or
+    /// its length. It is what the publisher took followed by what it left. What each client has seen is a prefix of
+    /// it, and it has of each client just the changes that were answered to it. Err: a client is missing, or else there is
     /// no memory for the end; all is handed back as it was, and another shutdown may follow.
     pub fn shutdown<R: Wait>(
         self,
         rt: &R,
         clients: Vec<Client<M>>,
         publisher: Publisher<M>,
-    ) -> Result<Farewell, ShutdownRefused<M, T>>
+    ) -> Result<Farewell<S>, ShutdownRefused<M, T, S>>
+        ensures history { IfOk result (λ f.
+            S.leaves f.history (publisher ++ entries_of f.untaken.items)) }
         ensures legal { IfOk result (λ f.
-            IsLegal M.limits.clients M.limits.comms (entries_of f.history.items)) }
+            IsLegal M.limits.clients M.limits.comms (publisher ++ entries_of f.untaken.items)) }
         ensures ended { IfOk result (λ f.
-            (before : List Entry) × (entries_of f.history.items ≡ before ++ End ∷ [])
+            (before : List Entry) × (publisher ++ entries_of f.untaken.items ≡ before ++ End ∷ [])
             × (length before ≤ M.limits.history)) }
         ensures settled { IfOk result (λ f.
-            All (λ w. IsSettled (entries_of f.history.items) w) clients.items) }
-        ensures untaken { IfOk result (λ f.
-            publisher ++ entries_of f.untaken.items ≡ entries_of f.history.items) }
+            All (λ w. IsSettled (publisher ++ entries_of f.untaken.items) w) clients.items) }
         ensures missing { MatchResult result
             (λ _. all_here M.limits.clients clients.items ≡ true)
             (λ e. IsMissing M.limits.clients clients.items e.cause) }
@@ -155,13 +157,13 @@ impl<M: ManagerId, T: Target> Manager<M, T> {
 }
 
 // The refusal of a shutdown, with all that was handed in.
-fn hand_back<M: ManagerId, T: Target>(
+fn hand_back<M: ManagerId, T: Target, S: HistoryStore>(
     alloc: Global,
     cause: Cause,
-    inner: Inner<M, T>,
+    inner: Inner<M, T, S>,
     clients: Vec<Client<M>>,
     publisher: Publisher<M>,
-) -> ShutdownRefused<M, T>
+) -> ShutdownRefused<M, T, S>
     ensures { (result.cause ≡ cause) × (result.clients ≡ clients) × (result.publisher ≡ publisher) }
 {
     let inner = Mutex::new(inner);

@@ -12,7 +12,7 @@ use comm_json::{
     JsonFault, JsonKind, JsonRef, LineMembers, ObjectRef, ParseArena, TextScratch, read_among,
     read_line,
 };
-use comm_value::{Dict, Numbers, ValueFault};
+use comm_value::{Dict, KnownTexts, Numbers, ValueFault};
 use json::Value;
 use std::alloc::Global;
 
@@ -143,11 +143,13 @@ fn below(number: Option<i128>, clients: u8) -> Result<u8, MessageFault>
     }
 }
 
-/// An object as a dict, with these numbers as values. Err: NotWhole where a number in it isn't one, or Memory.
+/// An object as a dict, with these numbers as values; short texts are shared with those that were met before. Err:
+/// NotWhole where a number in it isn't one, or Memory.
 #[tactic(auto, using(crate::proofs::NoBytes::no_bytes))]
 pub fn dict_of(
     alloc: Global,
     numbers: Numbers,
+    texts: &mut KnownTexts,
     object: Fields<'_, '_>,
 ) -> Result<Dict, MessageFault>
     ensures value { Gives (λ d. d) result (dict_of numbers (fields object.entry)) }
@@ -155,7 +157,7 @@ pub fn dict_of(
 {
     match object {
         None => Ok(Dict::new()),
-        Some(object) => match Dict::from_ref(alloc, numbers, object) {
+        Some(object) => match Dict::from_ref(alloc, numbers, texts, object) {
             Ok(dict) => Ok(dict),
             Err(ValueFault::NotWhole) => Err(MessageFault::NotWhole),
             Err(ValueFault::Memory) => Err(MessageFault::Memory),

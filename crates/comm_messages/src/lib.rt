@@ -44,8 +44,8 @@ pub use laws::{any_number_is_read, written_is_read_again};
 pub use outgoing::{Outgoing, Parent};
 pub use parts::{IncomingParts, ParsedParts, PartsScratch, message_by_parts, parse_parts};
 pub use read::{
-    MessageType, body_of, body_with, heading, message_from, message_in, message_of, object_of,
-    read_message, read_message_with, type_of,
+    MessageType, body_of, body_with, heading, incoming_in, message_from, message_in, message_of,
+    object_of, read_message, read_message_with, type_of,
 };
 pub use write::{
     append_buffers, append_content, append_ids, append_message, append_metadata, write_message,

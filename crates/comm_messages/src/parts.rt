@@ -19,7 +19,7 @@ use crate::incoming::Incoming;
 use crate::read::message_from;
 use bumpalo::Bump;
 use comm_json::{JsonFault, JsonRef, LineValue, TextScratch, read_among};
-use comm_value::Numbers;
+use comm_value::{KnownTexts, Numbers};
 use serde_json::{Number, Value};
 use std::alloc::Global;
 
@@ -157,5 +157,6 @@ pub fn message_by_parts<'a>(
         scratch,
         &lists,
     )?;
-    message_from(alloc, &read.envelope(), clients, numbers)
+    let mut texts = KnownTexts::new(alloc);
+    message_from(alloc, &read.envelope(), clients, numbers, &mut texts)
 }

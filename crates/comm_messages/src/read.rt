@@ -18,7 +18,7 @@ use crate::fields::{
 };
 use crate::incoming::Incoming;
 use comm_json::{JsonKind, JsonRef, ObjectRef, ParseArena};
-use comm_value::{Buffers, Numbers, Text};
+use comm_value::{Buffers, KnownTexts, Numbers, Text};
 use serde_json::Value;
 use std::alloc::{AllocError, Global};
 
@@ -52,8 +52,9 @@ pub fn read_message_with(
     ensures below { 0 < clients → IfOk result (λ r. r.0 < clients) }
 {
     let mut arena = ParseArena::new(alloc);
+    let mut texts = KnownTexts::new(alloc);
     let object = object_in(line, &mut arena)?;
-    message_in(alloc, fields_of(&object), clients, numbers)
+    message_in(alloc, fields_of(&object), clients, numbers, &mut texts)
 }
 
 /// Reads a message from a parsed JSON value, as [`read_message`] does from a line.
@@ -64,24 +65,28 @@ pub fn message_of(alloc: Global, value: &Value, clients: u8) -> Result<(u8, Inco
 {
     match value {
         Value::Object(map) => {
-            message_in(alloc, Some(ObjectRef::Owned(map)), clients, Numbers::Whole)
+            let mut texts = KnownTexts::new(alloc);
+            let fields = Some(ObjectRef::Owned(map));
+            message_in(alloc, fields, clients, Numbers::Whole, &mut texts)
         }
         _ => Err(MessageFault::NotJson),
     }
 }
 
-/// Reads a message from the members of a JSON object, as [`read_message_with`] does from a line.
+/// Reads a message from the members of a JSON object, as [`read_message_with`] does from a line. Its data shares the
+/// short texts that were met before.
 pub fn message_in(
     alloc: Global,
     line: Fields<'_, '_>,
     clients: u8,
     numbers: Numbers,
+    texts: &mut KnownTexts,
 ) -> Result<(u8, Incoming), MessageFault>
     ensures message { Gives (λ r. (r.0, r.1)) result
         (message_in clients numbers (fields line.entry)) }
     ensures below { 0 < clients → IfOk result (λ r. r.0 < clients) }
 {
-    message_from(alloc, &envelope_of_line(line), clients, numbers)
+    message_from(alloc, &envelope_of_line(line), clients, numbers, texts)
 }
 
 /// Makes the tests of a message's fields, with these numbers as values. Gives the client's index, from 0, and the
@@ -92,6 +97,7 @@ pub fn message_from(
     from: &EnvelopeRef<'_, '_>,
     clients: u8,
     numbers: Numbers,
+    texts: &mut KnownTexts,
 ) -> Result<(u8, Incoming), MessageFault>
     ensures message { Gives (λ r. (r.0, r.1)) result
         (message_from clients numbers (envelope from.now)) }
@@ -99,7 +105,7 @@ pub fn message_from(
 {
     let (client, type_) = heading(from, clients)?;
     let content = object_of(Field::Content, from.content)?;
-    let incoming = incoming_in(alloc, numbers, type_, from, content)?;
+    let incoming = incoming_in(alloc, numbers, texts, type_, from, content)?;
     Ok((client, incoming))
 }
 
@@ -196,6 +202,7 @@ fn version_of<'v>(metadata: Fields<'v, '_>) -> Option<&'v str>
 pub fn body_of(
     alloc: Global,
     numbers: Numbers,
+    texts: &mut KnownTexts,
     object: Fields<'_, '_>,
     line: Fields<'_, '_>,
 ) -> Result<Body, MessageFault>
@@ -204,6 +211,7 @@ pub fn body_of(
     body_with(
         alloc,
         numbers,
+        texts,
         object,
         BuffersRef::Encoded(member(line, "buffers")),
     )
@@ -213,20 +221,24 @@ pub fn body_of(
 pub fn body_with(
     alloc: Global,
     numbers: Numbers,
+    texts: &mut KnownTexts,
     object: Fields<'_, '_>,
     buffers: BuffersRef<'_, '_>,
 ) -> Result<Body, MessageFault>
     ensures { Gives (λ b. b) result
         (body_with numbers (fields object.entry) (buffers_in buffers.entry)) }
 {
-    let content = dict_of(alloc, numbers, object)?;
+    let content = dict_of(alloc, numbers, texts, object)?;
     let buffers = buffers_in(alloc, buffers)?;
     Ok(Body::new(content, buffers))
 }
 
-fn incoming_in(
+/// A message of this type, whose content has these members, in the order of the tests that follow those of its
+/// [`heading`] and of its content. Err: the first of them that fails, or Memory.
+pub fn incoming_in(
     alloc: Global,
     numbers: Numbers,
+    texts: &mut KnownTexts,
     type_: MessageType,
     from: &EnvelopeRef<'_, '_>,
     content: Fields<'_, '_>,
@@ -235,9 +247,9 @@ fn incoming_in(
         (incoming_in numbers type_ (envelope from.now) (fields content.entry)) }
 {
     match type_ {
-        MessageType::Open => open_in(alloc, numbers, from, content),
-        MessageType::Msg => msg_in(alloc, numbers, from, content),
-        MessageType::Close => close_in(alloc, from, content),
+        MessageType::Open => open_in(alloc, numbers, texts, from, content),
+        MessageType::Msg => msg_in(alloc, numbers, texts, from, content),
+        MessageType::Close => close_in(alloc, texts, from, content),
         MessageType::InfoRequest => info_request_in(alloc, from, content),
     }
 }
@@ -246,6 +258,7 @@ fn incoming_in(
 fn open_in(
     alloc: Global,
     numbers: Numbers,
+    texts: &mut KnownTexts,
     from: &EnvelopeRef<'_, '_>,
     content: Fields<'_, '_>,
 ) -> Result<Incoming, MessageFault>
@@ -255,7 +268,7 @@ fn open_in(
     let target = text_at(Field::TargetName, "target_name", content)?;
     let data = object_at(Field::Body, "data", content)?;
     let metadata = object_of(Field::Metadata, from.metadata)?;
-    let body = body_with(alloc, numbers, data, from.buffers)?;
+    let body = body_with(alloc, numbers, texts, data, from.buffers)?;
     Ok(open_message(alloc, id, target, version_of(metadata), body)?)
 }
 
@@ -293,6 +306,7 @@ fn copy_optional(alloc: Global, text: Option<&str>) -> Result<Option<Text>, Allo
 fn msg_in(
     alloc: Global,
     numbers: Numbers,
+    texts: &mut KnownTexts,
     from: &EnvelopeRef<'_, '_>,
     content: Fields<'_, '_>,
 ) -> Result<Incoming, MessageFault>
@@ -301,9 +315,9 @@ fn msg_in(
     let id = text_at(Field::CommId, "comm_id", content)?;
     let data = object_at(Field::Body, "data", content)?;
     object_of(Field::Metadata, from.metadata)?;
-    let body = body_with(alloc, numbers, data, from.buffers)?;
+    let body = body_with(alloc, numbers, texts, data, from.buffers)?;
     Ok(Incoming::Msg {
-        id: Text::copy_of(alloc, id)?,
+        id: texts.text(alloc, id)?,
         body,
     })
 }
@@ -311,6 +325,7 @@ fn msg_in(
 #[tactic(auto, unfolding(crate::specs::Message::close_in))]
 fn close_in(
     alloc: Global,
+    texts: &mut KnownTexts,
     from: &EnvelopeRef<'_, '_>,
     content: Fields<'_, '_>,
 ) -> Result<Incoming, MessageFault>
@@ -320,7 +335,7 @@ fn close_in(
     object_at(Field::Body, "data", content)?;
     unused_in(alloc, from)?;
     Ok(Incoming::Close {
-        id: Text::copy_of(alloc, id)?,
+        id: texts.text(alloc, id)?,
     })
 }
 

@@ -21,7 +21,9 @@ use comm_json::{JsonKind, JsonRef};
 use comm_messages::{
     BuffersRef, Fields, body_of, buffers_in, dict_of, member, object_or_empty, text,
 };
-use comm_value::{Buffers, Dict, Numbers, Path, Text, Val, ValueFault, paths_of, put_all};
+use comm_value::{
+    Buffers, Dict, KnownTexts, Numbers, Path, Text, Val, ValueFault, paths_of, put_all,
+};
 use std::alloc::Global;
 use uuid::Uuid;
 
@@ -95,13 +97,14 @@ fn kind_field(line: Fields<'_, '_>) -> Result<StockKind, LineFault>
 fn value_in(
     alloc: Global,
     numbers: Numbers,
+    texts: &mut KnownTexts,
     json: Option<JsonRef<'_, '_>>,
 ) -> Result<Option<Val>, LineFault>
     ensures { Gives (λ v. option_map tree v) result (value_in numbers (behind json.entry)) }
 {
     match json {
         None => Ok(None),
-        Some(json) => Ok(Some(Val::from_ref(alloc, numbers, json)?)),
+        Some(json) => Ok(Some(Val::from_ref(alloc, numbers, texts, json)?)),
     }
 }
 
@@ -142,6 +145,7 @@ fn placed_at(
 pub fn state_with(
     alloc: Global,
     numbers: Numbers,
+    texts: &mut KnownTexts,
     object: Fields<'_, '_>,
     paths: Option<JsonRef<'_, '_>>,
     buffers: BuffersRef<'_, '_>,
@@ -149,8 +153,8 @@ pub fn state_with(
     ensures { Gives (λ d. d) result
         (state_with numbers (fields object.entry) (behind paths.entry) (buffers_in buffers.entry)) }
 {
-    let state = dict_of(alloc, numbers, object)?;
-    let paths = match value_in(alloc, numbers, paths) {
+    let state = dict_of(alloc, numbers, texts, object)?;
+    let paths = match value_in(alloc, numbers, texts, paths) {
         Ok(paths) => paths,
         Err(fault) => {
             drop(state);
@@ -170,6 +174,7 @@ pub fn state_with(
 fn state_in(
     alloc: Global,
     numbers: Numbers,
+    texts: &mut KnownTexts,
     object: Fields<'_, '_>,
     line: Fields<'_, '_>,
 ) -> Result<Dict, LineFault>
@@ -177,7 +182,7 @@ fn state_in(
 {
     let paths = member(line, "buffer_paths");
     let buffers = BuffersRef::Encoded(member(line, "buffers"));
-    state_with(alloc, numbers, object, paths, buffers)
+    state_with(alloc, numbers, texts, object, paths, buffers)
 }
 
 #[tactic(auto, unfolding(crate::specs::Command::register_in))]
@@ -230,7 +235,12 @@ pub fn launched(alloc: Global, name: &str, uuid: &str, state: Dict) -> Result<Re
 }
 
 #[tactic(auto, unfolding(crate::specs::Command::launch_in))]
-fn launch_in(alloc: Global, numbers: Numbers, line: Fields<'_, '_>) -> Result<Request, LineFault>
+fn launch_in(
+    alloc: Global,
+    numbers: Numbers,
+    texts: &mut KnownTexts,
+    line: Fields<'_, '_>,
+) -> Result<Request, LineFault>
     ensures asked { Gives (λ a. a) result (launch_in numbers (fields line.entry)) }
     ensures handless { IfOk result HandsNothing }
 {
@@ -238,33 +248,43 @@ fn launch_in(alloc: Global, numbers: Numbers, line: Fields<'_, '_>) -> Result<Re
     let uuid = text_field(Key::Uuid, "uuid", line)?;
     let object = object_field(Key::State, "state", line)?;
     list_field(line)?;
-    let state = state_in(alloc, numbers, object, line)?;
+    let state = state_in(alloc, numbers, texts, object, line)?;
     launched(alloc, name, uuid, state)
 }
 
 #[tactic(auto, unfolding(crate::specs::Command::push_in))]
-fn push_in(alloc: Global, numbers: Numbers, line: Fields<'_, '_>) -> Result<Request, LineFault>
+fn push_in(
+    alloc: Global,
+    numbers: Numbers,
+    texts: &mut KnownTexts,
+    line: Fields<'_, '_>,
+) -> Result<Request, LineFault>
     ensures asked { Gives (λ a. a) result (push_in numbers (fields line.entry)) }
     ensures handless { IfOk result HandsNothing }
 {
     let id = text_field(Key::Id, "id", line)?;
     let object = object_field(Key::State, "state", line)?;
     list_field(line)?;
-    let id = Text::copy_of(alloc, id)?;
-    let state = state_in(alloc, numbers, object, line)?;
+    let id = texts.text(alloc, id)?;
+    let state = state_in(alloc, numbers, texts, object, line)?;
     Ok(Request::Change(Call::Push { id, state }))
 }
 
 #[tactic(auto, unfolding(crate::specs::Command::send_in))]
-fn send_in(alloc: Global, numbers: Numbers, line: Fields<'_, '_>) -> Result<Request, LineFault>
+fn send_in(
+    alloc: Global,
+    numbers: Numbers,
+    texts: &mut KnownTexts,
+    line: Fields<'_, '_>,
+) -> Result<Request, LineFault>
     ensures asked { Gives (λ a. a) result (send_in numbers (fields line.entry)) }
     ensures handless { IfOk result HandsNothing }
 {
     let id = text_field(Key::Id, "id", line)?;
     let object = object_field(Key::Data, "data", line)?;
     list_field(line)?;
-    let id = Text::copy_of(alloc, id)?;
-    let body = body_of(alloc, numbers, object, line)?;
+    let id = texts.text(alloc, id)?;
+    let body = body_of(alloc, numbers, texts, object, line)?;
     Ok(Request::Change(Call::Send { id, body }))
 }
 
@@ -289,6 +309,7 @@ fn state_read_in(alloc: Global, line: Fields<'_, '_>) -> Result<Request, LineFau
 fn command_named(
     alloc: Global,
     numbers: Numbers,
+    texts: &mut KnownTexts,
     name: &str,
     line: Fields<'_, '_>,
 ) -> Result<Request, LineFault>
@@ -300,11 +321,11 @@ fn command_named(
     } else if name == "unregister" {
         unregister_in(alloc, line)
     } else if name == "launch" {
-        launch_in(alloc, numbers, line)
+        launch_in(alloc, numbers, texts, line)
     } else if name == "push" {
-        push_in(alloc, numbers, line)
+        push_in(alloc, numbers, texts, line)
     } else if name == "send" {
-        send_in(alloc, numbers, line)
+        send_in(alloc, numbers, texts, line)
     } else if name == "hang_up" {
         hang_up_in(alloc, line)
     } else if name == "state" {
@@ -318,6 +339,7 @@ fn command_named(
 pub fn command(
     alloc: Global,
     numbers: Numbers,
+    texts: &mut KnownTexts,
     call: JsonRef<'_, '_>,
     line: Fields<'_, '_>,
 ) -> Result<Request, LineFault>
@@ -326,7 +348,7 @@ pub fn command(
     ensures handless { IfOk result HandsNothing }
 {
     match call.kind() {
-        JsonKind::Text(name) => command_named(alloc, numbers, name, line),
+        JsonKind::Text(name) => command_named(alloc, numbers, texts, name, line),
         JsonKind::Null
         | JsonKind::Bool(_)
         | JsonKind::Number(_)

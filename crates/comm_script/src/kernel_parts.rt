@@ -11,7 +11,7 @@ use crate::command::{launched, state_with};
 use comm_core::Call;
 use comm_json::JsonRef;
 use comm_messages::{BuffersRef, Fields, body_with, object_or_empty};
-use comm_value::{Numbers, Text};
+use comm_value::{KnownTexts, Numbers};
 use std::alloc::Global;
 
 fn object_part<'v, 'a>(key: Key, value: JsonRef<'v, 'a>) -> Result<Fields<'v, 'a>, LineFault>
@@ -29,6 +29,7 @@ fn object_part<'v, 'a>(key: Key, value: JsonRef<'v, 'a>) -> Result<Fields<'v, 'a
 pub fn launch_with(
     alloc: Global,
     numbers: Numbers,
+    texts: &mut KnownTexts,
     name: &str,
     uuid: &str,
     state: JsonRef<'_, '_>,
@@ -40,7 +41,7 @@ pub fn launch_with(
     ensures handless { IfOk result HandsNothing }
 {
     let object = object_part(Key::State, state)?;
-    let state = state_with(alloc, numbers, object, Some(paths), buffers)?;
+    let state = state_with(alloc, numbers, texts, object, Some(paths), buffers)?;
     launched(alloc, name, uuid, state)
 }
 
@@ -49,6 +50,7 @@ pub fn launch_with(
 pub fn push_with(
     alloc: Global,
     numbers: Numbers,
+    texts: &mut KnownTexts,
     id: &str,
     state: JsonRef<'_, '_>,
     paths: JsonRef<'_, '_>,
@@ -59,8 +61,8 @@ pub fn push_with(
     ensures handless { IfOk result HandsNothing }
 {
     let object = object_part(Key::State, state)?;
-    let id = Text::copy_of(alloc, id)?;
-    let state = state_with(alloc, numbers, object, Some(paths), buffers)?;
+    let id = texts.text(alloc, id)?;
+    let state = state_with(alloc, numbers, texts, object, Some(paths), buffers)?;
     Ok(Request::Change(Call::Push { id, state }))
 }
 
@@ -69,6 +71,7 @@ pub fn push_with(
 pub fn send_with(
     alloc: Global,
     numbers: Numbers,
+    texts: &mut KnownTexts,
     id: &str,
     data: JsonRef<'_, '_>,
     buffers: BuffersRef<'_, '_>,
@@ -78,7 +81,7 @@ pub fn send_with(
     ensures handless { IfOk result HandsNothing }
 {
     let object = object_part(Key::Data, data)?;
-    let id = Text::copy_of(alloc, id)?;
-    let body = body_with(alloc, numbers, object, buffers)?;
+    let id = texts.text(alloc, id)?;
+    let body = body_with(alloc, numbers, texts, object, buffers)?;
     Ok(Request::Change(Call::Send { id, body }))
 }

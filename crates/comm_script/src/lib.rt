@@ -35,7 +35,7 @@ pub use backend::Backend;
 pub use fault::RunFault;
 pub use kernel_parts::{launch_with, push_with, send_with};
 pub use laws::scripts_make_legal_histories;
-pub use line::{asked_from, parse_line, parse_line_among};
+pub use line::{LineMemory, asked_by_message, asked_from, parse_line, parse_line_among};
 pub use lines::{is_blank, split_line};
 pub use player::{append_fault, play_line};
 pub use running::{run, run_with};

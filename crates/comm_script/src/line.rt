@@ -13,10 +13,29 @@ use comm_messages::{
     EnvelopeRef, Fields, Incoming, client_of, envelope_of_line, fields_of, member, message_from,
     object_among, object_in,
 };
-use comm_value::Numbers;
+use comm_value::{KnownTexts, Numbers};
 use std::alloc::Global;
 
-fn asked_by_message(incoming: Incoming) -> Request
+/// The memory that lines are read with: what they are parsed into, and the short texts that were met before. It changes
+/// nothing of what is read: keep one from line to line, so that few lines take memory for it.
+#[derive(Drop)]
+pub struct LineMemory {
+    arena: ParseArena,
+    texts: KnownTexts,
+}
+
+impl LineMemory {
+    /// An empty one, which has allocated nothing.
+    pub fn new(alloc: Global) -> LineMemory {
+        LineMemory {
+            arena: ParseArena::new(alloc),
+            texts: KnownTexts::new(alloc),
+        }
+    }
+}
+
+/// What a frontend's message asks for.
+pub fn asked_by_message(incoming: Incoming) -> Request
     ensures asked { result ≡ asked_by_message incoming }
     ensures handless { HandsNothing result }
 {
@@ -45,6 +64,7 @@ pub fn asked_from(
     from: &EnvelopeRef<'_, '_>,
     clients: u8,
     numbers: Numbers,
+    texts: &mut KnownTexts,
 ) -> Result<(u8, Request), LineFault>
     requires { 0 < clients }
     ensures asked { Gives (λ r. (r.0, r.1)) result
@@ -52,7 +72,7 @@ pub fn asked_from(
     ensures below { IfOk result (λ r. r.0 < clients) }
     ensures handless { IfOk result (λ r. HandsNothing r.1) }
 {
-    let (client, incoming) = message_from(alloc, from, clients, numbers)?;
+    let (client, incoming) = message_from(alloc, from, clients, numbers, texts)?;
     Ok((client, asked_by_message(incoming)))
 }
 
@@ -61,6 +81,7 @@ fn asked_in(
     line: Fields<'_, '_>,
     clients: u8,
     numbers: Numbers,
+    texts: &mut KnownTexts,
 ) -> Result<(u8, Request), LineFault>
     requires { 0 < clients }
     ensures asked { Gives (λ r. (r.0, r.1)) result (asked_in numbers clients (fields line.entry)) }
@@ -68,31 +89,31 @@ fn asked_in(
     ensures handless { IfOk result (λ r. HandsNothing r.1) }
 {
     match member(line, "call") {
-        None => asked_from(alloc, &envelope_of_line(line), clients, numbers),
+        None => asked_from(alloc, &envelope_of_line(line), clients, numbers, texts),
         Some(call) => {
             let client = client_of(member(line, "client"), clients)?;
-            let asked = command(alloc, numbers, call, line)?;
+            let asked = command(alloc, numbers, texts, call, line)?;
             Ok((client, asked))
         }
     }
 }
 
-/// The client of a line, and what the line asks for. The arena serves the reading, and can be kept from line to line,
-/// so that few lines take memory for it.
+/// The client of a line, and what the line asks for. Err: the first test that fails, or Memory.
 pub fn parse_line(
     alloc: Global,
     line: &[u8],
     clients: u8,
     numbers: Numbers,
-    arena: &mut ParseArena,
+    memory: &mut LineMemory,
 ) -> Result<(u8, Request), LineFault>
     requires { 0 < clients }
     ensures asked { Gives (λ r. (r.0, r.1)) result (asked numbers clients line.now) }
     ensures below { IfOk result (λ r. r.0 < clients) }
     ensures handless { IfOk result (λ r. HandsNothing r.1) }
 {
+    let LineMemory { arena, texts } = memory;
     let object = object_in(line, arena)?;
-    asked_in(alloc, fields_of(&object), clients, numbers)
+    asked_in(alloc, fields_of(&object), clients, numbers, texts)
 }
 
 /// Reads a line as [`parse_line`] does. Its strings are parsed into the scratch, its lists into the arena.
@@ -103,6 +124,7 @@ pub fn parse_line_among<'a>(
     numbers: Numbers,
     scratch: &'a mut TextScratch,
     lists: &'a Bump,
+    texts: &mut KnownTexts,
 ) -> Result<(u8, Request), LineFault>
     requires { 0 < clients }
     ensures asked { Gives (λ r. (r.0, r.1)) result (asked numbers clients line.now) }
@@ -110,5 +132,5 @@ pub fn parse_line_among<'a>(
     ensures handless { IfOk result (λ r. HandsNothing r.1) }
 {
     let members = object_among(line, scratch, lists)?;
-    asked_in(alloc, fields_of(&members), clients, numbers)
+    asked_in(alloc, fields_of(&members), clients, numbers, texts)
 }

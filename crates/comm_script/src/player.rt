@@ -7,10 +7,9 @@ ghost use Rattle.comm_script.specs.Player.{line_turn, AppendsTurn, TakesTurn, Ex
 use crate::asked::{LineFault, Request};
 use crate::backend::Backend;
 use crate::fault::RunFault;
-use crate::line::parse_line;
+use crate::line::{LineMemory, parse_line};
 use crate::lines::is_blank;
 use crate::wording::append_bad;
-use comm_json::ParseArena;
 use comm_value::Numbers;
 use std::alloc::Global;
 
@@ -41,7 +40,7 @@ pub fn play_line<B: Backend, F: Fn(&mut B, u64, u8, Request, &mut Vec<u8>) -> Re
     numbers: Numbers,
     number: u64,
     line: &[u8],
-    arena: &mut ParseArena,
+    memory: &mut LineMemory,
     text: &mut Vec<u8>,
 ) -> Result<(), RunFault>
     requires some { 0 < clients }
@@ -61,7 +60,7 @@ pub fn play_line<B: Backend, F: Fn(&mut B, u64, u8, Request, &mut Vec<u8>) -> Re
     if is_blank(line) {
         return Ok(());
     }
-    match parse_line(alloc, line, clients, numbers, arena) {
+    match parse_line(alloc, line, clients, numbers, memory) {
         Ok((client, request)) => execute(backend, number, client, request, text),
         Err(fault) => append_fault(number, fault, text),
     }

@@ -6,20 +6,57 @@ ghost use Rattle.comm_core.specs.declared.limits.Limits.{Limits};
 ghost use Rattle.comm_core.specs.Machine.{Registered};
 ghost use Rattle.comm_script.specs.Lines.{has_line_feed};
 ghost use Rattle.comm_script.specs.Played.{played, Begins, Stops, Pauses};
-ghost use Rattle.comm_script.specs.Player.{Says, Cuts, Executes, IsBackendFault};
+ghost use Rattle.comm_script.specs.Player.{line_turn, AppendsTurn, TakesTurn, Says, Cuts, Executes, IsBackendFault};
 
 use crate::asked::Request;
 use crate::backend::Backend;
 use crate::fault::RunFault;
+use crate::line::LineMemory;
 use crate::lines::split_line;
 use crate::player::play_line;
-use comm_json::ParseArena;
 use comm_value::Numbers;
 use std::alloc::Global;
 use std::io::{ErrorKind, Read, Write};
 
 /// How many bytes of a script are read at a time, at most.
 const CHUNK: usize = 65_536;
+
+// Plays the line that what is pending and its end make; nothing is pending then. A line that lies in one chunk isn't
+// put together so, but played where it is.
+fn play_joined<B: Backend, F: Fn(&mut B, u64, u8, Request, &mut Vec<u8>) -> Result<(), RunFault>>(
+    backend: &mut B,
+    execute: &F,
+    alloc: Global,
+    clients: u8,
+    numbers: Numbers,
+    number: u64,
+    pending: &mut Vec<u8>,
+    end: &[u8],
+    memory: &mut LineMemory,
+    text: &mut Vec<u8>,
+) -> Result<(), RunFault>
+    requires some { 0 < clients }
+    requires sound { B.is_sound clients backend.old }
+    requires few { B.change_count backend.old < 2 ^ 63 }
+    requires executes { Executes F.Fn execute.now B.stands (B.is_sound clients) B.follows
+        B.change_count clients }
+    ensures text { OnOk result (AppendsTurn B.stands
+        (line_turn numbers number (pending.old.items ++ end.now))
+        backend.old text.old.items text.new.items) }
+    ensures turn { OnOk result (TakesTurn B.stands
+        (line_turn numbers number (pending.old.items ++ end.now)) backend.old backend.new) }
+    ensures count { B.change_count backend.new ≤ B.change_count backend.old + 1 }
+    ensures kept { B.is_sound clients backend.new }
+    ensures empty { OnOk result (pending.new.items ≡ []) }
+    ensures fault { IfErr result IsBackendFault }
+{
+    pending.extend_from_slice(end)?;
+    play_line(
+        backend, execute, alloc, clients, numbers, number, pending, memory, text,
+    )?;
+    pending.clear();
+    Ok(())
+}
 
 // Plays the lines that end in a chunk of the script. What follows them is pending.
 fn play_chunk<B: Backend, F: Fn(&mut B, u64, u8, Request, &mut Vec<u8>) -> Result<(), RunFault>>(
@@ -28,7 +65,7 @@ fn play_chunk<B: Backend, F: Fn(&mut B, u64, u8, Request, &mut Vec<u8>) -> Resul
     alloc: Global,
     clients: u8,
     numbers: Numbers,
-    arena: &mut ParseArena,
+    memory: &mut LineMemory,
     number: &mut u64,
     pending: &mut Vec<u8>,
     chunk: &[u8],
@@ -54,12 +91,16 @@ fn play_chunk<B: Backend, F: Fn(&mut B, u64, u8, Request, &mut Vec<u8>) -> Resul
     let mut rest = chunk;
     let mut n = *number;
     while let Some((line, more)) = split_line(rest) {
-        pending.extend_from_slice(line)?;
         n += 1;
-        play_line(
-            backend, execute, alloc, clients, numbers, n, pending, arena, text,
-        )?;
-        pending.clear();
+        if pending.is_empty() {
+            play_line(
+                backend, execute, alloc, clients, numbers, n, line, memory, text,
+            )?;
+        } else {
+            play_joined(
+                backend, execute, alloc, clients, numbers, n, pending, line, memory, text,
+            )?;
+        }
         rest = more;
     }
     *number = n;
@@ -74,7 +115,7 @@ fn play_last<B: Backend, F: Fn(&mut B, u64, u8, Request, &mut Vec<u8>) -> Result
     alloc: Global,
     clients: u8,
     numbers: Numbers,
-    arena: &mut ParseArena,
+    memory: &mut LineMemory,
     number: u64,
     pending: &[u8],
     text: &mut Vec<u8>,
@@ -104,7 +145,7 @@ fn play_last<B: Backend, F: Fn(&mut B, u64, u8, Request, &mut Vec<u8>) -> Result
         numbers,
         number + 1,
         pending,
-        arena,
+        memory,
         text,
     )?;
     Ok(())
@@ -158,7 +199,7 @@ pub fn play_script<
     ensures kept { B.is_sound clients backend.new }
     ensures fault { IfErr result (λ e. e ≢ RunFault.BadLimits) }
 {
-    let mut arena = ParseArena::new(alloc);
+    let mut memory = LineMemory::new(alloc);
     let mut number = 0u64;
     let mut pending = Vec::new(alloc);
     let mut text = Vec::new(alloc);
@@ -167,7 +208,14 @@ pub fn play_script<
         match reader.read(&mut chunk) {
             Ok(0) => {
                 play_last(
-                    backend, execute, alloc, clients, numbers, &mut arena, number, &pending,
+                    backend,
+                    execute,
+                    alloc,
+                    clients,
+                    numbers,
+                    &mut memory,
+                    number,
+                    &pending,
                     &mut text,
                 )?;
                 write_all_and_flush(writer, &mut text)?;
@@ -180,7 +228,7 @@ pub fn play_script<
                     alloc,
                     clients,
                     numbers,
-                    &mut arena,
+                    &mut memory,
                     &mut number,
                     &mut pending,
                     &chunk[..n],

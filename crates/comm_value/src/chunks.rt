@@ -192,11 +192,11 @@ fn put_shared(
     }
 }
 
-// Whether a member that changes in a chunk of this length, beside this number of others, gets a chunk of its own.
-// What changed once is likely to change again, as a slider's value does, and is then copied alone. Where there are
+// Whether a member that changes in a chunk of this length, beside this number of others, is cut out into a chunk of its
+// own. What changed once is likely to change again, as a slider's value does, and is then copied alone. Where there are
 // many chunks already, their pointers would cost more.
 fn gets_own_chunk(length: usize, others: usize) -> bool {
-    length == 1 || (3 < length && others / 6 < length)
+    3 < length && others / 6 < length
 }
 
 // The chunks with copies of these members inserted at an index, the new member in place of member i and in its own
@@ -268,7 +268,7 @@ fn copies_with(
     ensures { IfOk result
         (λ all. all.items ≡ take from members.now ++ member ∷ drop to members.now) }
 {
-    let mut all = Vec::with_capacity(alloc, members.len() + 1)?;
+    let mut all = Vec::with_capacity(alloc, members.len() - (to - from) + 1)?;
     push_copies(&members[..from], &mut all)?;
     all.push(member)?;
     push_copies(&members[to..], &mut all)?;

@@ -10,28 +10,18 @@ ghost use Rattle.comm_versions.specs.Known.{origin_of};
 ghost use Rattle.comm_versions.specs.Listing.{ListsAlikeSince};
 ghost use Rattle.comm_versions.specs.declared.reads.ReadFault.TheVariants as fault;
 
-use crate::comm_table::CommTable;
 use crate::history::History;
 use crate::raw_front::RawFront;
-use crate::reader_state::ReaderState;
+use crate::reader_state::{ReaderState, Shown};
 use crate::reads::{InfoRead, ReadFault, StateRead};
 use crate::stamp::Stamp;
 use crate::version::{SeeStep, SnapshotReader, Version};
-use comm_core::{comms_in_order_are_the_comms, replays_are_consistent};
+use comm_core::{StateAnswer, comms_in_order_are_the_comms, replays_are_consistent};
 use comm_messages::Infos;
 use comm_value::Text;
 use core::mem::replace_with;
 use std::alloc::{AllocError, Global};
 use std::marker::Model;
-use std::sync::Arc;
-
-// The table that is shown, the length of its front, and since when its listing is the same.
-#[derive(Drop)]
-struct Shown {
-    front: u64,
-    listing_since: u64,
-    root: Arc<CommTable, Global>,
-}
 
 /// Reads the comms that are shown. Contracts see the front that it has seen.
 #[derive(Drop)]
@@ -58,26 +48,32 @@ impl<M: History> Model for VersionReader<M> {
         × ((known_at r.snapshots.place).1.origin ≡ origin_of M.book M.limits) };
 }
 
-// A front that is shown, and its version, unless the count of its root couldn't be raised.
-type Found = (RawFront, Result<Version, AllocError>);
+// A front that is shown, and its version; none where that was read already, and Err where the count of its root
+// couldn't be raised.
+type Found = (RawFront, Option<Result<Version, AllocError>>);
 
-// The version that is shown; its front includes what was shown before.
+// The version that is shown; its front includes what was shown before. The one after so many entries was read already:
+// threads that share its count would wait for each other.
 //
 // A publish waits for readers that are inside, from `enter_as` to `leave`. So nothing is done there but to share the
 // root and to copy the front: no memory is taken, no string compared, nothing else counted. No contract says that.
-fn current_version(snapshots: SnapshotReader) -> (SnapshotReader, Option<Found>)
+fn current_version(snapshots: SnapshotReader, known: Option<u64>) -> (SnapshotReader, Option<Found>)
     requires { (view snapshots.place).0 ≡ true }
     ensures knows { ((view result.0.place).0 ≡ true)
         × ((view result.0.place).1.origin ≡ (view snapshots.place).1.origin) }
     ensures found { IfSome result.1 (λ r.
         (r.0.origin ≡ (view snapshots.place).1.origin)
-        × IsPrefix (view snapshots.place).1.entries r.0.entries × IfOk r.1 (λ v. v.front ≡ r.0)) }
+        × IsPrefix (view snapshots.place).1.entries r.0.entries
+        × IfSome r.1 (λ o. IfOk o (λ v. v.front ≡ r.0))) }
 {
     match snapshots.enter_as::<SeeStep>() {
         Ok(reading) => {
             let shown = reading.get();
             let raw = shown.front.copy();
-            let version = shown.try_clone();
+            let version = match known {
+                Some(count) if count == raw.len() => None,
+                _ => Some(shown.try_clone()),
+            };
             (reading.leave(), Some((raw, version)))
         }
         Err(snapshots) => (snapshots, None),
@@ -87,37 +83,40 @@ fn current_version(snapshots: SnapshotReader) -> (SnapshotReader, Option<Found>)
 // Takes note of the version that was found. NoVersion comes only where none was. A version whose root couldn't be
 // shared is want of memory. So is one that lags behind what was seen: there is none, since a stamp is made after its
 // front was published, but no contract says so.
-fn see<M: History>(
-    reader_state: &mut ReaderState<M>,
-    found: Option<Found>,
-) -> Result<Shown, ReadFault>
+fn see<M: History>(reader_state: &mut ReaderState<M>, found: Option<Found>) -> Result<(), ReadFault>
     requires origin { IfSome found (λ r. r.0.origin ≡ origin_of M.book M.limits) }
-    requires version { IfSome found (λ r. IfOk r.1 (λ v. v.front ≡ r.0)) }
+    requires version { IfSome found (λ r. IfSome r.1 (λ o. IfOk o (λ v. v.front ≡ r.0))) }
     ensures later { IsPrefix reader_state.old reader_state.new }
-    ensures shown { IfOk result (λ r.
-        (r.front ≡ length reader_state.new)
-        × IsLegal M.limits.clients M.limits.comms reader_state.new
-        × (arc_value r.root ≡ rows (replay M.limits.comms reader_state.new))
-        × ListsAlikeSince M.limits.comms r.listing_since reader_state.new) }
     ensures nothing { IsErrOf result fault.NoVersion → found ≡ None }
     ensures none { IsErrOf result fault.NoVersion → reader_state.new ≡ reader_state.old }
 {
     let Some((raw, version)) = found else {
         return Err(ReadFault::NoVersion);
     };
-    let shown: Stamp<M> = Stamp::from_raw(raw);
-    if !reader_state.front().is_prefix_of(&shown) {
+    let Some(version) = version else {
+        return Ok(());
+    };
+    let front: Stamp<M> = Stamp::from_raw(raw);
+    if !reader_state.front().is_prefix_of(&front) {
         return Err(ReadFault::Memory);
     }
-    let front = shown.number();
-    reader_state.advance(shown);
     match version {
-        Ok(version) => Ok(Shown {
-            front,
-            listing_since: version.listing_since,
-            root: version.into_root(),
-        }),
-        Err(_) => Err(ReadFault::Memory),
+        Ok(version) => {
+            let listing_since = version.listing_since;
+            let root = version.into_root();
+            reader_state.read(
+                front,
+                Shown {
+                    root,
+                    listing_since,
+                },
+            );
+            Ok(())
+        }
+        Err(_) => {
+            reader_state.advance(front);
+            Err(ReadFault::Memory)
+        }
     }
 }
 
@@ -134,42 +133,52 @@ impl<M: History> VersionReader<M> {
         }
     }
 
-    // What is shown now. Its front includes all that was seen before.
-    fn enter(&mut self) -> Result<Shown, ReadFault>
+    // Sees what is shown now. Its front includes all that was seen before.
+    fn enter(&mut self) -> Result<(), ReadFault>
         ensures later { IsPrefix self.old self.new }
-        ensures shown { IfOk result (λ r.
-            (r.front ≡ length self.new) × IsLegal M.limits.clients M.limits.comms self.new
-            × (arc_value r.root ≡ rows (replay M.limits.comms self.new))
-            × ListsAlikeSince M.limits.comms r.listing_since self.new) }
+        ensures legal { OnOk result (IsLegal M.limits.clients M.limits.comms self.new) }
         ensures none { IsErrOf result fault.NoVersion → self.new ≡ self.old }
     {
+        let known = self.reader_state.shown_at();
         let found = replace_with(
             &mut self.snapshots,
-            (),
-            |snapshots, _| current_version(snapshots),
+            known,
+            |snapshots, known| current_version(snapshots, known),
         );
-        see(&mut self.reader_state, found)
+        see(&mut self.reader_state, found)?;
+        let _legal = self.reader_state.front().number();
+        Ok(())
     }
 
-    // The comms that are shown and asked for: the cached list, where no comm opened or closed since it was read.
-    fn list(
-        &mut self,
-        alloc: Global,
-        shown: &Shown,
-        asked: Option<&Text>,
-    ) -> Result<Infos, AllocError>
-        requires root { arc_value shown.now.root ≡ rows (replay M.limits.comms self.old) }
-        requires settled { ListsAlikeSince M.limits.comms shown.now.listing_since self.old }
+    // The comms that are shown and asked for: the cached list, where no comm opened or closed since it was read. Err:
+    // memory, or nothing was read of what is shown.
+    fn list(&mut self, alloc: Global, asked: Option<&Text>) -> Result<Infos, AllocError>
         ensures seen { self.new ≡ self.old }
         ensures comms { IfOk result (λ i.
             i ≡ infos (replay M.limits.comms self.old) (option_map (λ t. t.now) asked.entry)) }
     {
+        let Some(shown) = self.reader_state.shown() else {
+            return Err(AllocError);
+        };
         if let Some(comms) = self.reader_state.cached_infos(shown.listing_since, asked) {
             return comms.copy();
         }
         let comms = shown.root.infos(alloc, asked)?;
         self.reader_state.keep(asked, &comms)?;
         Ok(comms)
+    }
+
+    // The state of the comm of this id that is shown. Err: memory, or nothing was read of what is shown.
+    fn state(&self, id: &Text) -> Result<StateAnswer, AllocError>
+        requires { IsLegal M.limits.clients M.limits.comms self.now }
+        ensures { IfOk result (λ a. a ≡ state_of (replay M.limits.comms self.now) id.now) }
+    {
+        replays_are_consistent();
+        comms_in_order_are_the_comms();
+        let Some(shown) = self.reader_state.shown() else {
+            return Err(AllocError);
+        };
+        shown.root.state(id)
     }
 
     /// The open comms with the names of their targets, all or those of one target, after the entries that are then
@@ -184,12 +193,10 @@ impl<M: History> VersionReader<M> {
             (option_map (λ t. t.now) asked.entry)) }
         ensures none { IsErrOf result fault.NoVersion → self.new ≡ self.old }
     {
-        let shown = self.enter()?;
-        match self.list(alloc, &shown, asked) {
-            Ok(comms) => Ok(InfoRead {
-                front: shown.front,
-                comms,
-            }),
+        self.enter()?;
+        let front = self.reader_state.front().number();
+        match self.list(alloc, asked) {
+            Ok(comms) => Ok(InfoRead { front, comms }),
             Err(_) => Err(ReadFault::Memory),
         }
     }
@@ -204,10 +211,9 @@ impl<M: History> VersionReader<M> {
             r.answer ≡ state_of (replay M.limits.comms self.new) id.now) }
         ensures none { IsErrOf result fault.NoVersion → self.new ≡ self.old }
     {
-        replays_are_consistent();
-        comms_in_order_are_the_comms();
-        let Shown { front, root, .. } = self.enter()?;
-        match root.state(id) {
+        self.enter()?;
+        let front = self.reader_state.front().number();
+        match self.state(id) {
             Ok(answer) => Ok(StateRead { front, answer }),
             Err(_) => Err(ReadFault::Memory),
         }

@@ -7,10 +7,10 @@ use crate::script::{ClientScript, ScriptLine};
 use crate::shared_state::SharedState;
 use crate::transcript::Transcript;
 use comm_core::Unavailable;
-use comm_json::ParseArena;
 use comm_manager::{Answered, Client, Manager, ManagerId, Stamp};
 use comm_script::{
-    LineFault, Request, RunFault, StockKind, append_bad, append_fault, append_reply, parse_line,
+    LineFault, LineMemory, Request, RunFault, StockKind, append_bad, append_fault, append_reply,
+    parse_line,
 };
 use comm_targets::Target;
 use comm_value::{Numbers, Text};
@@ -140,11 +140,11 @@ fn answer<M: ManagerId, T: Target, R: Wait>(
     shared: &SharedState<M, T>,
     client: &mut Client<M>,
     line: &ScriptLine,
-    arena: &mut ParseArena,
+    memory: &mut LineMemory,
     said: &mut Vec<u8>,
 ) -> Result<(u64, bool), RunFault> {
-    let other = heard(&line.text, arena)?;
-    match parse_line(shared.alloc, &line.text, CLIENTS, Numbers::Whole, arena) {
+    let other = heard(shared.alloc, &line.text)?;
+    match parse_line(shared.alloc, &line.text, CLIENTS, Numbers::Whole, memory) {
         Ok((_client, request)) => {
             shared.hear(rt, client, other);
             let before = client.seen();
@@ -166,11 +166,11 @@ fn play<M: ManagerId, T: Target, R: Wait>(
     shared: &SharedState<M, T>,
     client: &mut Client<M>,
     line: &ScriptLine,
-    arena: &mut ParseArena,
+    memory: &mut LineMemory,
     transcript: &mut Transcript,
 ) -> Result<(), RunFault> {
     let mut said = Vec::new(shared.alloc);
-    let (before, changed) = answer(rt, manager, shared, client, line, arena, &mut said)?;
+    let (before, changed) = answer(rt, manager, shared, client, line, memory, &mut said)?;
     transcript.note(
         shared.alloc,
         line.number,
@@ -193,9 +193,9 @@ fn play_all<M: ManagerId, T: Target, R: Wait>(
     lines: &[ScriptLine],
     transcript: &mut Transcript,
 ) -> Result<(), RunFault> {
-    let mut arena = ParseArena::new(shared.alloc);
+    let mut memory = LineMemory::new(shared.alloc);
     for line in lines {
-        play(rt, manager, shared, client, line, &mut arena, transcript)?;
+        play(rt, manager, shared, client, line, &mut memory, transcript)?;
         yield_now();
     }
     Ok(())

@@ -3,10 +3,12 @@ use crate::limits::CLIENTS;
 use comm_json::{JsonKind, ParseArena};
 use comm_messages::{MessageFault, client_of, fields_of, member, object_in};
 use comm_script::RunFault;
+use std::alloc::Global;
 
 /// The client that a line names by its key `hear`. What isn't the number of a client names none.
-pub(crate) fn heard(text: &[u8], arena: &mut ParseArena) -> Result<Option<u8>, RunFault> {
-    let object = match object_in(text, arena) {
+pub(crate) fn heard(alloc: Global, text: &[u8]) -> Result<Option<u8>, RunFault> {
+    let mut arena = ParseArena::new(alloc);
+    let object = match object_in(text, &mut arena) {
         Ok(object) => object,
         Err(MessageFault::Memory) => return Err(RunFault::Memory),
         Err(_) => return Ok(None),

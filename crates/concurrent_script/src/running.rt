@@ -66,7 +66,7 @@ fn report(
     for transcript in &transcripts {
         text.extend_from_slice(&transcript.text)?;
     }
-    append_history(alloc, &farewell.history, &transcripts, &mut text)?;
+    append_history(alloc, &farewell.history.entries, &transcripts, &mut text)?;
     append_taken(alloc, taken, farewell.untaken.len(), &mut text)?;
     Ok(text)
 }

@@ -1,8 +1,7 @@
 //! A script, taken apart by clients.
 use crate::limits::CLIENTS;
 use crate::transcript::Transcript;
-use comm_json::ParseArena;
-use comm_script::{RunFault, is_blank, parse_line, split_line};
+use comm_script::{LineMemory, RunFault, is_blank, parse_line, split_line};
 use comm_value::Numbers;
 use std::alloc::{AllocError, Global};
 use std::io::{ErrorKind, Read};
@@ -26,7 +25,7 @@ pub struct ClientScript {
 #[derive(Drop)]
 pub struct Script {
     alloc: Global,
-    arena: ParseArena,
+    memory: LineMemory,
     count: u64,
     parts: Vec<ClientScript>,
 }
@@ -42,7 +41,7 @@ impl Script {
         }
         Ok(Script {
             alloc,
-            arena: ParseArena::new(alloc),
+            memory: LineMemory::new(alloc),
             count: 0,
             parts,
         })
@@ -50,7 +49,7 @@ impl Script {
 
     // The client of a line. One that can't be read is client 0's.
     fn client_of_line(&mut self, text: &[u8]) -> Result<u8, RunFault> {
-        match parse_line(self.alloc, text, CLIENTS, Numbers::Whole, &mut self.arena) {
+        match parse_line(self.alloc, text, CLIENTS, Numbers::Whole, &mut self.memory) {
             Ok((client, _asked)) => Ok(client),
             Err(fault) if fault.is_memory() => Err(RunFault::Memory),
             Err(_) => Ok(0),

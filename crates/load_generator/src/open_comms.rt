@@ -5,7 +5,7 @@ use crate::fixtures::{ids, keys, state};
 use crate::load::Load;
 use crate::load_fault::LoadFault;
 use comm_core::Reply;
-use comm_manager::{Client, Manager, ManagerId};
+use comm_manager::{Client, CountedHistory, Manager, ManagerId};
 use comm_messages::Body;
 use comm_targets::Target;
 use comm_value::{Buffers, Dict, Text, Val};
@@ -36,7 +36,7 @@ fn names_of(alloc: Global, id: &Text) -> Result<(Text, Text, Text), AllocError> 
 fn open<M: ManagerId, T: Target, R: Wait>(
     rt: &R,
     alloc: Global,
-    manager: &Manager<M, T>,
+    manager: &Manager<M, T, CountedHistory>,
     client: &mut Client<M>,
     id: &Text,
     keys: &[Text],
@@ -60,7 +60,7 @@ fn open<M: ManagerId, T: Target, R: Wait>(
 fn open_each<M: ManagerId, T: Target, R: Wait>(
     rt: &R,
     alloc: Global,
-    manager: &Manager<M, T>,
+    manager: &Manager<M, T, CountedHistory>,
     client: &mut Client<M>,
     ids: &[Text],
     keys: &[Text],
@@ -75,7 +75,7 @@ fn open_each<M: ManagerId, T: Target, R: Wait>(
 fn register<M: ManagerId, T: Target, R: Wait>(
     rt: &R,
     alloc: Global,
-    manager: &Manager<M, T>,
+    manager: &Manager<M, T, CountedHistory>,
     client: &mut Client<M>,
     target: T,
 ) -> Result<(), LoadFault>
@@ -93,7 +93,7 @@ fn register<M: ManagerId, T: Target, R: Wait>(
 pub(crate) fn open_comms<M: ManagerId, T: Target, R: Wait>(
     rt: &R,
     alloc: Global,
-    manager: &Manager<M, T>,
+    manager: &Manager<M, T, CountedHistory>,
     client: &mut Client<M>,
     load: &Load,
     target: T,

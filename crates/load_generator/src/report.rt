@@ -7,7 +7,7 @@ pub struct LoadReport {
     pub changes: u64,
     pub reads: u64,
     /// All entries, an end as the last.
-    pub history: usize,
+    pub history: u64,
     pub taken: u64,
     pub untaken: usize,
     pub sum: u64,

@@ -10,7 +10,7 @@ use crate::threads::work_at_once;
 use crate::worker::{Job, Role, Signals, WorkCount};
 use client_threads::{Ended, shut_down};
 use comm_core::Limits;
-use comm_manager::{Cause, Client, Manager, ManagerBuilder, ManagerId, Publisher};
+use comm_manager::{Cause, Client, CountedHistory, Manager, ManagerBuilder, ManagerId, Publisher};
 use comm_targets::Target;
 use std::alloc::{AllocError, Global};
 use std::marker::Brand;
@@ -67,7 +67,7 @@ fn count_of(jobs: Vec<Job>) -> Result<WorkCount, LoadFault> {
 fn run_clients<M: ManagerId + Send + Sync, T: Target, R: Threads + Wait + Clock + Sync>(
     rt: &R,
     alloc: Global,
-    manager: &Manager<M, T>,
+    manager: &Manager<M, T, CountedHistory>,
     clients: &mut [Client<M>],
     publisher: &mut Publisher<M>,
     load: &Load,
@@ -89,11 +89,11 @@ fn run_clients<M: ManagerId + Send + Sync, T: Target, R: Threads + Wait + Clock 
 // What a load came to whose manager has ended.
 fn report_of(
     counted: Result<WorkCount, LoadFault>,
-    ended: Result<Ended, Cause>,
+    ended: Result<Ended<CountedHistory>, Cause>,
 ) -> Result<LoadReport, LoadFault> {
     let (history, taken, untaken) = match &ended {
         Ok(ended) => (
-            ended.farewell.history.len(),
+            ended.farewell.history.count,
             ended.taken,
             ended.farewell.untaken.len(),
         ),
@@ -126,7 +126,7 @@ fn run_over_manager<M: ManagerId + Send + Sync, T: Target, R: Threads + Wait + C
     requires named { Named builder M.book M.ledgers M.queue M.limits }
     requires target { IsIdle (T.means target) }
 {
-    match Manager::<M, T>::open(rt, alloc, builder) {
+    match Manager::<M, T, CountedHistory>::open(rt, alloc, builder) {
         Ok((manager, clients, publisher)) => {
             let (mut clients, mut publisher) = (clients, publisher);
             let all = clients.as_mut_slice();

@@ -1,7 +1,7 @@
 //! All clients at work at once.
 use crate::worker::{Job, Signals, work};
 use client_threads::run_workers;
-use comm_manager::{Client, Manager, ManagerId, Publisher};
+use comm_manager::{Client, CountedHistory, Manager, ManagerId, Publisher};
 use comm_targets::Target;
 use std::alloc::Global;
 use std::rt::Clock;
@@ -12,7 +12,7 @@ use std::thread::Threads;
 fn work_at<M: ManagerId, T: Target, R: Wait + Clock>(
     rt: &R,
     alloc: Global,
-    manager: &Manager<M, T>,
+    manager: &Manager<M, T, CountedHistory>,
     jobs: &[Job],
     signals: &Signals,
     place: usize,
@@ -27,7 +27,7 @@ fn work_at<M: ManagerId, T: Target, R: Wait + Clock>(
 pub(crate) fn work_at_once<M: ManagerId + Send + Sync, T: Target, R: Threads + Wait + Clock + Sync>(
     rt: &R,
     alloc: Global,
-    manager: &Manager<M, T>,
+    manager: &Manager<M, T, CountedHistory>,
     jobs: &[Job],
     signals: &Signals,
     publisher: &mut Publisher<M>,

@@ -3,7 +3,7 @@ use crate::fixtures::{ids, integer, keys};
 use crate::load::{Load, ReadKind};
 use crate::load_fault::LoadFault;
 use comm_core::{Reply, StateAnswer, Unavailable};
-use comm_manager::{Client, Manager, ManagerId};
+use comm_manager::{Client, CountedHistory, Manager, ManagerId};
 use comm_targets::Target;
 use comm_value::{Dict, Text, Val};
 use std::alloc::{AllocError, Global};
@@ -107,7 +107,7 @@ impl Job {
 fn push<M: ManagerId, T: Target, R: Wait>(
     rt: &R,
     alloc: Global,
-    manager: &Manager<M, T>,
+    manager: &Manager<M, T, CountedHistory>,
     client: &mut Client<M>,
     id: &Text,
     key: &Text,
@@ -135,7 +135,7 @@ fn push<M: ManagerId, T: Target, R: Wait>(
 fn write<M: ManagerId, T: Target, R: Wait>(
     rt: &R,
     alloc: Global,
-    manager: &Manager<M, T>,
+    manager: &Manager<M, T, CountedHistory>,
     client: &mut Client<M>,
     job: &Job,
 ) -> Result<u64, LoadFault> {
@@ -210,7 +210,7 @@ fn read<M: ManagerId>(
 fn write_timed<M: ManagerId, T: Target, R: Wait + Clock>(
     rt: &R,
     alloc: Global,
-    manager: &Manager<M, T>,
+    manager: &Manager<M, T, CountedHistory>,
     client: &mut Client<M>,
     job: &Job,
     signals: &Signals,
@@ -230,7 +230,7 @@ fn write_timed<M: ManagerId, T: Target, R: Wait + Clock>(
 pub(crate) fn work<M: ManagerId, T: Target, R: Wait + Clock>(
     rt: &R,
     alloc: Global,
-    manager: &Manager<M, T>,
+    manager: &Manager<M, T, CountedHistory>,
     client: &mut Client<M>,
     job: &Job,
     signals: &Signals,

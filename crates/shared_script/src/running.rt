@@ -8,7 +8,7 @@ ghost use Rattle.comm_script.specs.Stock.{AreIdle};
 use crate::sequencer::Sequencer;
 use crate::session::SharedSession;
 use comm_core::{Limits, NewFault};
-use comm_manager::{Manager, ManagerBuilder, ManagerId, OpeningFault};
+use comm_manager::{CountedHistory, Manager, ManagerBuilder, ManagerId, OpeningFault};
 use comm_script::{RunFault, Stock, play_script};
 use comm_targets::Target;
 use comm_value::Numbers;
@@ -64,7 +64,7 @@ pub fn run_shared<I: Read, O: Write, R: Wait>(
     run_shared_with(rt, alloc, reader, writer, limits, Numbers::Whole, stock)
 }
 
-// Plays the script over a manager that goes by these names.
+// Plays the script over a manager that goes by these names. Nobody asks for its history.
 fn run_named<M: ManagerId, I: Read, O: Write, T: Target, R: Wait>(
     rt: &R,
     alloc: Global,
@@ -79,7 +79,7 @@ fn run_named<M: ManagerId, I: Read, O: Write, T: Target, R: Wait>(
     requires idle { AreIdle (map T.means stock.items) }
     ensures fault { IfErr result (λ e. e ≢ RunFault.BadLimits) }
 {
-    match Manager::<M, T>::open(rt, alloc, builder) {
+    match Manager::<M, T, CountedHistory>::open(rt, alloc, builder) {
         Ok((manager, clients, publisher)) => {
             let sequencer = Sequencer {
                 stock: Stock::new(stock),
@@ -104,7 +104,7 @@ fn run_named<M: ManagerId, I: Read, O: Write, T: Target, R: Wait>(
 fn play_over<M: ManagerId, I: Read, O: Write, T: Target, R: Wait>(
     rt: &R,
     alloc: Global,
-    manager: &Manager<M, T>,
+    manager: &Manager<M, T, CountedHistory>,
     session: &mut SharedSession<M, T>,
     numbers: Numbers,
     reader: &mut I,

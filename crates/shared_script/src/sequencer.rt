@@ -15,7 +15,9 @@ ghost use Rattle.shared_script.specs.Heard.{HasHeard, IsLater};
 
 use crate::wording::{append_full, full_of, run_fault};
 use comm_core::{Call, Unavailable};
-use comm_manager::{Answered, Client, InfoRead, Manager, ManagerId, Stamp};
+use comm_manager::{
+    Answered, Client, CountedHistory, HistoryStore, InfoRead, Manager, ManagerId, Stamp,
+};
 use comm_script::{
     LineFault, Request, RunFault, Stock, StockKind, append_bad, append_infos, append_state_line,
 };
@@ -26,9 +28,9 @@ use std::sync::Wait;
 
 /// Registers the first target of the kind that the stock has; None where it has none. The target comes back to the
 /// stock's end where the change isn't made.
-pub fn register_from_stock<M: ManagerId, T: Target, R: Wait>(
+pub fn register_from_stock<M: ManagerId, T: Target, S: HistoryStore, R: Wait>(
     rt: &R,
-    manager: &Manager<M, T>,
+    manager: &Manager<M, T, S>,
     client: &mut Client<M>,
     stock: &mut Stock<T>,
     kind: StockKind,
@@ -142,7 +144,7 @@ impl<M: ManagerId, T: Target> Sequencer<M, T> {
     fn change<R: Wait>(
         &mut self,
         rt: &R,
-        manager: &Manager<M, T>,
+        manager: &Manager<M, T, CountedHistory>,
         client: &mut Client<M>,
         number: u64,
         call: Call,
@@ -163,7 +165,7 @@ impl<M: ManagerId, T: Target> Sequencer<M, T> {
     fn register<R: Wait>(
         &mut self,
         rt: &R,
-        manager: &Manager<M, T>,
+        manager: &Manager<M, T, CountedHistory>,
         client: &mut Client<M>,
         number: u64,
         kind: StockKind,
@@ -189,7 +191,7 @@ impl<M: ManagerId, T: Target> Sequencer<M, T> {
     pub fn execute<R: Wait>(
         &mut self,
         rt: &R,
-        manager: &Manager<M, T>,
+        manager: &Manager<M, T, CountedHistory>,
         alloc: Global,
         client: &mut Client<M>,
         number: u64,

@@ -6,7 +6,7 @@ ghost use Rattle.shared_script.specs.Heard.{IsLater};
 
 use crate::sequencer::Sequencer;
 use crate::wording::append_entry;
-use comm_manager::{Client, Manager, ManagerId, Publisher};
+use comm_manager::{Client, CountedHistory, Manager, ManagerId, Publisher};
 use comm_script::{Backend, Request, RunFault};
 use comm_targets::Target;
 use std::alloc::Global;
@@ -50,7 +50,7 @@ impl<M: ManagerId, T: Target> SharedSession<M, T> {
     pub fn execute<R: Wait>(
         &mut self,
         rt: &R,
-        manager: &Manager<M, T>,
+        manager: &Manager<M, T, CountedHistory>,
         alloc: Global,
         number: u64,
         client: u8,

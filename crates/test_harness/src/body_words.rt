@@ -6,7 +6,7 @@ use crate::call_words::split_word;
 use crate::test_fault::TestFault;
 use comm_json::ParseArena;
 use comm_messages::{Body, fields_of, object_in};
-use comm_value::{Buffers, Bytes, Dict, Numbers};
+use comm_value::{Buffers, Bytes, Dict, KnownTexts, Numbers};
 use std::alloc::Global;
 
 /// The dict of a JSON object of whole numbers; an empty text is the empty dict.
@@ -23,7 +23,8 @@ pub fn dict_with(alloc: Global, numbers: Numbers, json: &str) -> Result<Dict, Te
     let json = if json.is_empty() { "{}" } else { json };
     let mut arena = ParseArena::new(alloc);
     let object = object_in(json.as_bytes(), &mut arena)?;
-    Ok(comm_messages::dict_of(alloc, numbers, fields_of(&object))?)
+    let mut texts = KnownTexts::new(alloc);
+    Ok(comm_messages::dict_of(alloc, numbers, &mut texts, fields_of(&object))?)
 }
 
 fn bytes_of(alloc: Global, word: &str) -> Result<Bytes, TestFault> {

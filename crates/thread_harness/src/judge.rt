@@ -132,13 +132,13 @@ fn judge_farewell<T: Target>(
     sums: &mut TextBuilder,
     wrong: &mut TextBuilder,
 ) -> TextBuilder {
-    let text = history_text(alloc, &farewell.history);
+    let text = history_text(alloc, &farewell.history.entries);
     let untaken = history_text(alloc, &farewell.untaken);
     judge_history(alloc, reports, &text, &untaken, wrong);
-    push_sum("history", farewell.history.len() as u64, sums);
+    push_sum("history", farewell.history.entries.len() as u64, sums);
     push_sum("untaken", farewell.untaken.len() as u64, sums);
     push_counts(&text.counts, sums);
-    let replayed = replay_history(alloc, scenario.limits(), &farewell.history, fresh);
+    let replayed = replay_history(alloc, scenario.limits(), &farewell.history.entries, fresh);
     judge_replay(&replayed, &text, left, sums, wrong);
     drop(replayed);
     drop(farewell);

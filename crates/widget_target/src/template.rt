@@ -1,6 +1,6 @@
 ghost use Rattle.std.specs.Prelude.{◌≡◌, [], IfOk, codes};
-ghost use Rattle.comm_value.specs.Put.{insert};
-ghost use Rattle.comm_value.specs.Tree.{no_members};
+ghost use Rattle.comm_value.specs.Paths.{paths_tree};
+ghost use Rattle.comm_value.specs.Tree.{member, no_members, text};
 ghost use Rattle.comm_value.specs.View.{tree};
 ghost use Rattle.comm_targets.specs.Widget.{told_data};
 ghost use Rattle.widget_target.specs.Method.{method_name};
@@ -12,43 +12,63 @@ use std::alloc::{AllocError, Global};
 /// What all messages that tell a state have alike. They share it, so that each makes only what is its own.
 #[derive(Drop)]
 pub struct Template {
-    // `{"buffer_paths":[],"method":"update","state":{}}`
-    empty: Dict,
-    // The keys whose values are a message's own.
+    // The keys.
     buffer_paths: Text,
+    method: Text,
     state: Text,
-    ghost is_empty: { empty ≡ told_data (codes "update") [] no_members },
+    // The methods.
+    update: Text,
+    echo_update: Text,
+    // `{"buffer_paths":[]}`
+    no_paths: Dict,
     ghost is_buffer_paths: { buffer_paths ≡ codes "buffer_paths" },
+    ghost is_method: { method ≡ codes "method" },
     ghost is_state: { state ≡ codes "state" },
+    ghost is_update: { update ≡ codes "update" },
+    ghost is_echo_update: { echo_update ≡ codes "echo_update" },
+    ghost is_no_paths: { no_paths
+        ≡ member (codes "buffer_paths") (paths_tree []) no_members },
 }
 
 impl Template {
     fn new(alloc: Global) -> Result<Template, AllocError> {
         let buffer_paths = Text::copy_of(alloc, "buffer_paths")?;
-        let state = Text::copy_of(alloc, "state")?;
-        let empty = empty_data(alloc, &buffer_paths, &state)?;
+        let paths = paths_val(alloc, &[])?;
+        let no_paths = Dict::new().insert(alloc, buffer_paths.copy()?, paths)?;
         Ok(Template {
-            empty,
             buffer_paths,
-            state,
+            method: Text::copy_of(alloc, "method")?,
+            state: Text::copy_of(alloc, "state")?,
+            update: Text::copy_of(alloc, Telling::Update.name())?,
+            echo_update: Text::copy_of(alloc, Telling::EchoUpdate.name())?,
+            no_paths,
         })
     }
 
-    // The data of such a message that tells nothing. An echo has its method put in.
-    fn with_method(&self, alloc: Global, telling: Telling) -> Result<Dict, AllocError>
-        ensures { IfOk result (λ d. d ≡ told_data (method_name telling) [] no_members) }
+    // The member that tells where buffers stood.
+    fn paths(&self, alloc: Global, paths: &[Path]) -> Result<(Text, Val), AllocError>
+        ensures key { IfOk result (λ m. m.0 ≡ codes "buffer_paths") }
+        ensures value { IfOk result (λ m. tree m.1 ≡ paths_tree paths.now) }
     {
-        let data = self.empty.copy()?;
-        match telling {
-            Telling::Update => Ok(data),
-            Telling::EchoUpdate => {
-                let Ok((key, method)) = method(alloc, telling) else {
-                    drop(data);
-                    return Err(AllocError);
-                };
-                data.insert(alloc, key, Val::Text(method))
+        let key = self.buffer_paths.copy()?;
+        if paths.is_empty() {
+            if let Some(none) = self.no_paths.get("buffer_paths") {
+                return Ok((key, none.copy()?));
             }
         }
+        Ok((key, paths_val(alloc, paths)?))
+    }
+
+    // The member that tells the method.
+    fn method(&self, telling: Telling) -> Result<(Text, Val), AllocError>
+        ensures key { IfOk result (λ m. m.0 ≡ codes "method") }
+        ensures value { IfOk result (λ m. tree m.1 ≡ text (method_name telling)) }
+    {
+        let name = match telling {
+            Telling::Update => self.update.copy()?,
+            Telling::EchoUpdate => self.echo_update.copy()?,
+        };
+        Ok((self.method.copy()?, Val::Text(name)))
     }
 
     // The data of a message that tells this state, with these paths of its buffers. Err: memory.
@@ -61,58 +81,10 @@ impl Template {
     ) -> Result<Dict, AllocError>
         ensures { IfOk result (λ d. d ≡ told_data (method_name telling) paths.now plain) }
     {
-        let Ok(data) = self.with_method(alloc, telling) else {
-            drop(plain);
-            return Err(AllocError);
-        };
-        let data = with(alloc, data, &self.state, Val::Dict(plain))?;
-        if paths.is_empty() {
-            return Ok(data);
-        }
-        match paths_val(alloc, paths) {
-            Ok(paths) => with(alloc, data, &self.buffer_paths, paths),
-            Err(fault) => {
-                drop(data);
-                Err(fault)
-            }
-        }
-    }
-}
-
-// The data of a message that tells nothing, by its keys.
-fn empty_data(alloc: Global, buffer_paths: &Text, state: &Text) -> Result<Dict, AllocError>
-    ensures { buffer_paths.now ≡ codes "buffer_paths" → state.now ≡ codes "state"
-        → IfOk result (λ d. d ≡ told_data (codes "update") [] no_members) }
-{
-    let paths = paths_val(alloc, &[])?;
-    let data = with(alloc, Dict::new(), buffer_paths, paths)?;
-    let Ok((key, method)) = method(alloc, Telling::Update) else {
-        drop(data);
-        return Err(AllocError);
-    };
-    let data = data.insert(alloc, key, Val::Text(method))?;
-    with(alloc, data, state, Val::Dict(Dict::new()))
-}
-
-fn method(alloc: Global, telling: Telling) -> Result<(Text, Text), AllocError>
-    ensures { IfOk result (λ m. m ≡ (codes "method", method_name telling)) }
-{
-    let key = Text::copy_of(alloc, "method")?;
-    let method = Text::copy_of(alloc, telling.name())?;
-    Ok((key, method))
-}
-
-// A dict with one member more, whose key is shared.
-fn with(alloc: Global, dict: Dict, key: &Text, value: Val) -> Result<Dict, AllocError>
-    ensures { IfOk result (λ d. d ≡ insert key.now (tree value) dict) }
-{
-    match key.copy() {
-        Ok(key) => dict.insert(alloc, key, value),
-        Err(fault) => {
-            drop(dict);
-            drop(value);
-            Err(fault)
-        }
+        let paths = self.paths(alloc, paths)?;
+        let method = self.method(telling)?;
+        let state = self.state.copy()?;
+        Dict::of_three(alloc, paths, method, (state, Val::Dict(plain)))
     }
 }
 

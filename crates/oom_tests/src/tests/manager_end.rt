@@ -17,9 +17,10 @@ const ENOUGH: u32 = 4_096;
 fn push_farewell(farewell: &Farewell, text: &mut TextBuilder) {
     let is_ended = farewell
         .history
+        .entries
         .last()
         .is_some_and(|it| matches!(&**it, Entry::End));
-    text.push_counted("history", farewell.history.len() as u64);
+    text.push_counted("history", farewell.history.entries.len() as u64);
     text.push_counted(" untaken", farewell.untaken.len() as u64);
     text.push(if is_ended {
         " end true\n"

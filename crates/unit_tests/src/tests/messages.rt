@@ -4,7 +4,7 @@ use comm_messages::{
     Fields, Incoming, MessageFault, buffers_of, client_of, dict_of, fields_of, member, message_of,
     object_in, object_or_empty, read_message, text, text_or_none,
 };
-use comm_value::{Numbers, Text};
+use comm_value::{KnownTexts, Numbers, Text};
 use serde_json::Value;
 use std::alloc::{AllocError, Global};
 use std::test::Fail;
@@ -311,7 +311,8 @@ fn append_object(
         None => Ok(append_words(&["?"], out)?),
         Some(None) => Ok(append_words(&["-"], out)?),
         Some(object) => {
-            let members = dict_of(alloc, Numbers::Whole, object)?.len();
+            let mut texts = KnownTexts::new(alloc);
+            let members = dict_of(alloc, Numbers::Whole, &mut texts, object)?.len();
             Ok(out.extend_from_slice(format!(in alloc; "{members}")?.as_bytes())?)
         }
     }

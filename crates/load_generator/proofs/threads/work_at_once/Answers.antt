@@ -1,6 +1,6 @@
 use Rattle.std.proofs.Crossing.{crosses}
 use denote.Param.Send.{sendable}
-use Rattle.comm_manager.proofs.Crossing.{manager_sync, client_send}
+use Rattle.comm_manager.proofs.Crossing.{counted_sync, client_send}
 use Rattle.load_generator.proofs.Crossing.{job_sync, signals_sync}
 use Rattle.load_generator.proofs.threads.work_at_once.Goals as goal
 
@@ -15,5 +15,5 @@ run_workers-requires-sync-W g c κs within =
     let j = c.type_bounds.send-M in
     let k = c.type_bounds.sync-M in
     let t = c.type_bounds.send-T in
-    let m = manager_sync _ g.M.ManagerId g.M.History j k _ g.T.Target t in
+    let m = counted_sync _ g.M.ManagerId g.M.History j k _ g.T.Target t in
     search (sendable, crosses, job_sync, signals_sync) depth 60

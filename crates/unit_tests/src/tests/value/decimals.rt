@@ -1,7 +1,7 @@
 //! Numbers that aren't whole: which texts are such numbers (RFC 8259, 6), and what is done with values that have them.
 use super::append_fault;
 use comm_json::{JsonFault, JsonRef, ParseArena, read_line};
-use comm_value::{Decimal, Numbers, Path, Val, ValueFault, merge, paths_of, put_all};
+use comm_value::{Decimal, KnownTexts, Numbers, Path, Val, ValueFault, merge, paths_of, put_all};
 use std::alloc::{AllocError, Global};
 use std::test::Fail;
 use test_harness::{
@@ -19,7 +19,8 @@ fn value_in(alloc: Global, numbers: Numbers, line: &str) -> Result<Val, &'static
         Err(JsonFault::NotJson) => return Err(NOT_JSON),
         Err(JsonFault::Memory) => return Err("no memory"),
     };
-    match Val::from_ref(alloc, numbers, JsonRef::Borrowed(&json)) {
+    let mut texts = KnownTexts::new(alloc);
+    match Val::from_ref(alloc, numbers, &mut texts, JsonRef::Borrowed(&json)) {
         Ok(value) => Ok(value),
         Err(ValueFault::NotWhole) => Err("not whole"),
         Err(_) => Err("no value"),

@@ -1,4 +1,4 @@
-use Rattle.std.proofs.Common.{◌≡◌, List, ap, sym, subst, ◌∙◌}
+use Rattle.std.proofs.Common.{rules, ◌≡◌, List, ap, sym, subst, ◌∙◌}
 use Rattle.std.specs.Prelude.{All}
 use Rattle.std.specs.Mem.{manually_drop_value}
 use Rattle.comm_core.specs.History.{has_end}
@@ -17,9 +17,9 @@ pub settle_clients-requires-clause-totals : goal.settle_clients-requires-clause-
 settle_clients-requires-clause-totals g c =
     let log = c.into_inner-log.result in
     let same : log ≡ manually_drop_value c.self.inside.log = c.into_inner-log.ensures in
-    let kept : log.totals ≡ counts log.journal.all = subst (λ (l : ChangeLog _). l.totals ≡ counts l.journal.all) (sym same) c.self.invariant.0.totals_are in
+    let kept : log.totals ≡ counts log.journal.all = subst (λ (l : ChangeLog _ _). l.totals ≡ counts l.journal.all) (sym same) c.self.invariant.0.totals_are in
     kept ∙ sym (counts-end log.journal.all) ∙ ap counts (sym c.in-Ok.ensures.stamp.0)
 
 pub returns-in-Ok-clause-settled : goal.returns-in-Ok-clause-settled
 returns-in-Ok-clause-settled g c =
-    subst (λ (l : List Entry). All (λ (w : ClientView). IsSettled l w) c.args.clients.items) (sym (c.into_list.ensures ∙ c.in-Ok.ensures.history)) c.settle_clients.ensures
+    subst (λ (l : List Entry). All (λ (w : ClientView). IsSettled l w) c.args.clients.items) (search (rules)) c.settle_clients.ensures
