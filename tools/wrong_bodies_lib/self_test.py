@@ -54,7 +54,7 @@ class Edits(Room):
         self.write("crates/low/must-fail/two.edit", "file: src/lib.rt\n")
         self.assertEqual(
             [str(it) for it in edits.edits_below(self.root, ("wrong-bodies",))],
-            ["high/wrong-bodies/of_bare", "high/wrong-bodies/of_size", "low/wrong-bodies/of_area"],
+            [f"high/wrong-bodies/{it}" for it in ("of_bare", "of_size", "of_turn")] + ["low/wrong-bodies/of_area"],
         )
         self.assertEqual([it.name for it in edits.edits_below(self.root, edits.FOLDERS, ("low",))], ["two", "of_area"])
 
