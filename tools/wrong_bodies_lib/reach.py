@@ -80,7 +80,7 @@ def blocks(lines, start, end, indent):
 
 
 def type_of(header):
-    """The name of the type that an `impl` is for."""
+    """The name of the type that an `impl` is for, and whether it is of a trait."""
     text = re.sub(r"^(?:unsafe )?impl\s*", "", header)
     if text.startswith("<"):
         depth = 0
@@ -182,6 +182,7 @@ class Reached:
         self.source(file, text, words(text))
 
     def source(self, file, text, found):
+        """A part of a source, with its words, by which that source's imports are reached."""
         known, texts = self.files.setdefault(file, (set(), []))
         known |= found
         texts.append(text)
@@ -199,12 +200,14 @@ class Reached:
         return unit.name is None or unit.name in self.words
 
     def has_import(self, unit):
+        """Whether something that is reached of its source has the name, or the signs of an operator."""
         known, texts = self.files[unit.file]
         if unit.kind == "other" or unit.name in known:
             return True
         return not WORD.fullmatch(unit.name) and any(all(it in text for it in unit.name.split("◌")) for text in texts)
 
     def take(self, it):
+        """What is stated of a unit that is reached."""
         self.words |= it.words
         if it.has_value:
             self.code |= it.words
