@@ -2,7 +2,8 @@
 named from there on.
 
 Names are taken as words, whatever they stand for. So more is reached than can matter, and not less: an executable
-function by its name in code, since contracts name definitions; all else by its name anywhere."""
+function by its name in code, since contracts name definitions; a definition or a lemma by a name of its own where its
+module is named too, which no other file can leave out; all else by its name anywhere."""
 import functools
 import re
 from dataclasses import dataclass
@@ -15,6 +16,15 @@ IMPL = re.compile(r"(?:unsafe )?impl\b")
 CONSTANT = re.compile(r"\b(?:const|static|macro_rules)\b")  # its value stands in what is stated
 IS_PUBLIC = re.compile(r"^ *pub ", re.MULTILINE)
 CLAUSE = re.compile(r" *(?:requires|ensures|decreases)\b")
+# What names the inside of a type; and what goes by the fields of whatever types, which is taken for the name of each.
+INSIDE = re.compile(r"\b[A-Z]\w*\.TheInside\b")
+BY_FIELDS = re.compile(
+    r"(?<![A-Za-z0-9_]\.)\bTheInside\b|\bThe(?!(?:Variants|Impl|Inside)\b)[A-Z]\w*|\b[a-z]\w*\.TheInside\b"
+    r"|\bthe_(?:send|sync|row(?!\.coded))\b|\bIs(?:Send|Sync)\b|\bThreads\b|\b(?:size|align)_of(?:_val)?\b"
+)
+ANY_INSIDE = "*.TheInside"
+PATH = re.compile(r"[^\s(){}\[\],;.:]+(?:(?:\.|::)[^\s(){}\[\],;.:]+)+")
+GROUP = re.compile(r"(\w+)(?:\.|::)\{(?=([^{}]*)([{}]))")  # of names below one module
 # What a proof says of an executable function stands below one of these.
 OF_FUNCTIONS = re.compile(r"\.(?:contracts|proofs)\.")
 
@@ -26,20 +36,54 @@ class Unit:
     file: str
     first: int  # line
     last: int
-    kind: str  # "function", "import", "module", "type", "attribute" (of its whole crate) or "other"
+    # "function", "import", "module", "type", "inside" (of a type), "definition", "attribute" (of its crate) or "other"
+    kind: str
     name: str | None  # None: it goes with its file, or with its crate
-    owner: str | None  # the type whose function it is
+    owner: str | None  # the type whose function or inside it is, or the module of a definition
     text: str
+    names: tuple = ()  # all that a definition makes; of an inside, what reaches it
 
     def is_of_its_crate(self):
         """Whether it is nothing to another crate: a function that none can name, or an attribute."""
         is_private = not IS_PUBLIC.search(self.text) and not CONSTANT.search(self.text)
         return self.kind == "attribute" or self.kind == "function" and is_private
 
+    def keys(self):
+        """The words of which one stands wherever it is reached. None: it may be reached without one."""
+        if self.kind == "definition":
+            return {max(WORD.findall(name), key=len, default=None) for name in self.names} or {None}
+        return self.names or (self.name,)
+
+
+@functools.lru_cache(maxsize=None)
+def words_of(name):
+    return frozenset(WORD.findall(name)) or frozenset([name])
+
 
 @functools.lru_cache(maxsize=None)
 def words(text):
-    return frozenset(WORD.findall(text))
+    """The words of a text, and what it names by more than a word."""
+    marks = [*INSIDE.findall(text), *([ANY_INSIDE] if BY_FIELDS.search(text) else [])]
+    return frozenset([*WORD.findall(text), *marks, *named_below(text)])
+
+
+def named_below(text):
+    """Each name in a text with the module that it is said to be of, as `Module.name`; `Module.*` where all of a module
+    may be meant. Modules are files, whose names begin with a capital."""
+    for path in PATH.finditer(text):
+        *parts, last = re.split(r"\.|::", path[0])
+        yield from (f"{module}.{it}" for module, it in zip(parts, [*parts[1:], last]) if module[:1].isupper())
+        if not text.startswith((".{", "::{"), path.end()):
+            yield f"{parts[-1] if last == '*' else last}.*"
+    for module, names, end in GROUP.findall(text):
+        yield from (f"{module}.{name.partition(' as ')[0].strip()}" for name in names.split(","))
+        if end == "{":
+            yield f"{module}.*"
+
+
+def of_functions(text):
+    """The words that name functions in a definition or a proof: beside what stands below their contracts or proofs."""
+    return frozenset().union(*(words(line) for line in text.split("\n") if OF_FUNCTIONS.search(line)))
 
 
 def code(text):
@@ -102,9 +146,10 @@ def imports(file, first, last, text):
     if "{" in inner:
         return [Unit(file, first, last, "import", "", None, text)]
     leaves = [base + it.strip() for it in inner.rstrip("} ").split(",") if it.strip()] or [base]
-    # An operator is imported with marks where its operands stand.
+    # An operator is imported with marks where its operands stand. That of a `do` isn't written there.
     names = [re.split(r"::|\.(?=\S)|\bas\s", it)[-1].strip() for it in leaves]
-    return [Unit(file, first, last, "import", name, None, lead + leaf) for name, leaf in zip(names, leaves)]
+    kinds = ["other" if name.startswith("◌>") else "import" for name in names]
+    return [Unit(file, first, last, kind, name, None, lead + it) for kind, name, it in zip(kinds, names, leaves)]
 
 
 def units_of(file, text):
@@ -118,7 +163,8 @@ def units_of(file, text):
         if re.match(r"(?:pub(?:\([a-z]+\))? )?(?:ghost )?use ", line):
             found += imports(file, first, end, from_head.strip())
         elif MODULE.match(line):
-            found.append(Unit(file, first, end, "module", MODULE.match(line)[1], None, whole))
+            kind, name = ("attribute", None) if "#[" in whole else ("module", MODULE.match(line)[1])
+            found.append(Unit(file, first, end, kind, name, None, whole))
         elif line.startswith("#!["):
             found.append(Unit(file, first, end, "attribute", None, None, whole))
         elif IMPL.match(line):
@@ -154,13 +200,14 @@ class Stated:
     unit: Unit
     text: str
     words: frozenset
-    has_value: bool  # which may call functions
+    code: frozenset  # what of it may name functions
 
     @classmethod
     def of(cls, unit, text):
         is_renamed = unit.kind == "import" and " as " in text
-        has_value = is_renamed or unit.kind == "other" or CONSTANT.search(text) is not None
-        return cls(unit, text, words(text), has_value)
+        is_source = unit.kind != "definition" and not unit.file.endswith(".antt")
+        has_value = is_source and (is_renamed or unit.kind == "other" or CONSTANT.search(text) is not None)
+        return cls(unit, text, words(text), words(text) if has_value else of_functions(text))
 
 
 class Reached:
@@ -169,11 +216,6 @@ class Reached:
     def __init__(self):
         self.words, self.code = set(), set()
         self.files = {}  # what is reached of each source: words and text
-
-    def add(self, other):
-        """What is reached by definitions and proofs, too."""
-        self.words |= other.words
-        self.code |= other.code
 
     def body(self, file, text):
         """A function, or a part of it."""
@@ -187,17 +229,18 @@ class Reached:
         known |= found
         texts.append(text)
 
-    def proof(self, text):
-        """What a definition or a proof names: of functions only what stands below their contracts or proofs."""
-        self.words |= words(text)
-        for line in text.split("\n"):
-            if OF_FUNCTIONS.search(line):
-                self.code |= words(line)
-
     def has(self, unit):
         if unit.kind == "function":
             return unit.name in self.code and (unit.owner is None or unit.owner in self.words)
-        return unit.name is None or unit.name in self.words
+        if unit.kind == "inside":
+            return unit.owner in self.words  # One of its names is.
+        return unit.name is None or (self.has_definition(unit) if unit.names else unit.name in self.words)
+
+    def has_definition(self, unit):
+        """Whether a name that it makes is reached: in its own file, or with its module."""
+        is_open = unit.owner is None or f"{unit.owner}.*" in self.words
+        known = self.words if is_open else self.files[unit.file][0] if unit.file in self.files else frozenset()
+        return any(f"{unit.owner}.{name}" in self.words or words_of(name) <= known for name in unit.names)
 
     def has_import(self, unit):
         """Whether something that is reached of its source has the name, or the signs of an operator."""
@@ -209,27 +252,35 @@ class Reached:
     def take(self, it):
         """What is stated of a unit that is reached."""
         self.words |= it.words
-        if it.has_value:
-            self.code |= it.words
-        if it.unit.kind in ("function", "type"):
+        self.code |= it.code
+        if it.unit.kind in ("function", "type", "inside", "definition"):
             self.source(it.unit.file, it.text, it.words)
 
     def all_of(self, index):
         """Those that are reached, with what they reach in turn."""
-        found = {}
+        found, left, read = {}, {}, {}
+        new = self.words | {None}
         while True:
-            named = [it for name in index.by_name.keys() & (self.words | {None}) for it in index.by_name[name]]
-            more = [it for it in named if id(it) not in found and self.has(it.unit)] or [
-                it
-                for file in index.by_file.keys() & self.files.keys()
-                for it in index.by_file[file]
-                if id(it) not in found and self.has_import(it.unit)
-            ]
+            named = (it for name in index.by_name.keys() & new for it in index.by_name[name])
+            left |= {id(it): it for it in named if id(it) not in found}
+            more = [it for it in left.values() if self.has(it.unit)] or self.more_imports(index, found, read)
             if not more:
                 return list(found.values())
+            new = frozenset().union(*(it.words for it in more)) - self.words
             for it in more:
+                left.pop(id(it), None)
                 found[id(it)] = it
                 self.take(it)
+
+    def more_imports(self, index, found, read):
+        """The imports that are reached of the sources of which something more is, where so many parts had been read."""
+        more = []
+        for file in index.by_file.keys() & self.files.keys():
+            count = len(self.files[file][1])
+            if read.get(file) != count:
+                read[file] = count
+                more += [it for it in index.by_file[file] if id(it) not in found and self.has_import(it.unit)]
+        return more
 
 
 class Index:
@@ -241,4 +292,5 @@ class Index:
             if it.unit.kind in ("import", "other"):
                 self.by_file.setdefault(it.unit.file, []).append(it)
             else:
-                self.by_name.setdefault(it.unit.name, []).append(it)
+                for name in it.unit.keys():
+                    self.by_name.setdefault(name, []).append(it)

@@ -3,17 +3,19 @@ the statements that are named from there on, and the kit.
 
 Of its own crate and of those below, that function's proof reads what they state: items and contracts, definitions, and
 lemmas. Neither the bodies of other functions nor the answers that prove them: a call is known by its contract. Of these
-statements those count that are named (reach.py); definitions and lemmas all. An edit of another form has all of its
-crate in its sum. Lines that are blank or only a comment change nothing and are left out, and so are those that only say
-what is inlined."""
+statements those count that are named (reach.py, definitions.py), and of a type below what can be seen of it (seen.py).
+An edit of another form has all of its crate in its sum. Lines that are blank or only a comment change nothing and are
+left out, and so are those that only say what is inlined."""
 import hashlib
 import re
 from pathlib import Path
 
+from .definitions import definitions_of
 from .edits import places_of
 from .reach import Index, Reached, Stated, units_of
+from .seen import from_above
 
-FORM = "5"
+FORM = "6"
 CONTRACT = re.compile(r" *ensures\b")
 INLINED = re.compile(r" *#\[inline(?:\((?:always|never)\))?\]")
 COMMENTS = {".rt": "//", ".antt": "--"}
@@ -23,6 +25,12 @@ ANSWERS = ("Answers.antt", "Invariants.antt", "Proof.antt")
 def is_answer(path):
     """Whether a file of a crate proves a function of it."""
     return path.startswith("proofs/") and path.endswith(ANSWERS)
+
+
+def folders_of_proof(path):
+    """The folders that say whose proof a file is a part of: what stands beside answers may have a folder of its own."""
+    parts = Path(path).parts
+    return parts[-2:-1] if is_answer(path) else parts[1:-1] if parts[0] == "proofs" else ()
 
 
 # Two imports of one module, one after the other.
@@ -140,31 +148,29 @@ class Sums:
         }
 
     def units(self, crate):
-        """What a crate states of its sources, in parts, each with its text."""
-        return [
-            Stated.of(unit, said(stated(unit.text), ".rt"))
-            for file, text in self.kept("files", crate, self.files).items()
-            if file.endswith(".rt")
-            for unit in units_of(f"{crate}/{file}", text)
-        ]
+        """The sources of a crate in parts."""
+        files = self.kept("files", crate, self.files).items()
+        return [units_of(f"{crate}/{file}", text) for file, text in files if file.endswith(".rt")]
 
-    def lemmas(self, crate):
-        """The definitions of a crate and its lemmas, but for what proves its functions."""
+    def defined(self, crate):
+        """What a crate states in its definitions and lemmas, but for what proves its functions."""
         return [
-            (file, said(text, ".antt"))
+            Stated.of(unit, unit.text)
             for file, text in self.kept("files", crate, self.files).items()
             if file.endswith(".antt") and not is_answer(file)
+            for unit in definitions_of(f"{crate}/{file}", plain(text, ".antt"))
         ]
 
-    def named(self, crate):
-        """What these name."""
-        found = Reached()
-        for _file, text in self.kept("lemmas", crate, self.lemmas):
-            found.proof(text)
-        return found
+    def own(self, crate):
+        """What a crate states, as it sees that itself, in parts, each with its text."""
+        units = [unit for units in self.kept("units", crate, self.units) for unit in units]
+        return [Stated.of(it, said(stated(it.text), ".rt")) for it in units] + self.kept("defined", crate, self.defined)
 
-    def sum_of_lemmas(self, crate):
-        return hashlib.sha256(repr(self.kept("lemmas", crate, self.lemmas)).encode()).hexdigest()
+    def seen(self, crate):
+        """The same as a crate above sees it."""
+        units = [unit for units in self.kept("units", crate, self.units) for unit in from_above(units)]
+        sources = [Stated.of(it, said(stated(it.text), ".rt")) for it in units if not it.is_of_its_crate()]
+        return sources + self.kept("defined", crate, self.defined)
 
     def whole(self, crate):
         """All that a crate says."""
@@ -182,17 +188,14 @@ class Sums:
         """A function with what proves it, or it and the others of its cycle."""
         folders = {function.name, *(f"+{it}" for it in CYCLE.findall(function.text))}
         files = self.kept("files", crate, self.files).items()
-        answers = [(path, text) for path, text in files if is_answer(path) and Path(path).parent.name in folders]
+        answers = [(path, text) for path, text in files if folders & set(folders_of_proof(path))]
         return [(function.file, function.text), *answers]
 
     def index(self, crates):
         """What these crates state, as the first of them reads it."""
-        return Index(
-            it
-            for crate in crates
-            for it in self.kept("units", crate, self.units)
-            if crate == crates[0] or not it.unit.is_of_its_crate()
-        )
+        own, *others = crates
+        seen = [it for crate in others for it in self.kept("seen", crate, self.seen)]
+        return Index([*self.kept("own", own, self.own), *seen])
 
     def reached(self, edit, texts, owner, names):
         """What the outcome can depend on, of the statements of these crates: what is named from the edit, these texts
@@ -204,10 +207,7 @@ class Sums:
             found.body(f"{edit.crate}/{file}", new)
         for file, text in texts:
             found.body(f"{edit.crate}/{file}", plain(text, Path(file).suffix))
-        for name in names:
-            found.add(self.kept("named", name, self.named))
-        of_sources = sorted({(it.unit.file, it.text) for it in found.all_of(self.kept("index", names, self.index))})
-        return of_sources, [(name, self.kept("sum of lemmas", name, self.sum_of_lemmas)) for name in names]
+        return sorted({(it.unit.file, it.text) for it in found.all_of(self.kept("index", names, self.index))})
 
     def of(self, edit):
         names = (edit.crate, *below(self.rows, edit.crate))

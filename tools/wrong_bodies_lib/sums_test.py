@@ -3,7 +3,8 @@ import tempfile
 import unittest
 from pathlib import Path
 
-from . import reach, sums
+from . import definitions, reach, sums
+from . import seen as seen_from
 from .edits import Edit
 
 LOW = """\
@@ -51,6 +52,7 @@ pub fn turned(n: u8) -> u8
 SHAPES = """\
 ghost use Rattle.low.specs.Lib.{times};
 ghost use Rattle.low.specs.Sides.{sides, ◌+◌};
+ghost use Rattle.low.specs.Kept.{seen, kept};
 
 /// A shape.
 pub struct Shape {
@@ -80,15 +82,100 @@ impl Shape {
     }
 }
 
-impl Model for Shape {
-    ghost use Rattle.low.specs.Lib.{model};
+impl Model for Apart {
+    ghost Value = { Nat };
 
-    ghost type View = Nat;
+    ghost view = { λ a. a.n };
 }
+
+impl Model for Shape {
+    ghost use Rattle.low.specs.Lib.{model, inner};
+
+    ghost Value = { model Nat };
+
+    ghost view = { λ s. inner (seen s.edge) };
+
+    ghost invariant = { λ s. s.edge ≡ kept };
+}
+
+"""
+KEPT = """\
+-- what a shape keeps
+use Rattle.low.specs.Deep.{deepest as deep, unused}
+
+pub seen : Nat → Nat
+seen zero = zero
+seen (suc n) = n
+
+pub kept : Nat
+kept = two
+
+pub sized : Nat
+sized = twelfth
+"""
+SIZED = """\
+use Rattle.low.specs.Deep.{deepest as deep, unused}
+use Rattle.low.specs.Deep as all
+use Rattle.low.specs.Steps.{◌>>=◌}
+infixl 10 ◌⊕◌
+pub ◌⊕◌ : Nat → Nat → Nat
+m ⊕ n = m
+
+abbrev pub sized : Nat → Nat
+sized zero = deep
+sized (suc n) = all.through n
+
+pub apart : Nat → Nat
+unfolding sized
+apart n = third
+"""
+DEEP = """\
+pub deepest : Nat
+deepest = corner four
+
+pub data Side : Type 0 where
+  corner : Nat → Side
+
+abbrev mutual
+  pub through : Nat → Nat
+  through n = odd n
+
+  pub odd : Nat → Nat
+  odd n = fifth
+
+pub apart : Nat
+apart = sixth
+
+pub record Aside : Type 0 where
+  pub seventh : Nat
+"""
+LEMMAS = """\
+use Rattle.low.specs.contracts.lib.halved as it
+pub by_half : it
+by_half = eighth
+
+pub unnamed : Nat
+unnamed = ninth
+
+pub inside_of : Nat
+inside_of = Rattle.low.specs.declared.shapes.Shape.TheInside
+"""
+OWN_LEMMAS = """\
+use Rattle.high.specs.Own.{g}
+
+pub lemma : g
+lemma = two
+
+other : g
+other = six
 """
 HIGH = """\
 #![tactic(auto)]
 ghost use Rattle.low.specs.Sides.{◌≡◌};
+ghost use Rattle.low.specs.Sized.{sized, apart};
+
+#[tactic(auto)]
+mod apiece;
 
 use low::{Shape, area, limit};
 use low::made::{turned as remade};
@@ -100,6 +187,7 @@ fn size(shape: &Shape) -> u8
     area(shape, limit()) + own(shape)
 }
 
+#[tactic(auto, using(low::proofs::Lemmas::by_half))]
 fn own(shape: &Shape) -> u8
     ensures { result ≡ zero }
 {
@@ -170,13 +258,18 @@ FILES = {
     "crates.txt": "# the crates\nlow: json\nhigh: low\n",
     "crates/low/src/lib.rt": LOW,
     "crates/low/src/shapes.rt": SHAPES,
-    "crates/low/specs/Lib.antt": "-- what\nf : Nat\n",
-    "crates/low/proofs/Lemmas.antt": "use Rattle.low.specs.contracts.lib.halved as it\nlemma : f\n",
+    "crates/low/specs/Lib.antt": "pub mod Kept\npub mod Sized\npub mod Deep\n",
+    "crates/low/specs/Kept.antt": KEPT,
+    "crates/low/specs/Sized.antt": SIZED,
+    "crates/low/specs/Deep.antt": DEEP,
+    "crates/low/specs/Odd.antt": "what is this\n",
+    "crates/low/proofs/Lemmas.antt": LEMMAS,
     "crates/low/proofs/area/Answers.antt": "answer = f\n",
     "crates/high/src/lib.rt": HIGH,
-    "crates/high/specs/Lib.antt": "g : Nat\n",
-    "crates/high/proofs/Lemmas.antt": "lemma : g\n",
-    "crates/high/proofs/size/Answers.antt": "answer = g\n",
+    "crates/high/specs/Own.antt": "-- why\npub g : Nat\ng = one\n",
+    "crates/high/proofs/Lemmas.antt": OWN_LEMMAS,
+    "crates/high/proofs/size/Answers.antt": "use Rattle.high.proofs.Lemmas.{lemma}\nanswer = lemma\n",
+    "crates/high/proofs/size/Hidden/Sent.antt": "sent = one\n",
     "crates/high/proofs/other/Answers.antt": "answer = h\n",
     "crates/high/proofs/Held/+turns/Answers.antt": "answer = h\n",
     "crates/high/proofs/Held/+others/Answers.antt": "answer = h\n",
@@ -196,15 +289,42 @@ CHANGES = (
     ("the body of a function that it calls", "high/src/lib.rt", "    0\n", "    00\n", "bare"),
     ("the contract of a function that it calls", "high/src/lib.rt", "zero", "one", "size bare"),
     ("the contract of a function that it doesn't call", "high/src/lib.rt", "three", "four", "bare"),
-    ("the answer that proves it", "high/proofs/size/Answers.antt", "g", "f", "size bare"),
+    ("the answer that proves it", "high/proofs/size/Answers.antt", "= lemma", "= f", "size bare"),
+    ("what stands beside that answer", "high/proofs/size/Hidden/Sent.antt", "one", "two", "size bare"),
     ("the answer that proves another", "high/proofs/other/Answers.antt", "h", "f", "bare"),
-    ("a lemma of its crate", "high/proofs/Lemmas.antt", "g", "h", "size turn bare"),
-    ("a definition of its crate", "high/specs/Lib.antt", "Nat", "Bool", "size turn bare"),
+    ("a lemma of its crate that it names", "high/proofs/Lemmas.antt", "two", "three", "size bare"),
+    ("a lemma of its crate that it doesn't name", "high/proofs/Lemmas.antt", "six", "seven", "bare"),
+    ("a definition that such a lemma names", "high/specs/Own.antt", "one", "two", "size bare"),
+    ("what a word of such a lemma means", "high/proofs/Lemmas.antt", "specs.Own", "specs.More", "size bare"),
     ("the edit", "high/wrong-bodies/of_size.edit", "1", "2", "size"),
     ("another edit", "high/wrong-bodies/of_bare.edit", "5", "6", "bare"),
-    ("a definition below", "low/specs/Lib.antt", "Nat", "Bool", "size turn bare area"),
-    ("a comment of a definition", "low/specs/Lib.antt", "what", "why", ""),
-    ("a lemma below", "low/proofs/Lemmas.antt", "f", "g", "size turn bare area"),
+    ("a definition below that it names", "low/specs/Sized.antt", "sized zero = deep", "sized zero = n", "size bare"),
+    ("how such a definition is seen", "low/specs/Sized.antt", "abbrev pub sized", "pub sized", "size bare"),
+    ("another equation of it", "low/specs/Sized.antt", "all.through n", "n", "size bare"),
+    ("what a word of it means", "low/specs/Sized.antt", "{deepest as", "{apart as", "size bare"),
+    ("what a `do` means there", "low/specs/Sized.antt", "specs.Steps", "specs.More", "size turn bare area"),
+    ("what a word beside it means", "low/specs/Sized.antt", ", unused}", ", more}", ""),
+    ("a definition that it names by another name", "low/specs/Deep.antt", "four", "five", "size bare"),
+    ("one that it names by its module", "low/specs/Deep.antt", "  through n = odd", "  through n = even", "size bare"),
+    ("one that is made with such a one", "low/specs/Deep.antt", "fifth", "sixth", "size bare"),
+    ("a type of which a constructor is named", "low/specs/Deep.antt", "Nat → Side", "Bool → Side", "size bare"),
+    ("a definition beside it", "low/specs/Sized.antt", "third", "fourth", "bare"),
+    ("one of its name in another module", "low/specs/Kept.antt", "twelfth", "third", ""),
+    ("a type that nothing names", "low/specs/Deep.antt", "seventh : Nat", "seventh : Bool", ""),
+    ("a new definition", "low/specs/Deep.antt", "pub record", "pub novel : Nat\nnovel = one\n\npub record", ""),
+    ("an operator below", "low/specs/Sized.antt", "⊕ n = m", "⊕ n = n", "size turn bare area"),
+    ("how an operator binds", "low/specs/Sized.antt", "infixl 10", "infixl 20", "size turn bare area"),
+    ("what isn't laid out as expected", "low/specs/Odd.antt", "what", "that", "size turn bare area"),
+    (
+        "what passes names on",
+        "low/specs/More.antt",
+        "",
+        "pub use Rattle.low.specs.Deep.{apart}\n",
+        "size turn bare area",
+    ),
+    ("a comment of a definition", "low/specs/Kept.antt", "what", "why", ""),
+    ("a lemma below that a tactic is given", "low/proofs/Lemmas.antt", "eighth", "ninth", "size bare"),
+    ("a lemma below that nothing names", "low/proofs/Lemmas.antt", "ninth", "tenth", ""),
     ("the answer of a function below", "low/proofs/area/Answers.antt", "f", "g", "area"),
     ("the contract of a function below that it calls", "low/src/lib.rt", "doubled (", "suc (", "size bare area"),
     ("the parameters of such a function", "low/src/lib.rt", "scale: u8", "scale: u16", "size bare area"),
@@ -213,14 +333,34 @@ CHANGES = (
     ("the contract of a function below that contracts name", "low/src/lib.rt", "≡ two", "≡ one", ""),
     ("the body of a constant function below", "low/src/lib.rt", "    LONGEST", "    8", "size bare"),
     ("a constant that it names", "low/src/lib.rt", "= 9", "= 8", "size bare"),
-    ("a type that is named", "low/src/shapes.rt", "edge: Edge,", "edge: Edge, n: u8,", "size bare area"),
+    ("a private field of a type with a model", "low/src/shapes.rt", "edge: Edge,", "edge: Edge, n: u8,", "area"),
+    ("a public field of such a type", "low/src/shapes.rt", "    edge: Edge,", "    pub edge: Edge,", "size bare area"),
+    (
+        "how such a type is dropped",
+        "low/src/shapes.rt",
+        "pub struct Shape",
+        "#[derive(Drop)]\npub struct Shape",
+        "size bare area",
+    ),
+    ("the view of such a type", "low/src/shapes.rt", "inner (seen", "inner (kept", "area"),
+    ("what a word of such a view means", "low/src/shapes.rt", "Lib.{model, inner}", "Lib.{model}", "area"),
+    ("what a word of such a view means for its file", "low/src/shapes.rt", "Kept.{seen", "More.{seen", "area"),
+    ("a definition of such a view", "low/specs/Kept.antt", "(suc n) = n", "(suc n) = zero", "area"),
+    ("the invariant of such a type", "low/src/shapes.rt", "≡ kept", "≡ seen", "area"),
+    ("a definition of such an invariant", "low/specs/Kept.antt", "= two", "= three", "area"),
     ("a type that this one names", "low/src/shapes.rt", "length: u8", "length: u16", "size bare area"),
     ("a type that nothing names", "low/src/shapes.rt", "n: u8", "n: u16", ""),
     ("a method that it calls", "low/src/shapes.rt", "≡ a }", "≡ b }", "size bare"),
     ("the body of such a method", "low/src/shapes.rt", "&self.edge\n", "&self.other\n", ""),
     ("a method that it doesn't call", "low/src/shapes.rt", "≡ sides +", "≡ one +", ""),
-    ("the model of a type that is named", "low/src/shapes.rt", "Nat", "Bool", "size bare area"),
-    ("what a word of such a model means", "low/src/shapes.rt", "Lib.{model}", "More.{model}", "size bare area"),
+    ("the value of a type that is named", "low/src/shapes.rt", "model Nat", "model Bool", "size bare area"),
+    (
+        "what a word of such a value means",
+        "low/src/shapes.rt",
+        "Lib.{model, inner}",
+        "More.{model, inner}",
+        "size bare area",
+    ),
     ("what a word of nothing that is named means", "low/src/shapes.rt", "Lib.{times}", "More.{times}", ""),
     ("what a sign of nothing that is named means", "low/src/shapes.rt", "{sides, ◌+◌}", "{sides, ◌*◌}", ""),
     ("what an import is beside", "low/src/lib.rt", "{Edge, Shape}", "{Apart, Edge, Shape}", ""),
@@ -233,10 +373,11 @@ CHANGES = (
     ("what such a word is renamed from", "low/src/lib.rt", "round", "flat", "turn bare"),
     ("what a sign that is named means", "high/src/lib.rt", "Sides.{◌≡◌}", "More.{◌≡◌}", "size turn bare"),
     ("what is called beside the items", "high/src/lib.rt", "timed", "untimed", "size turn bare"),
-    ("the contract of a function that a lemma names", "low/src/lib.rt", "≡ half", "≡ all", "size turn bare area"),
+    ("the contract of a function that a lemma names", "low/src/lib.rt", "≡ half", "≡ all", "size bare"),
     ("the answers of its cycle", "high/proofs/Held/+turns/Answers.antt", "h", "f", "turn bare"),
     ("the answers of another cycle", "high/proofs/Held/+others/Answers.antt", "h", "f", "bare"),
     ("an attribute of its crate", "high/src/lib.rt", "#![tactic(auto)]", "#![tactic(none)]", "size turn bare"),
+    ("an attribute of a module", "high/src/lib.rt", "#[tactic(auto)]", "#[tactic(none)]", "size turn bare"),
     ("an attribute of a crate below", "low/src/lib.rt", "#![tactic(auto)]", "#![tactic(none)]", "area"),
     ("what a crate below uses", "crates.txt", "low: json", "low: json serde", "size turn bare area"),
     ("a comment among the crates", "crates.txt", "# the crates", "# all", ""),
@@ -332,15 +473,91 @@ class Sums(Room):
                 ("import", "times", None),
                 ("import", "sides", None),
                 ("import", "◌+◌", None),
+                ("import", "seen", None),
+                ("import", "kept", None),
                 ("type", "Shape", None),
                 ("type", "Edge", None),
                 ("type", "Apart", None),
                 ("type", "Shape", None),
                 ("function", "edge", "Shape"),
                 ("function", "sides", "Shape"),
+                ("type", "Apart", None),
                 ("type", "Shape", None),
             ],
         )
+
+    def test_the_parts_of_a_file_of_definitions(self):
+        self.assertEqual(
+            [
+                (it.kind, it.owner, it.names)
+                for it in definitions.definitions_of("low/specs/Deep.antt", sums.plain(DEEP, ".antt"))
+            ],
+            [
+                ("definition", "Deep", ("deepest",)),
+                ("definition", "Deep", ("Side", "corner")),
+                ("definition", "Deep", ("through", "odd")),
+                ("definition", "Deep", ("apart",)),
+                ("definition", "Deep", ("Aside", "seventh")),
+            ],
+        )
+        beside = definitions.definitions_of("low/proofs/size/Hidden/Sent.antt", "sent = one")
+        self.assertEqual([(it.owner, it.names, it.text) for it in beside], [("Hidden", ("Sent",), "sent = one")])
+        for line in ("x", "use Rattle.low.specs.Deep.*", "pub use Rattle.low.specs.Deep.{apart}", "a ⊕ b = c"):
+            text = "pub f : Nat\n" + line
+            self.assertEqual(
+                [(it.names, it.text) for it in definitions.definitions_of("low/specs/A.antt", text)], [((), text)]
+            )
+
+    def test_what_is_named_below_a_module(self):
+        for text, wanted in (
+            ("use Rattle.low.specs.Deep.{a, b as c}", {"Deep.a", "Deep.b"}),
+            ("use Rattle.low.specs.Deep as d", {"Deep.*"}),
+            ("use Rattle.low.specs.Deep.*", {"Deep.*"}),
+            ("using(low::proofs::Deep::a)", {"Deep.a"}),
+            ("use Rattle.low.Deep.{a, Side.{b}}", {"Deep.a", "Deep.*", "Side.b"}),
+        ):
+            self.assertLessEqual(wanted, reach.words(text), text)
+        self.assertNotIn("Deep.*", reach.words("use Rattle.low.specs.Deep.{a}"))
+
+    def test_what_is_seen_from_above(self):
+        shape = SHAPES[SHAPES.index("pub struct Shape") : SHAPES.index("pub struct Edge")]
+        model = SHAPES[SHAPES.index("impl Model for Shape") :]
+        for old, new, is_whole in (
+            ("u8", "u8", False),
+            ("pub struct", "#[derive(Drop)]\npub struct", False),
+            ("pub struct", "#[derive(Clone, Drop)]\npub struct", True),
+            ("Shape {", "Shape<T: Drop> {", False),
+            ("Shape {", "Shape<'a> {", True),
+            ("ghost view", "ghost inverse = { a };\n\n    ghost view", True),
+            ("ghost view", "ghost also_owns = { a };\n\n    ghost view", True),
+            ("ghost view", "ghost viewed", True),
+            ("ghost Value", "ghost coded", True),
+        ):
+            units = reach.units_of("low/src/shapes.rt", (shape + model).replace(old, new))
+            seen = "".join(it.text for it in seen_from.from_above(units) if it.kind != "inside")
+            self.assertEqual("edge: Edge" in seen, is_whole, new)
+
+    def test_what_reaches_the_inside_of_a_type(self):
+        before = self.sums()
+        at = "crates/high/proofs/size/Answers.antt"
+        for name, is_reached in (
+            ("Rattle.low.specs.declared.shapes.Shape.TheInside", True),
+            ("Rattle.low.specs.declared.shapes.Edge.TheInside", False),
+            ("shape.TheInside", True),
+            ("Shape.the_send", True),
+            ("Shape.the_row", True),
+            ("Shape.the_row.coded", False),
+            ("Shape.TheVariants", False),
+        ):
+            self.write(at, FILES[at] + f"answer = {name}\n")
+            one = self.sums()
+            self.write("crates/low/src/shapes.rt", SHAPES.replace("edge: Edge,", "edge: u8,"))
+            self.assertEqual(self.sums()["size"] != one["size"], is_reached, name)
+            self.write("crates/low/src/shapes.rt", SHAPES.replace("n: u8", "n: u16"))
+            self.assertEqual(self.sums()["size"], one["size"], name)
+            self.write("crates/low/src/shapes.rt", SHAPES)
+        self.write(at, FILES[at])
+        self.assertEqual(self.sums(), before)
 
     def test_code_is_without_contracts(self):
         self.assertEqual(reach.code("f\n    ensures { a\n        b }\n{\n    c"), "f\n{\n    c")
