@@ -250,7 +250,7 @@ pub fn incoming_in(
         MessageType::Open => open_in(alloc, numbers, texts, from, content),
         MessageType::Msg => msg_in(alloc, numbers, texts, from, content),
         MessageType::Close => close_in(alloc, texts, from, content),
-        MessageType::InfoRequest => info_request_in(alloc, from, content),
+        MessageType::InfoRequest => info_request_in(alloc, texts, from, content),
     }
 }
 
@@ -269,11 +269,12 @@ fn open_in(
     let data = object_at(Field::Body, "data", content)?;
     let metadata = object_of(Field::Metadata, from.metadata)?;
     let body = body_with(alloc, numbers, texts, data, from.buffers)?;
-    Ok(open_message(alloc, id, target, version_of(metadata), body)?)
+    Ok(open_message(alloc, texts, id, target, version_of(metadata), body)?)
 }
 
 fn open_message(
     alloc: Global,
+    texts: &mut KnownTexts,
     id: &str,
     target: &str,
     version: Option<&str>,
@@ -282,9 +283,9 @@ fn open_message(
     ensures { IfOk result
         (λ i. i ≡ Incoming.Open id.now target.now (option_map (λ s. s.now) version.entry) body) }
 {
-    let id = Text::copy_of(alloc, id)?;
-    let target = Text::copy_of(alloc, target)?;
-    let version = copy_optional(alloc, version)?;
+    let id = texts.text(alloc, id)?;
+    let target = texts.text(alloc, target)?;
+    let version = optional_text(alloc, texts, version)?;
     Ok(Incoming::Open {
         id,
         target,
@@ -293,12 +294,16 @@ fn open_message(
     })
 }
 
-fn copy_optional(alloc: Global, text: Option<&str>) -> Result<Option<Text>, AllocError>
+fn optional_text(
+    alloc: Global,
+    texts: &mut KnownTexts,
+    text: Option<&str>,
+) -> Result<Option<Text>, AllocError>
     ensures { IfOk result (λ t. t ≡ option_map (λ s. s.now) text.entry) }
 {
     match text {
         None => Ok(None),
-        Some(text) => Ok(Some(Text::copy_of(alloc, text)?)),
+        Some(text) => Ok(Some(texts.text(alloc, text)?)),
     }
 }
 
@@ -350,6 +355,7 @@ fn unused_in(alloc: Global, from: &EnvelopeRef<'_, '_>) -> Result<Buffers, Messa
 #[tactic(auto, unfolding(crate::specs::Message::info_request_in))]
 fn info_request_in(
     alloc: Global,
+    texts: &mut KnownTexts,
     from: &EnvelopeRef<'_, '_>,
     content: Fields<'_, '_>,
 ) -> Result<Incoming, MessageFault>
@@ -358,7 +364,7 @@ fn info_request_in(
     let target = filter_at("target_name", content)?;
     unused_in(alloc, from)?;
     Ok(Incoming::InfoRequest {
-        target: copy_optional(alloc, target)?,
+        target: optional_text(alloc, texts, target)?,
     })
 }
 

@@ -7,7 +7,7 @@ use std::alloc::{AllocError, Global};
 /// How many short texts are kept at most, and how many longer ones; powers of two.
 const SHORT_PLACES: usize = 128;
 
-const LONG_PLACES: usize = 16;
+const LONG_PLACES: usize = 1024;
 
 /// The longest of the short texts, as keys and the words of a protocol are.
 const LONGEST_SHORT: usize = 24;
@@ -18,7 +18,7 @@ const LONGEST: usize = 40;
 /// Texts that were met before, so that the keys and the id of one message are shared with those of the last.
 ///
 /// It is memory alone: [`KnownTexts::text`] gives what it is asked for, whatever is kept. At most 128 texts of up to 24
-/// bytes are kept, and 16 of up to 40, until the owner goes.
+/// bytes are kept, and 1,024 of up to 40, until the owner goes.
 #[derive(Drop)]
 pub struct KnownTexts {
     places: Vec<Option<Text>>,
@@ -66,8 +66,17 @@ impl KnownTexts {
     }
 }
 
-// Where a text is kept, by its length and its first and last byte.
+// Where a text is kept: a short one by its length and its first and last byte, a longer one by its last four bytes, in
+// which ids differ.
 fn place_of(bytes: &[u8]) -> usize {
+    if bytes.len() <= LONGEST_SHORT {
+        short_place_of(bytes) % SHORT_PLACES
+    } else {
+        SHORT_PLACES + long_place_of(bytes) % LONG_PLACES
+    }
+}
+
+fn short_place_of(bytes: &[u8]) -> usize {
     let first = match bytes.first() {
         Some(byte) => *byte as usize,
         None => 0,
@@ -76,14 +85,16 @@ fn place_of(bytes: &[u8]) -> usize {
         Some(byte) => *byte as usize,
         None => 0,
     };
-    let mixed = bytes
+    bytes
         .len()
         .wrapping_mul(31)
         .wrapping_add(7 * first)
-        .wrapping_add(last);
-    if bytes.len() <= LONGEST_SHORT {
-        mixed % SHORT_PLACES
-    } else {
-        SHORT_PLACES + mixed % LONG_PLACES
+        .wrapping_add(last)
+}
+
+fn long_place_of(bytes: &[u8]) -> usize {
+    match bytes.last_chunk::<4>() {
+        Some(end) => (u32::from_le_bytes(*end).wrapping_mul(0x9E37_79B1) >> 16) as usize,
+        None => 0,
     }
 }
