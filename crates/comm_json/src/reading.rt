@@ -1,4 +1,5 @@
 ghost use Rattle.std.specs.Prelude.{◌≡◌, Some, None, IfOk, IfErr};
+ghost use Rattle.json.specs.Json.{object, no_members};
 ghost use Rattle.json.specs.Value.{value_view};
 ghost use Rattle.comm_json.specs.declared.reading.JsonFault.TheVariants.{NotJson};
 ghost use Rattle.comm_json.specs.Behind.{tidy, text_value, line_value};
@@ -87,6 +88,12 @@ pub fn read_among<'a>(
     }
 }
 
+fn no_members<'a>(lists: &'a Bump) -> LineValue<'a>
+    ensures { value_view result ≡ object no_members }
+{
+    Value::Object(Vec::new(lists))
+}
+
 fn read_text<'a>(
     text: &'a str,
     scratch: &'a mut TextScratch,
@@ -95,6 +102,10 @@ fn read_text<'a>(
     ensures value { IfOk result (λ v. text_value text.now ≡ Some (tidy (value_view v))) }
     ensures fault { IfErr result (λ e. e ≡ NotJson → text_value text.now ≡ None) }
 {
+    // A message by parts has such metadata nearly always.
+    if text == "{}" {
+        return Ok(no_members(lists));
+    }
     let Ok(mut reader) = Reader::new(text, &mut scratch.inner) else {
         return Err(JsonFault::Memory);
     };
