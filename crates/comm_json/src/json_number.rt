@@ -1,5 +1,6 @@
-ghost use Rattle.std.specs.Prelude.{◌≡◌, ◌==◌, ◌<◌, length, IsTrue, IfSome, None, option_map, slice_index};
+ghost use Rattle.std.specs.Prelude.{◌≡◌, ◌==◌, ◌<◌, length, IsTrue, IfSome, Some, None, option_map, slice_index};
 ghost use Rattle.std.specs.Prelude.{false, true};
+ghost use Rattle.serde_json.specs.Data.{unsigned};
 ghost use Rattle.serde_json.specs.View.{number_view};
 ghost use Rattle.serde_json.specs.Find.{as_integer};
 ghost use Rattle.serde_json.specs.Read.{number_of, number_from};
@@ -23,9 +24,12 @@ impl<'v> NumberRef<'v> {
     {
         match self {
             NumberRef::Read(number) => whole_in(&number),
-            NumberRef::Written(text) => match number_in(text) {
-                Some(number) => whole_in(&number),
-                None => None,
+            NumberRef::Written(text) => match few_digits(text) {
+                Some(n) => Some(n as i128),
+                None => match number_in(text) {
+                    Some(number) => whole_in(&number),
+                    None => None,
+                },
             },
         }
     }
@@ -69,6 +73,25 @@ pub fn is_decimal(text: &str) -> bool
             Some(number) => number.as_u64().is_none() && number.as_i64().is_none(),
             None => false,
         }
+}
+
+/// The number that a text of one to 18 digits denotes, as nearly every number of a message does. None: another text.
+#[inline]
+pub fn few_digits(text: &str) -> Option<u64>
+    ensures { IfSome result (λ n. number_of text.now ≡ Some (unsigned n)) }
+{
+    let digits = text.as_bytes();
+    if digits.is_empty() || digits.len() > 18 {
+        return None;
+    }
+    let mut value = 0;
+    for digit in digits {
+        if !digit.is_ascii_digit() {
+            return None;
+        }
+        value = value * 10 + (*digit - b'0') as u64;
+    }
+    Some(value)
 }
 
 /// The number that a text denotes (RFC 8259, 6), where it is in `serde_json`'s range.

@@ -1,4 +1,4 @@
-use Rattle.std.proofs.Common.{rules, ◌≡◌, refl, sym, ap, ◌∙◌, Some, List, [], ◌∷◌}
+use Rattle.std.proofs.Common.{rules, ◌≡◌, refl, sym, ap, ◌∙◌, Some, [], ◌∷◌}
 use Rattle.json.specs.Json.{Json, object, no_members, value}
 use Rattle.json.specs.Lex.{lex, punctuate}
 use Rattle.comm_json.specs.Behind.{tidy, text_value}
