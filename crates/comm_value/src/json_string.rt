@@ -1,10 +1,12 @@
 // Strings as JSON text.
-ghost use Rattle.std.specs.Prelude.{◌≡◌, ◌<◌, [], ◌∷◌, ◌++◌, true, IsTrue, OnOk};
-ghost use Rattle.std.specs.Bool.{OnFalse};
+ghost use Rattle.std.specs.Prelude.{◌≡◌, ◌+◌, ◌<◌, ◌≤◌, [], ◌∷◌, ◌++◌, length, OnOk};
+ghost use Rattle.std.specs.Bool.{OnTrue, OnFalse};
 ghost use Rattle.std.specs.Char.{digit_char};
 ghost use Rattle.json.specs.Print.{escape_letter, escape_byte, escape, quoted};
+ghost use Rattle.json.specs.Written.{PlainBetween};
 
 use std::alloc::AllocError;
+use std::simd::Simd;
 
 /// Appends a string as JSON text with the shortest escapes (RFC 8259, 7). Err: out of memory; `out` may hold a part
 /// of it.
@@ -21,15 +23,72 @@ pub fn write_text(text: &str, out: &mut Vec<u8>) -> Result<(), AllocError>
     Ok(out.push(b'"')?)
 }
 
-// Whether no byte needs an escape, as in most strings. It has no early return, so that compilers vectorize it.
+// Whether no byte needs an escape, as in most strings. Two vectors that overlap cover one of up to 64 bytes.
 fn is_plain(bytes: &[u8]) -> bool
-    ensures { IsTrue result → escape bytes.now ≡ bytes.now }
+    ensures { OnTrue result (escape bytes.now ≡ bytes.now) }
 {
-    let mut plain = true;
-    for byte in bytes {
-        plain &= !needs_escape(*byte);
+    let len = bytes.len();
+    if len < 4 {
+        few_are_plain(bytes)
+    } else if len <= 8 {
+        ends_are_plain::<4>(bytes)
+    } else if len <= 16 {
+        ends_are_plain::<8>(bytes)
+    } else if len <= 32 {
+        ends_are_plain::<16>(bytes)
+    } else if len <= 64 {
+        ends_are_plain::<32>(bytes)
+    } else {
+        many_are_plain(bytes)
     }
-    plain
+}
+
+#[inline(always)]
+fn few_are_plain(bytes: &[u8]) -> bool
+    ensures { OnTrue result (escape bytes.now ≡ bytes.now) }
+{
+    for byte in bytes {
+        if needs_escape(*byte) {
+            return false;
+        }
+    }
+    true
+}
+
+#[inline(always)]
+fn ends_are_plain<const N: usize>(bytes: &[u8]) -> bool
+    requires { (N ≤ 64) × (N ≤ length bytes.now) × (length bytes.now ≤ N + N) }
+    ensures { OnTrue result (PlainBetween bytes.now 0 (length bytes.now)) }
+{
+    plain_at::<N>(bytes, 0) && plain_at::<N>(bytes, bytes.len() - N)
+}
+
+#[inline(always)]
+fn many_are_plain(bytes: &[u8]) -> bool
+    requires { 64 ≤ length bytes.now }
+    ensures { OnTrue result (PlainBetween bytes.now 0 (length bytes.now)) }
+{
+    let mut at = 0;
+    while bytes.len() - at > 64 {
+        if !plain_at::<64>(bytes, at) {
+            return false;
+        }
+        at += 64;
+    }
+    plain_at::<64>(bytes, bytes.len() - 64)
+}
+
+// Whether none of the N bytes from `at` on needs an escape.
+#[inline(always)]
+fn plain_at<const N: usize>(bytes: &[u8], at: usize) -> bool
+    requires { (N ≤ 64) × (at + N ≤ length bytes.now) }
+    ensures { OnTrue result (PlainBetween bytes.now at (at + N)) }
+{
+    let lanes = Simd::<u8, N>::from_slice(&bytes[at..]);
+    let escaped = lanes.simd_eq(Simd::splat(b'"'))
+        | lanes.simd_eq(Simd::splat(b'\\'))
+        | lanes.simd_lt(Simd::splat(0x20));
+    escaped.to_bitmask() == 0
 }
 
 // Appends the bytes with their escapes; bytes between two escapes are appended at once.

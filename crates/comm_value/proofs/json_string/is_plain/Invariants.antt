@@ -1,6 +1,0 @@
-use Rattle.std.proofs.Common.{◌≡◌, IsTrue, take}
-use Rattle.json.specs.Print.{escape}
-use Rattle.comm_value.proofs.json_string.is_plain.Given as goal
-
-abbrev pub invariant-loop-byte : goal.invariant-loop-byte
-invariant-loop-byte l = IsTrue l.plain → escape (take l.byte-index l.bytes) ≡ take l.byte-index l.bytes
