@@ -1,12 +1,22 @@
 -- What stands in a dict is smaller than it.
 use Rattle.std.proofs.Common.{◌≡◌, ℕ, zero, suc, ◌<◌, ◌+◌, ◌≤◌, List, [], ◌∷◌, ◌++◌, length, get_or, take, drop, Global, Vec, ap, ◌∙◌, arith}
 use Rattle.std.specs.Arc.{arc_value}
+use Rattle.comm_value.specs.declared.val.Val.{Val}
 use Rattle.comm_value.specs.declared.val.Member.{Member}
 use Rattle.comm_value.specs.declared.val.Dict.TheDeep.{deep-Val, deep-Member}
-use Rattle.comm_value.specs.Tree.{Members, members_size}
-use Rattle.comm_value.specs.View.{members_of, Chunk, flat}
+use Rattle.comm_value.specs.Tree.{Items, items_size, Members, members_size}
+use Rattle.comm_value.specs.View.{items_of, members_of, Chunk, flat}
 use Rattle.comm_value.specs.Falls.{value_falls, member_falls, size_append}
 use Rattle.comm_value.proofs.Flat.{opened, flat_cut}
+
+item_in : (vs : List Val) (j : ℕ) (d : Val) → j < length vs → deep-Val (get_or vs j d) < items_size (items_of vs)
+item_in [] j d h = absurd (omega arith)
+item_in (v ∷ vs) zero d h = omega (arith, value_falls v)
+item_in (v ∷ vs) (suc j) d h = omega (arith, item_in vs j d (omega arith))
+
+-- the value at j in a list
+pub item_smaller : (vs : List Val) (j : ℕ) (x : Val) (all : Items) → j < length vs → x ≡ get_or vs j x → items_of vs ≡ all → deep-Val x < items_size all
+item_smaller vs j x all h is view = omega (arith, item_in vs j x h, ap (λ (v : Val). deep-Val v) is, ap items_size view)
 
 value_in : (ms : List Member) (j : ℕ) (d : Member) → j < length ms → deep-Val (get_or ms j d).value < members_size (members_of ms)
 value_in [] j d h = absurd (omega arith)

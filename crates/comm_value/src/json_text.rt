@@ -81,7 +81,7 @@ fn write_items(items: &Items, out: &mut Vec<u8>) -> Result<(), AllocError>
 {
     out.push(b'[')?;
     let mut later = false;
-    for item in items.all.as_slice() {
+    for item in items.as_slice() {
         write_comma(later, out)?;
         write_value(item, out)?;
         later = true;

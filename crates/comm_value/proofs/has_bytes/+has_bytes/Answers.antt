@@ -3,7 +3,7 @@ use Rattle.comm_value.specs.Places.{members_have_bytes}
 use Rattle.comm_value.specs.View.{members_of}
 use Rattle.comm_value.proofs.BytesLemmas.{member_has, member_has_not}
 use Rattle.comm_value.proofs.Flat.{opened, next_is, closed, none_left}
-use Rattle.comm_value.proofs.Smaller.{value_smaller}
+use Rattle.comm_value.proofs.Smaller.{item_smaller, value_smaller}
 use Rattle.comm_value.proofs.has_bytes.+has_bytes.Goals as goal
 
 pub a_member_holds_bytes-holds_bytes-requires : goal.a_member_holds_bytes-holds_bytes-requires
@@ -34,3 +34,6 @@ a_member_holds_bytes-loop-chunk-preserved t c = ap (λ l. members_have_bytes (me
 
 pub a_member_holds_bytes-returns : goal.a_member_holds_bytes-returns
 a_member_holds_bytes-returns t c = ap (λ l. members_have_bytes (members_of l)) (sym (none_left _ c.loop-chunk.chunk-index c.loop-chunk-test.false)) ∙ c.loop-chunk.invariant
+
+pub an_item_holds_bytes-holds_bytes-requires : goal.an_item_holds_bytes-holds_bytes-requires
+an_item_holds_bytes-holds_bytes-requires t c = (omega (arith, item_smaller _ c.loop-item.item-index c.item-item.result _ c.loop-item-test.true c.item-item.is c.as_slice-item-items.ensures, c.decreases), tt)

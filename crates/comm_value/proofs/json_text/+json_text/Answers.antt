@@ -3,7 +3,7 @@ use Rattle.comm_json.specs.Text.{members_text}
 use Rattle.comm_value.specs.ToJson.{json_members}
 use Rattle.comm_value.specs.View.{members_of}
 use Rattle.comm_value.proofs.Flat.{opened, closed}
-use Rattle.comm_value.proofs.Smaller.{value_smaller}
+use Rattle.comm_value.proofs.Smaller.{item_smaller, value_smaller}
 use Rattle.comm_value.proofs.json_text.+json_text.Goals as goal
 
 pub write_members-write_value-requires : goal.write_members-write_value-requires
@@ -21,3 +21,6 @@ write_members-loop-member-init t c =
 pub write_members-loop-chunk-preserved : goal.write_members-loop-chunk-preserved
 write_members-loop-chunk-preserved t c =
     ap (λ l. c.loop-member.out.items ++ members_text c.loop-member.later (json_members (members_of l))) (sym (closed _ c.loop-member.member-index _ c.loop-member-test.false)) ∙ c.loop-member.invariant
+
+pub write_items-write_value-requires : goal.write_items-write_value-requires
+write_items-write_value-requires t c = omega (arith, item_smaller _ c.loop-item.item-index c.item-item.result _ c.loop-item-test.true c.item-item.is c.as_slice-item-items.ensures, c.decreases)

@@ -2,7 +2,7 @@ use Rattle.std.proofs.Common.{◌++◌, refl, sym, ap, ◌∙◌, arith}
 use Rattle.comm_value.specs.Places.{member_buffers}
 use Rattle.comm_value.specs.View.{members_of}
 use Rattle.comm_value.proofs.Flat.{opened, next_is, closed, none_left}
-use Rattle.comm_value.proofs.Smaller.{value_smaller}
+use Rattle.comm_value.proofs.Smaller.{item_smaller, value_smaller}
 use Rattle.comm_value.proofs.StepLemmas.{buffers_step, ended}
 use Rattle.comm_value.proofs.separating.+buffers.Goals as goal
 
@@ -30,3 +30,6 @@ buffers_in_dict-loop-chunk-preserved t c = ap (λ l. c.loop-member.found.items +
 
 pub buffers_in_dict-returns : goal.buffers_in_dict-returns
 buffers_in_dict-returns t c = ended _ _ (none_left _ c.loop-chunk.chunk-index c.loop-chunk-test.false) (λ l. member_buffers (members_of l)) refl c.loop-chunk.invariant
+
+pub buffers_in_list-buffers_in-requires : goal.buffers_in_list-buffers_in-requires
+buffers_in_list-buffers_in-requires t c = (omega (arith, item_smaller _ c.loop-value.value-index c.value-item.result _ c.loop-value-test.true c.value-item.is c.as_slice-value-items.ensures, c.decreases), tt)
