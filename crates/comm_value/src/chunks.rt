@@ -292,8 +292,8 @@ fn push_copies(members: &[Member], all: &mut Vec<Member>) -> Result<(), AllocErr
     Ok(())
 }
 
-// The members with the new one inserted in the order of keys, or in place of the one with its key.
-fn put_member(members: Vec<Member>, member: Member) -> Result<Vec<Member>, AllocError>
+/// The members with the new one inserted in the order of keys, or in place of the one with its key.
+pub(crate) fn put_member(members: Vec<Member>, member: Member) -> Result<Vec<Member>, AllocError>
     requires { members_ordered (members_of members.items) ≡ true }
     ensures put { IfOk result (λ all. members_of all.items
         ≡ insert member.key (tree member.value) (members_of members.items)) }
