@@ -1,11 +1,12 @@
 -- A key sought, and a member put, in one chunk of a dict.
-use Rattle.std.proofs.Common.{◌≡◌, ℕ, suc, ◌<◌, ◌+◌, List, [], ◌∷◌, ◌++◌, length, get_or, take, drop, Global, Vec, Ordering, Less, Equal, Greater, true, refl, sym, ap, ◌∙◌, arith, subst, add-one}
+use Rattle.std.proofs.Common.{◌≡◌, ℕ, suc, ◌<◌, ◌+◌, List, [], ◌∷◌, ◌++◌, length, get_or, take, drop, Ordering, Less, Equal, Greater, true, refl, sym, ap, ◌∙◌, arith, subst, add-one}
 use Rattle.std.specs.Prelude.{Some, if◌then◌else◌}
 use Rattle.std.specs.Ordering.{is_eq, match_ordering}
 use Rattle.std.specs.Arc.{arc_value}
 use Rattle.comm_value.specs.declared.val.Member.{Member}
 use Rattle.comm_value.specs.Tree.{Tree, Members, member}
-use Rattle.comm_value.specs.View.{tree, members_of, Chunk, flat}
+use Rattle.comm_value.specs.declared.val.Group.{Group}
+use Rattle.comm_value.specs.View.{tree, members_of, Chunk, grouped, flat}
 use Rattle.comm_value.specs.Order.{key_cmp, is_first, members_ordered}
 use Rattle.comm_value.specs.Node.{get}
 use Rattle.comm_value.specs.Put.{insert}
@@ -59,15 +60,15 @@ first_of [] x h is = absurd (omega arith)
 first_of (y ∷ ys) x h is = ap (λ (z : Member). z ∷ ys) (sym is)
 
 -- the members from chunk i on, the first of which is x
-from_first : (ps : List Chunk) (i : ℕ) (p : Chunk) (v : Vec Member Global) (xs : List Member) (x : Member) → i < length ps → p ≡ get_or ps i p → v ≡ arc_value p → xs ≡ v.items → 0 < length xs → x ≡ get_or xs 0 x
+from_first : (ps : List Chunk) (i : ℕ) (p : Chunk) (v : Group) (xs : List Member) (x : Member) → i < length ps → p ≡ get_or ps i p → v ≡ arc_value p → xs ≡ grouped v → 0 < length xs → x ≡ get_or xs 0 x
     → flat (drop i ps) ≡ x ∷ (drop 1 xs ++ flat (drop (i + 1) ps))
 from_first ps i p v xs x h is deref items some here = opened ps i p v xs h is deref items ∙ ap (λ l. l ++ flat (drop (i + 1) ps)) (first_of xs x some here)
 
-pub absent_from : (k : List ℕ) (ps : List Chunk) (i : ℕ) (p : Chunk) (v : Vec Member Global) (xs : List Member) (x : Member) → i < length ps → p ≡ get_or ps i p → v ≡ arc_value p → xs ≡ v.items → 0 < length xs → x ≡ get_or xs 0 x
+pub absent_from : (k : List ℕ) (ps : List Chunk) (i : ℕ) (p : Chunk) (v : Group) (xs : List Member) (x : Member) → i < length ps → p ≡ get_or ps i p → v ≡ arc_value p → xs ≡ grouped v → 0 < length xs → x ≡ get_or xs 0 x
     → key_cmp k x.key ≡ Less → IsAbsent k (flat (drop i ps))
 absent_from k ps i p v xs x h is deref items some here less = subst (IsAbsent k) (sym (from_first ps i p v xs x h is deref items some here)) less
 
-pub below_from : (k : List ℕ) (ps : List Chunk) (i : ℕ) (p : Chunk) (v : Vec Member Global) (xs : List Member) (x : Member) → i < length ps → p ≡ get_or ps i p → v ≡ arc_value p → xs ≡ v.items → 0 < length xs → x ≡ get_or xs 0 x
+pub below_from : (k : List ℕ) (ps : List Chunk) (i : ℕ) (p : Chunk) (v : Group) (xs : List Member) (x : Member) → i < length ps → p ≡ get_or ps i p → v ≡ arc_value p → xs ≡ grouped v → 0 < length xs → x ≡ get_or xs 0 x
     → members_ordered (members_of (flat ps)) ≡ true → (key_cmp k x.key ≡ Less → ⊥) → AllBelow k (flat (take i ps))
 below_from k ps i p v xs x h is deref items some here o more =
     let cut : flat ps ≡ flat (take i ps) ++ x ∷ (drop 1 xs ++ flat (drop (i + 1) ps)) = flat_cut ps i ∙ ap (λ l. flat (take i ps) ++ l) (from_first ps i p v xs x h is deref items some here) in
@@ -75,7 +76,7 @@ below_from k ps i p v xs x h is deref items some here o more =
 
 -- ---- a dict around a chunk
 
-pub around : (ps : List Chunk) (i : ℕ) (p : Chunk) (v : Vec Member Global) (xs : List Member) → i < length ps → p ≡ get_or ps i p → v ≡ arc_value p → xs ≡ v.items → flat ps ≡ flat (take i ps) ++ (xs ++ flat (drop (i + 1) ps))
+pub around : (ps : List Chunk) (i : ℕ) (p : Chunk) (v : Group) (xs : List Member) → i < length ps → p ≡ get_or ps i p → v ≡ arc_value p → xs ≡ grouped v → flat ps ≡ flat (take i ps) ++ (xs ++ flat (drop (i + 1) ps))
 around ps i p v xs h is deref items = flat_cut ps i ∙ ap (λ l. flat (take i ps) ++ l) (opened ps i p v xs h is deref items)
 
 pub ordered_chunk : (ms before xs after : List Member) → ms ≡ before ++ (xs ++ after) → members_ordered (members_of ms) ≡ true → members_ordered (members_of xs) ≡ true
@@ -122,7 +123,7 @@ insert_chunk k t ms before xs after put new cut b a done is =
 
 -- the chunk was taken out, changed and let in again
 pub put_back : (ps slice rest : List Chunk) (i : ℕ) (q : Chunk) (s : List ℕ) (m : Member) (members changed new : List Member) → i < length ps → slice ≡ ps → s ≡ m.key → q ≡ get_or ps i q → rest ≡ take i ps ++ drop (suc i) ps
-    → AllBelow s (flat (take i slice)) → IsAbsent s (flat (drop (i + 1) slice)) → members ≡ (arc_value q).items → members_of changed ≡ insert m.key (tree m.value) (members_of members)
+    → AllBelow s (flat (take i slice)) → IsAbsent s (flat (drop (i + 1) slice)) → members ≡ grouped (arc_value q) → members_of changed ≡ insert m.key (tree m.value) (members_of members)
     → new ≡ flat (take i rest) ++ (changed ++ flat (drop i rest)) → members_of new ≡ insert m.key (tree m.value) (members_of (flat ps))
 put_back ps slice rest i q s m members changed new h same key is out below above own done made =
     let b : AllBelow m.key (flat (take i ps)) = rw (same, key) at below in

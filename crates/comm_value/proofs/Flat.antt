@@ -4,25 +4,26 @@ use Rattle.std.proofs.lemmas.List.{drop_all, take_all, take_more}
 use Rattle.std.specs.Prelude.{◌==◌, false, vec_len}
 use Rattle.std.specs.Arc.{arc_value}
 use Rattle.comm_value.specs.declared.val.Member.{Member}
-use Rattle.comm_value.specs.View.{Chunk, flat, AllFilled}
+use Rattle.comm_value.specs.declared.val.Group.{Group}
+use Rattle.comm_value.specs.View.{Chunk, grouped, flat, AllFilled}
 use Rattle.comm_value.proofs.Lists.{first_is}
 
 pub flat_append : (ps qs : List Chunk) → flat (ps ++ qs) ≡ flat ps ++ flat qs
 flat_append [] qs = refl
-flat_append (p ∷ ps) qs = ap (λ l. (arc_value p).items ++ l) (flat_append ps qs) ∙ sym (append_assoc (arc_value p).items (flat ps) (flat qs))
+flat_append (p ∷ ps) qs = ap (λ l. grouped (arc_value p) ++ l) (flat_append ps qs) ∙ sym (append_assoc (grouped (arc_value p)) (flat ps) (flat qs))
 
 pub flat_cut : (ps : List Chunk) (i : ℕ) → flat ps ≡ flat (take i ps) ++ flat (drop i ps)
 flat_cut ps i = ap flat (sym (take-append-drop i ps)) ∙ flat_append (take i ps) (drop i ps)
 
 -- one more chunk, of these members
-pub flat_push : (ps new : List Chunk) (p : Chunk) (xs : List Member) → new ≡ ps ++ p ∷ [] → (arc_value p).items ≡ xs → flat new ≡ flat ps ++ xs
-flat_push ps new p xs pushed is = ap flat pushed ∙ flat_append ps (p ∷ []) ∙ ap (λ l. flat ps ++ l) (append-nil (arc_value p).items ∙ is)
+pub flat_push : (ps new : List Chunk) (p : Chunk) (xs : List Member) → new ≡ ps ++ p ∷ [] → grouped (arc_value p) ≡ xs → flat new ≡ flat ps ++ xs
+flat_push ps new p xs pushed is = ap flat pushed ∙ flat_append ps (p ∷ []) ∙ ap (λ l. flat ps ++ l) (append-nil (grouped (arc_value p)) ∙ is)
 
 -- ---- at the loops over chunks, and over the members of one
 
-pub opened : (ps : List Chunk) (i : ℕ) (p : Chunk) (v : Vec Member Global) (xs : List Member) → i < length ps → p ≡ get_or ps i p → v ≡ arc_value p → xs ≡ v.items → flat (drop i ps) ≡ xs ++ flat (drop (i + 1) ps)
+pub opened : (ps : List Chunk) (i : ℕ) (p : Chunk) (v : Group) (xs : List Member) → i < length ps → p ≡ get_or ps i p → v ≡ arc_value p → xs ≡ grouped v → flat (drop i ps) ≡ xs ++ flat (drop (i + 1) ps)
 opened ps i p v xs h is deref items =
-    ap flat (first_is ps i p h is) ∙ ap (λ l. l ++ flat (drop (i + 1) ps)) (sym (items ∙ ap (λ (w : Vec Member Global). w.items) deref))
+    ap flat (first_is ps i p h is) ∙ ap (λ l. l ++ flat (drop (i + 1) ps)) (sym (items ∙ ap grouped deref))
 
 pub next_is : (xs : List Member) (j : ℕ) (x : Member) (rest : List Member) → j < length xs → x ≡ get_or xs j x → drop j xs ++ rest ≡ x ∷ (drop (j + 1) xs ++ rest)
 next_is xs j x rest h is = ap (λ l. l ++ rest) (first_is xs j x h is)
@@ -43,9 +44,9 @@ pub taken_more : (before xs : List Member) (j : ℕ) (x : Member) → j < length
 taken_more before xs j x h is =
     append_assoc before (take j xs) (x ∷ []) ∙ ap (λ (y : Member). before ++ (take j xs ++ y ∷ [])) is ∙ ap (λ l. before ++ l) (sym (take_more xs j x h))
 
-pub taken_chunk : (ps : List Chunk) (i : ℕ) (p : Chunk) (v : Vec Member Global) (xs : List Member) (j : ℕ) → i < length ps → p ≡ get_or ps i p → v ≡ arc_value p → xs ≡ v.items → length xs ≤ j → flat (take i ps) ++ take j xs ≡ flat (take (i + 1) ps)
+pub taken_chunk : (ps : List Chunk) (i : ℕ) (p : Chunk) (v : Group) (xs : List Member) (j : ℕ) → i < length ps → p ≡ get_or ps i p → v ≡ arc_value p → xs ≡ grouped v → length xs ≤ j → flat (take i ps) ++ take j xs ≡ flat (take (i + 1) ps)
 taken_chunk ps i p v xs j h is deref items over =
-    ap (λ l. flat (take i ps) ++ l) (take_all j xs over) ∙ sym (flat_push (take i ps) (take (i + 1) ps) p xs (take_more ps i p h ∙ ap (λ (q : Chunk). take i ps ++ q ∷ []) (sym is)) (sym (items ∙ ap (λ (w : Vec Member Global). w.items) deref)))
+    ap (λ l. flat (take i ps) ++ l) (take_all j xs over) ∙ sym (flat_push (take i ps) (take (i + 1) ps) p xs (take_more ps i p h ∙ ap (λ (q : Chunk). take i ps ++ q ∷ []) (sym is)) (sym (items ∙ ap grouped deref)))
 
 -- ---- chunks that have members
 
@@ -65,10 +66,10 @@ filled_drop [] (suc i) f = tt
 filled_drop (p ∷ ps) zero f = f
 filled_drop (p ∷ ps) (suc i) f = filled_drop ps i f.1
 
-pub filled_push : (ps new : List Chunk) (p : Chunk) (xs : List Member) → new ≡ ps ++ p ∷ [] → (arc_value p).items ≡ xs → 0 < length xs → AllFilled ps → AllFilled new
+pub filled_push : (ps new : List Chunk) (p : Chunk) (xs : List Member) → new ≡ ps ++ p ∷ [] → grouped (arc_value p) ≡ xs → 0 < length xs → AllFilled ps → AllFilled new
 filled_push ps new p xs pushed is some f = subst AllFilled (sym pushed) (filled_append ps (p ∷ []) f (omega (arith, some, ap length is), tt))
 
-pub filled_at : (ps : List Chunk) (i : ℕ) (d : Chunk) → i < length ps → AllFilled ps → 0 < length (arc_value (get_or ps i d)).items
+pub filled_at : (ps : List Chunk) (i : ℕ) (d : Chunk) → i < length ps → AllFilled ps → 0 < length (grouped (arc_value (get_or ps i d)))
 filled_at [] i d h f = absurd (omega arith)
 filled_at (p ∷ ps) zero d h f = f.0
 filled_at (p ∷ ps) (suc i) d h f = filled_at ps i d (omega arith) f.1
@@ -82,13 +83,13 @@ not_empty xs h = omega (arith, not_zero (vec_len xs) h)
 
 -- ---- members let in at a place
 
-pub filled_let_in : (ps new : List Chunk) (i : ℕ) (p : Chunk) (xs : List Member) → new ≡ take i ps ++ p ∷ drop i ps → (arc_value p).items ≡ xs → 0 < length xs → AllFilled ps → AllFilled new
+pub filled_let_in : (ps new : List Chunk) (i : ℕ) (p : Chunk) (xs : List Member) → new ≡ take i ps ++ p ∷ drop i ps → grouped (arc_value p) ≡ xs → 0 < length xs → AllFilled ps → AllFilled new
 filled_let_in ps new i p xs put is some f =
     subst AllFilled (sym put) (filled_append (take i ps) (p ∷ drop i ps) (filled_take ps i f) (omega (arith, some, ap length is), filled_drop ps i f))
 
-pub filled_items : (ps : List Chunk) (i : ℕ) (p : Chunk) (v : Vec Member Global) (xs : List Member) → i < length ps → p ≡ get_or ps i p → v ≡ arc_value p → xs ≡ v.items → AllFilled ps → 0 < length xs
+pub filled_items : (ps : List Chunk) (i : ℕ) (p : Chunk) (v : Group) (xs : List Member) → i < length ps → p ≡ get_or ps i p → v ≡ arc_value p → xs ≡ grouped v → AllFilled ps → 0 < length xs
 filled_items ps i p v xs h is deref items f =
-    let same : xs ≡ (arc_value (get_or ps i p)).items = items ∙ ap (λ (w : Vec Member Global). w.items) deref ∙ ap (λ (q : Chunk). (arc_value q).items) is in
+    let same : xs ≡ grouped (arc_value (get_or ps i p)) = items ∙ ap grouped deref ∙ ap (λ (q : Chunk). grouped (arc_value q)) is in
     omega (arith, filled_at ps i p h f, ap length same)
 
 -- ---- a chunk that was cut in two
@@ -106,14 +107,14 @@ drop_put (p ∷ ps) zero q h = refl
 drop_put (p ∷ ps) (suc i) q h = drop_put ps i q (omega arith)
 
 -- the members of the chunks behind the place, once these are let in
-pub one_behind : (ps new : List Chunk) (i : ℕ) (p : Chunk) (xs : List Member) → i ≤ length ps → new ≡ take i ps ++ p ∷ drop i ps → (arc_value p).items ≡ xs → flat (drop i new) ≡ xs ++ flat (drop i ps)
+pub one_behind : (ps new : List Chunk) (i : ℕ) (p : Chunk) (xs : List Member) → i ≤ length ps → new ≡ take i ps ++ p ∷ drop i ps → grouped (arc_value p) ≡ xs → flat (drop i new) ≡ xs ++ flat (drop i ps)
 one_behind ps new i p xs h put is = ap (λ l. flat (drop i l)) put ∙ ap flat (drop_put ps i p h) ∙ ap (λ l. l ++ flat (drop i ps)) is
 
 length_put : (ps new : List Chunk) (i : ℕ) (p : Chunk) → i ≤ length ps → new ≡ take i ps ++ p ∷ drop i ps → i ≤ length new
 length_put ps new i p h put = omega (arith, ap length put, length-append (take i ps) (p ∷ drop i ps), length-take-le i ps h, length-drop i ps, h)
 
 pub two_behind : (ps mid new : List Chunk) (i n : ℕ) (q p : Chunk) (xs : List Member) → i ≤ length ps → mid ≡ take i ps ++ q ∷ drop i ps → new ≡ take i mid ++ p ∷ drop i mid
-    → (arc_value q).items ≡ drop n xs → (arc_value p).items ≡ take n xs → flat (drop i new) ≡ xs ++ flat (drop i ps)
+    → grouped (arc_value q) ≡ drop n xs → grouped (arc_value p) ≡ take n xs → flat (drop i new) ≡ xs ++ flat (drop i ps)
 two_behind ps mid new i n q p xs h first second tail head =
     one_behind mid new i p (take n xs) (length_put ps mid i q h first) second head ∙ ap (λ l. take n xs ++ l) (one_behind ps mid i q (drop n xs) h first tail)
     ∙ sym (append_assoc (take n xs) (drop n xs) (flat (drop i ps))) ∙ ap (λ l. l ++ flat (drop i ps)) (take-append-drop n xs)
@@ -135,7 +136,7 @@ three_flat ps one two new i xs before ys behind m alone first last b1 d1 b2 d2 i
     ∙ ap (λ l. flat (take i ps) ++ ((l ++ m ∷ ys) ++ flat (drop i ps))) first ∙ ap (λ l. flat (take i ps) ++ ((before ++ m ∷ l) ++ flat (drop i ps))) last
 
 pub filled_two : (ps mid new : List Chunk) (i n : ℕ) (q p : Chunk) (xs : List Member) → mid ≡ take i ps ++ q ∷ drop i ps → new ≡ take i mid ++ p ∷ drop i mid
-    → (arc_value q).items ≡ drop n xs → (arc_value p).items ≡ take n xs → 0 < n → n < length xs → AllFilled ps → AllFilled new
+    → grouped (arc_value q) ≡ drop n xs → grouped (arc_value p) ≡ take n xs → 0 < n → n < length xs → AllFilled ps → AllFilled new
 filled_two ps mid new i n q p xs first second tail head some more f =
     filled_let_in mid new i p (take n xs) second head (omega (arith, length-take-le n xs (omega arith))) (filled_let_in ps mid i q (drop n xs) first tail (omega (arith, length-drop n xs)) f)
 
@@ -156,12 +157,12 @@ filled_rest ps rest i is f = subst AllFilled (sym is) (filled_append (take i ps)
 
 -- ---- how many
 
-pub counted : (ps : List Chunk) (i : ℕ) (p : Chunk) (v : Vec Member Global) → i < length ps → p ≡ get_or ps i p → v ≡ arc_value p → length (flat (take (i + 1) ps)) ≡ length (flat (take i ps)) + length v.items
+pub counted : (ps : List Chunk) (i : ℕ) (p : Chunk) (v : Group) → i < length ps → p ≡ get_or ps i p → v ≡ arc_value p → length (flat (take (i + 1) ps)) ≡ length (flat (take i ps)) + length (grouped v)
 counted ps i p v h is deref =
-    ap length (flat_push (take i ps) (take (i + 1) ps) p v.items (take_more ps i p h ∙ ap (λ (q : Chunk). take i ps ++ q ∷ []) (sym is)) (ap (λ (w : Vec Member Global). w.items) (sym deref)))
-    ∙ length-append (flat (take i ps)) v.items
+    ap length (flat_push (take i ps) (take (i + 1) ps) p (grouped v) (take_more ps i p h ∙ ap (λ (q : Chunk). take i ps ++ q ∷ []) (sym is)) (ap grouped (sym deref)))
+    ∙ length-append (flat (take i ps)) (grouped v)
 
 pub shared_more : (ps found new : List Chunk) (i : ℕ) (p q : Chunk) → i < length ps → p ≡ get_or ps i p → arc_value q ≡ arc_value p → new ≡ found ++ q ∷ [] → flat found ≡ flat (take i ps) → flat new ≡ flat (take (i + 1) ps)
 shared_more ps found new i p q h is same pushed so =
-    flat_push found new q (arc_value p).items pushed (ap (λ (w : Vec Member Global). w.items) same) ∙ ap (λ l. l ++ (arc_value p).items) so
-    ∙ sym (flat_push (take i ps) (take (i + 1) ps) p (arc_value p).items (take_more ps i p h ∙ ap (λ (r : Chunk). take i ps ++ r ∷ []) (sym is)) refl)
+    flat_push found new q (grouped (arc_value p)) pushed (ap grouped same) ∙ ap (λ l. l ++ grouped (arc_value p)) so
+    ∙ sym (flat_push (take i ps) (take (i + 1) ps) p (grouped (arc_value p)) (take_more ps i p h ∙ ap (λ (r : Chunk). take i ps ++ r ∷ []) (sym is)) refl)

@@ -1,11 +1,12 @@
 -- What stands in a dict is smaller than it.
-use Rattle.std.proofs.Common.{◌≡◌, ℕ, zero, suc, ◌<◌, ◌+◌, ◌≤◌, List, [], ◌∷◌, ◌++◌, length, get_or, take, drop, Global, Vec, ap, ◌∙◌, arith}
+use Rattle.std.proofs.Common.{◌≡◌, ℕ, zero, suc, ◌<◌, ◌+◌, ◌≤◌, List, [], ◌∷◌, ◌++◌, length, get_or, take, drop, ap, ◌∙◌, arith}
 use Rattle.std.specs.Arc.{arc_value}
 use Rattle.comm_value.specs.declared.val.Val.{Val}
 use Rattle.comm_value.specs.declared.val.Member.{Member}
 use Rattle.comm_value.specs.declared.val.Dict.TheDeep.{deep-Val, deep-Member}
 use Rattle.comm_value.specs.Tree.{Items, items_size, Members, members_size}
-use Rattle.comm_value.specs.View.{items_of, members_of, Chunk, flat}
+use Rattle.comm_value.specs.declared.val.Group.{Group}
+use Rattle.comm_value.specs.View.{items_of, members_of, Chunk, grouped, flat}
 use Rattle.comm_value.specs.Falls.{value_falls, member_falls, size_append}
 use Rattle.comm_value.proofs.Flat.{opened, flat_cut}
 
@@ -37,13 +38,13 @@ chunk_in ps i xs here =
     omega (arith, cut, rest)
 
 -- the value of the member at j in the chunk at i
-pub value_smaller : (ps : List Chunk) (i : ℕ) (p : Chunk) (v : Vec Member Global) (xs : List Member) (j : ℕ) (x : Member) (all : Members) → i < length ps → p ≡ get_or ps i p → v ≡ arc_value p → xs ≡ v.items
+pub value_smaller : (ps : List Chunk) (i : ℕ) (p : Chunk) (v : Group) (xs : List Member) (j : ℕ) (x : Member) (all : Members) → i < length ps → p ≡ get_or ps i p → v ≡ arc_value p → xs ≡ grouped v
     → j < length xs → x ≡ get_or xs j x → members_of (flat ps) ≡ all → deep-Val x.value < members_size all
 value_smaller ps i p v xs j x all h is deref items within here view =
     omega (arith, value_in xs j x within, chunk_in ps i xs (opened ps i p v xs h is deref items), ap (λ (m : Member). deep-Val m.value) here, ap members_size view)
 
 -- and that member
-pub member_smaller : (ps : List Chunk) (i : ℕ) (p : Chunk) (v : Vec Member Global) (xs : List Member) (j : ℕ) (x : Member) (all : Members) → i < length ps → p ≡ get_or ps i p → v ≡ arc_value p → xs ≡ v.items
+pub member_smaller : (ps : List Chunk) (i : ℕ) (p : Chunk) (v : Group) (xs : List Member) (j : ℕ) (x : Member) (all : Members) → i < length ps → p ≡ get_or ps i p → v ≡ arc_value p → xs ≡ grouped v
     → j < length xs → x ≡ get_or xs j x → members_of (flat ps) ≡ all → deep-Member x < members_size all
 member_smaller ps i p v xs j x all h is deref items within here view =
     omega (arith, member_in xs j x within, chunk_in ps i xs (opened ps i p v xs h is deref items), ap (λ (m : Member). deep-Member m) here, ap members_size view)

@@ -7,13 +7,13 @@ ghost use Rattle.comm_value.specs.Put.{insert};
 ghost use Rattle.comm_value.specs.declared.val.Member.{Member};
 
 use crate::search::place_of;
-use crate::val::Member;
+use crate::val::{Group, Member};
 use std::alloc::{AllocError, Global};
 use std::cmp::Ordering;
 use std::sync::Arc;
 
 /// Consecutive members of a dict, at least one.
-pub(crate) type Chunk = Arc<Vec<Member, Global>, Global>;
+pub(crate) type Chunk = Arc<Group, Global>;
 
 /// The length that a chunk may have in any dict, in members. A chunk is copied whole when a member of it changes for
 /// the first time; that member then gets a chunk of its own, so that later changes copy one member.
@@ -73,7 +73,7 @@ fn push_chunks(
         return Ok(all);
     }
     if head.len() <= max_length {
-        all.push(Arc::new(alloc, head)?)?;
+        all.push(Arc::new(alloc, Group::of(head))?)?;
         return Ok(all);
     }
     let tail = head.split_off(head.len() / 2)?;
@@ -101,7 +101,7 @@ pub(crate) fn count(chunks: &[Chunk]) -> Result<usize, AllocError>
 {
     let mut total = 0usize;
     for chunk in chunks {
-        match total.checked_add(chunk.len()) {
+        match total.checked_add(chunk.as_slice().len()) {
             Some(sum) => total = sum,
             None => return Err(AllocError),
         }
@@ -147,13 +147,14 @@ pub(crate) fn put(
 {
     let mut all = chunks;
     if all.is_empty() {
-        let mut first = Vec::new(alloc);
-        first.push(member)?;
-        return insert_chunk(alloc, all, 0, first);
+        return insert_one(alloc, all, 0, member);
     }
     let place = chunk_of(all.as_slice(), member.key.as_str());
     match Arc::try_unwrap(all.remove(place)) {
-        Ok(members) => insert_chunk(alloc, all, place, put_member(members, member)?),
+        Ok(group) => {
+            let changed = put_member(group.into_members(alloc)?, member)?;
+            insert_chunk(alloc, all, place, changed)
+        }
         Err(shared) => put_shared(alloc, all, place, shared.as_slice(), member),
     }
 }
@@ -178,7 +179,9 @@ fn put_shared(
 {
     match place_of(members, member.key.as_str()) {
         Ok(i) => {
-            if gets_own_chunk(members.len(), chunks.len()) {
+            if members.len() == 1 {
+                insert_one(alloc, chunks, place, member)
+            } else if gets_own_chunk(members.len(), chunks.len()) {
                 cut_out(alloc, chunks, place, members, i, member)
             } else {
                 let changed = copies_with(alloc, members, i, i + 1, member)?;
@@ -220,9 +223,7 @@ fn cut_out(
 {
     let behind = copies_of(alloc, &members[i + 1..])?;
     let all = insert_chunk(alloc, chunks, place, behind)?;
-    let mut alone = Vec::with_capacity(alloc, 1)?;
-    alone.push(member)?;
-    let all = insert_chunk(alloc, all, place, alone)?;
+    let all = insert_one(alloc, all, place, member)?;
     let before = copies_of(alloc, &members[..i])?;
     insert_chunk(alloc, all, place, before)
 }
@@ -249,9 +250,29 @@ fn insert_chunk(
     }
     if head.len() > max_length(all.len()) {
         let tail = head.split_off(head.len() / 2)?;
-        all.insert(place, Arc::new(alloc, tail)?)?;
+        all.insert(place, Arc::new(alloc, Group::of(tail))?)?;
     }
-    all.insert(place, Arc::new(alloc, head)?)?;
+    all.insert(place, Arc::new(alloc, Group::of(head))?)?;
+    Ok(all)
+}
+
+// The chunks with this member inserted at an index as a chunk of its own.
+fn insert_one(
+    alloc: Global,
+    chunks: Vec<Chunk>,
+    place: usize,
+    member: Member,
+) -> Result<Vec<Chunk>, AllocError>
+    requires within { place ≤ length chunks.items }
+    requires filled { AllFilled chunks.items }
+    ensures before { IfOk result (λ all. take place all.items ≡ take place chunks.items) }
+    ensures behind { IfOk result
+        (λ all. flat (drop place all.items) ≡ member ∷ flat (drop place chunks.items)) }
+    ensures longer { IfOk result (λ all. length chunks.items ≤ length all.items) }
+    ensures filled { IfOk result (λ all. AllFilled all.items) }
+{
+    let mut all = chunks;
+    all.insert(place, Arc::new(alloc, Group::One(member))?)?;
     Ok(all)
 }
 

@@ -10,7 +10,7 @@ pub a_member_holds_bytes-holds_bytes-requires : goal.a_member_holds_bytes-holds_
 a_member_holds_bytes-holds_bytes-requires t c = (
   omega (
     arith,
-    value_smaller _ c.loop-chunk.chunk-index c.chunk-item.result c.deref.result.now _ c.loop-member.member-index c.member-item.result _ c.loop-chunk-test.true c.chunk-item.is c.deref.ensures c.as_slice-member-items.ensures.value
+    value_smaller _ c.loop-chunk.chunk-index c.chunk-item.result c.deref.result.now _ c.loop-member.member-index c.member-item.result _ c.loop-chunk-test.true c.chunk-item.is c.deref.ensures c.as_slice-member-items.ensures
         c.loop-member-test.true c.member-item.is c.chunks-chunk-items.ensures.shown,
     c.decreases,
   ),
@@ -19,7 +19,7 @@ a_member_holds_bytes-holds_bytes-requires t c = (
 
 pub a_member_holds_bytes-loop-member-init : goal.a_member_holds_bytes-loop-member-init
 a_member_holds_bytes-loop-member-init t c =
-    ap (λ l. members_have_bytes (members_of l)) (sym (opened _ c.loop-chunk.chunk-index c.chunk-item.result c.deref.result.now _ c.loop-chunk-test.true c.chunk-item.is c.deref.ensures c.as_slice-member-items.ensures.value)) ∙ c.loop-chunk.invariant
+    ap (λ l. members_have_bytes (members_of l)) (sym (opened _ c.loop-chunk.chunk-index c.chunk-item.result c.deref.result.now _ c.loop-chunk-test.true c.chunk-item.is c.deref.ensures c.as_slice-member-items.ensures)) ∙ c.loop-chunk.invariant
 
 pub a_member_holds_bytes-loop-member-preserved : goal.a_member_holds_bytes-loop-member-preserved
 a_member_holds_bytes-loop-member-preserved t c =

@@ -9,14 +9,14 @@ use Rattle.comm_value.proofs.json_text.+json_text.Goals as goal
 pub write_members-write_value-requires : goal.write_members-write_value-requires
 write_members-write_value-requires t c = omega (
   arith,
-  value_smaller _ c.loop-chunk.chunk-index c.chunk-item.result c.deref.result.now _ c.loop-member.member-index c.member-item.result _ c.loop-chunk-test.true c.chunk-item.is c.deref.ensures c.as_slice-member-items.ensures.value
+  value_smaller _ c.loop-chunk.chunk-index c.chunk-item.result c.deref.result.now _ c.loop-member.member-index c.member-item.result _ c.loop-chunk-test.true c.chunk-item.is c.deref.ensures c.as_slice-member-items.ensures
       c.loop-member-test.true c.member-item.is c.chunks-chunk-items.ensures.shown,
   c.decreases,
 )
 
 pub write_members-loop-member-init : goal.write_members-loop-member-init
 write_members-loop-member-init t c =
-    ap (λ l. c.loop-chunk.out.items ++ members_text c.loop-chunk.later (json_members (members_of l))) (sym (opened _ c.loop-chunk.chunk-index c.chunk-item.result c.deref.result.now _ c.loop-chunk-test.true c.chunk-item.is c.deref.ensures c.as_slice-member-items.ensures.value)) ∙ c.loop-chunk.invariant
+    ap (λ l. c.loop-chunk.out.items ++ members_text c.loop-chunk.later (json_members (members_of l))) (sym (opened _ c.loop-chunk.chunk-index c.chunk-item.result c.deref.result.now _ c.loop-chunk-test.true c.chunk-item.is c.deref.ensures c.as_slice-member-items.ensures)) ∙ c.loop-chunk.invariant
 
 pub write_members-loop-chunk-preserved : goal.write_members-loop-chunk-preserved
 write_members-loop-chunk-preserved t c =

@@ -10,7 +10,7 @@ pub buffers_in_dict-buffers_in-requires : goal.buffers_in_dict-buffers_in-requir
 buffers_in_dict-buffers_in-requires t c = (
   omega (
     arith,
-    value_smaller _ c.loop-chunk.chunk-index c.chunk-item.result c.deref.result.now _ c.loop-member.member-index c.member-item.result _ c.loop-chunk-test.true c.chunk-item.is c.deref.ensures c.as_slice-member-items.ensures.value
+    value_smaller _ c.loop-chunk.chunk-index c.chunk-item.result c.deref.result.now _ c.loop-member.member-index c.member-item.result _ c.loop-chunk-test.true c.chunk-item.is c.deref.ensures c.as_slice-member-items.ensures
         c.loop-member-test.true c.member-item.is c.chunks-chunk-items.ensures.shown,
     c.decreases,
   ),
@@ -19,7 +19,7 @@ buffers_in_dict-buffers_in-requires t c = (
 
 pub buffers_in_dict-loop-member-init : goal.buffers_in_dict-loop-member-init
 buffers_in_dict-loop-member-init t c =
-    ap (λ l. c.loop-chunk.found.items ++ member_buffers (members_of l)) (sym (opened _ c.loop-chunk.chunk-index c.chunk-item.result c.deref.result.now _ c.loop-chunk-test.true c.chunk-item.is c.deref.ensures c.as_slice-member-items.ensures.value)) ∙ c.loop-chunk.invariant
+    ap (λ l. c.loop-chunk.found.items ++ member_buffers (members_of l)) (sym (opened _ c.loop-chunk.chunk-index c.chunk-item.result c.deref.result.now _ c.loop-chunk-test.true c.chunk-item.is c.deref.ensures c.as_slice-member-items.ensures)) ∙ c.loop-chunk.invariant
 
 pub buffers_in_dict-loop-member-preserved : goal.buffers_in_dict-loop-member-preserved
 buffers_in_dict-loop-member-preserved t c =
