@@ -151,10 +151,8 @@ pub(crate) fn put(
     }
     let place = chunk_of(all.as_slice(), member.key.as_str());
     match Arc::try_unwrap(all.remove(place)) {
-        Ok(group) => {
-            let changed = put_member(group.into_members(alloc)?, member)?;
-            insert_chunk(alloc, all, place, changed)
-        }
+        Ok(Group::Many(members)) => insert_chunk(alloc, all, place, put_member(members, member)?),
+        Ok(alone) => put_shared(alloc, all, place, alone.as_slice(), member),
         Err(shared) => put_shared(alloc, all, place, shared.as_slice(), member),
     }
 }
