@@ -4,6 +4,7 @@ ghost use Rattle.std.specs.Bool.{OnTrue, OnFalse};
 ghost use Rattle.std.specs.Char.{digit_char};
 ghost use Rattle.json.specs.Print.{escape_letter, escape_byte, escape, quoted};
 ghost use Rattle.json.specs.Written.{PlainBetween};
+ghost use Rattle.serde_json.specs.Written.{comma_if};
 
 use std::alloc::AllocError;
 use std::simd::Simd;
@@ -13,14 +14,37 @@ use std::simd::Simd;
 pub fn write_text(text: &str, out: &mut Vec<u8>) -> Result<(), AllocError>
     ensures { OnOk result (out.new.items ≡ out.old.items ++ quoted text.now) }
 {
-    let bytes = text.as_bytes();
     out.push(b'"')?;
-    if is_plain(bytes) {
-        out.extend_from_slice(bytes)?;
-    } else {
-        write_escaped(bytes, out)?;
-    }
+    write_content(text.as_bytes(), out)?;
     Ok(out.push(b'"')?)
+}
+
+/// Appends a member's key with its colon, and a comma before it where another member stands there. Err: out of memory;
+/// `out` may hold a part of it.
+#[inline(always)]
+pub fn write_key(later: bool, key: &str, out: &mut Vec<u8>) -> Result<(), AllocError>
+    ensures { OnOk result (out.new.items
+        ≡ out.old.items ++ (comma_if later ++ (quoted key.now ++ 58 ∷ []))) }
+{
+    if later {
+        out.extend_from_slice(b",\"")?;
+    } else {
+        out.push(b'"')?;
+    }
+    write_content(key.as_bytes(), out)?;
+    out.extend_from_slice(b"\":")
+}
+
+// Appends the bytes with their escapes. Most have none, so that way alone is inlined.
+#[inline(always)]
+fn write_content(bytes: &[u8], out: &mut Vec<u8>) -> Result<(), AllocError>
+    ensures { OnOk result (out.new.items ≡ out.old.items ++ escape bytes.now) }
+{
+    if is_plain(bytes) {
+        out.extend_from_slice(bytes)
+    } else {
+        write_escaped(bytes, out)
+    }
 }
 
 // Whether no byte needs an escape, as in most strings. Two vectors that overlap cover one of up to 64 bytes.
@@ -91,7 +115,8 @@ fn plain_at<const N: usize>(bytes: &[u8], at: usize) -> bool
     escaped.to_bitmask() == 0
 }
 
-// Appends the bytes with their escapes; bytes between two escapes are appended at once.
+// Bytes between two escapes are appended at once.
+#[inline(never)]
 fn write_escaped(bytes: &[u8], out: &mut Vec<u8>) -> Result<(), AllocError>
     ensures { OnOk result (out.new.items ≡ out.old.items ++ escape bytes.now) }
 {

@@ -7,7 +7,7 @@ ghost use Rattle.comm_json.specs.Text.{compact_text, items_text, members_text};
 ghost use Rattle.comm_value.specs.ToJson.{json_of, json_items, json_members};
 ghost use Rattle.comm_value.specs.View.{tree};
 
-use crate::json_string::write_text;
+use crate::json_string::{write_key, write_text};
 use crate::val::{Dict, Items, Val};
 use crate::whole::Whole;
 use itoa::Buffer;
@@ -98,9 +98,7 @@ fn write_members(dict: &Dict, out: &mut Vec<u8>) -> Result<(), AllocError>
     let mut later = false;
     for chunk in dict.chunks() {
         for member in chunk.as_slice() {
-            write_comma(later, out)?;
-            write_text(member.key.as_str(), out)?;
-            out.push(b':')?;
+            write_key(later, member.key.as_str(), out)?;
             write_value(&member.value, out)?;
             later = true;
         }
