@@ -25,6 +25,7 @@ BY_FIELDS = re.compile(
 ANY_INSIDE = "*.TheInside"
 PATH = re.compile(r"[^\s(){}\[\],;.:]+(?:(?:\.|::)[^\s(){}\[\],;.:]+)+")
 GROUP = re.compile(r"(\w+)(?:\.|::)\{(?=([^{}]*)([{}]))")  # of names below one module
+LIBRARY = re.compile(r"\bRattle\.(\w+)\.([\w.]*)(?:\{([^{}]*))?")
 # What a proof says of an executable function stands below one of these.
 OF_FUNCTIONS = re.compile(r"\.(?:contracts|proofs)\.")
 
@@ -36,7 +37,8 @@ class Unit:
     file: str
     first: int  # line
     last: int
-    # "function", "import", "module", "type", "inside" (of a type), "definition", "attribute" (of its crate) or "other"
+    # "function", "import", "module", "type", "private" (a type of another crate), "inside" (of a type), "definition",
+    # "attribute" (of its crate) or "other"
     kind: str
     name: str | None  # None: it goes with its file, or with its crate
     owner: str | None  # the type whose function or inside it is, or the module of a definition
@@ -55,6 +57,10 @@ class Unit:
         return self.names or (self.name,)
 
 
+def crate_of(file):
+    return file.partition("/")[0]
+
+
 @functools.lru_cache(maxsize=None)
 def words_of(name):
     return frozenset(WORD.findall(name)) or frozenset([name])
@@ -64,7 +70,7 @@ def words_of(name):
 def words(text):
     """The words of a text, and what it names by more than a word."""
     marks = [*INSIDE.findall(text), *([ANY_INSIDE] if BY_FIELDS.search(text) else [])]
-    return frozenset([*WORD.findall(text), *marks, *named_below(text)])
+    return frozenset([*WORD.findall(text), *marks, *named_below(text), *named_of_crates(text)])
 
 
 def named_below(text):
@@ -79,6 +85,12 @@ def named_below(text):
         yield from (f"{module}.{name.partition(' as ')[0].strip()}" for name in names.split(","))
         if end == "{":
             yield f"{module}.*"
+
+
+def named_of_crates(text):
+    """Each name that a text says to be of a crate, as `crate::name`."""
+    for crate, path, names in LIBRARY.findall(text):
+        yield from (f"{crate}::{name}" for name in WORD.findall(f"{path} {names}"))
 
 
 def of_functions(text):
@@ -216,6 +228,7 @@ class Reached:
     def __init__(self):
         self.words, self.code = set(), set()
         self.files = {}  # what is reached of each source: words and text
+        self.crates = {}  # the words of what is reached of each crate
 
     def body(self, file, text):
         """A function, or a part of it."""
@@ -228,13 +241,20 @@ class Reached:
         known, texts = self.files.setdefault(file, (set(), []))
         known |= found
         texts.append(text)
+        self.crates.setdefault(crate_of(file), set()).update(found)
 
     def has(self, unit):
         if unit.kind == "function":
             return unit.name in self.code and (unit.owner is None or unit.owner in self.words)
-        if unit.kind == "inside":
-            return unit.owner in self.words  # One of its names is.
+        if unit.kind == "private":
+            return self.has_private(unit.name, crate_of(unit.file))
+        if unit.kind == "inside":  # One of its names is reached.
+            return unit.owner in self.words
         return unit.name is None or (self.has_definition(unit) if unit.names else unit.name in self.words)
+
+    def has_private(self, name, crate):
+        """Whether a type that no source of another crate can name is named in its own, or by a path through it."""
+        return f"{crate}::{name}" in self.words or name in self.crates.get(crate, ())
 
     def has_definition(self, unit):
         """Whether a name that it makes is reached: in its own file, or with its module."""
@@ -253,7 +273,7 @@ class Reached:
         """What is stated of a unit that is reached."""
         self.words |= it.words
         self.code |= it.code
-        if it.unit.kind in ("function", "type", "inside", "definition"):
+        if it.unit.kind in ("function", "type", "private", "inside", "definition"):
             self.source(it.unit.file, it.text, it.words)
 
     def all_of(self, index):

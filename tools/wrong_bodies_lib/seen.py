@@ -12,6 +12,7 @@ from dataclasses import replace
 from .reach import ANY_INSIDE, blocks, words
 
 STRUCT = re.compile(r"(?:pub(?:\([a-z]+\))? )?struct (\w+)(?:<[^{}']*>)? \{$", re.MULTILINE)
+DECLARED = re.compile(r"^(pub(?:\([a-z]+\))? )?(?:struct|enum) (\w+)", re.MULTILINE)
 MODEL = re.compile(r"impl(?:<[^{}']*>)? Model for (\w+)(?:<[^{}']*>)? \{$", re.MULTILINE)
 PRIVATE_FIELD = re.compile(r" {4}(?:pub\([a-z]+\) )?\w+: ")
 MEMBER = re.compile(r" {4}ghost (\w+)")
@@ -65,6 +66,20 @@ def seen_of_model(text):
     seen = "\n".join(item for kind, item in members if kind in SEEN)
     kept = [seen_of_import(item, seen) if kind == "use" else item for kind, item in members if kind not in UNSEEN]
     return "\n".join([start, *(it for it in kept if ".{}" not in it), end])
+
+
+def private_types(units):
+    """The names of a crate's structs and enums that are never public, which no source of another crate can name."""
+    found = {True: set(), False: set()}
+    for unit in units:
+        if unit.kind == "type" and (declared := DECLARED.search(unit.text)):
+            found[declared[1] == "pub "].add(declared[2])
+    return found[False] - found[True]
+
+
+def hidden(units, private):
+    """The units with those of private types marked as such."""
+    return [replace(it, kind="private") if it.kind == "type" and it.name in private else it for it in units]
 
 
 def from_above(units):

@@ -13,9 +13,9 @@ from pathlib import Path
 from .definitions import definitions_of
 from .edits import places_of
 from .reach import Index, Reached, Stated, units_of
-from .seen import from_above
+from .seen import from_above, hidden, private_types
 
-FORM = "6"
+FORM = "7"
 CONTRACT = re.compile(r" *ensures\b")
 INLINED = re.compile(r" *#\[inline(?:\((?:always|never)\))?\]")
 COMMENTS = {".rt": "//", ".antt": "--"}
@@ -168,7 +168,9 @@ class Sums:
 
     def seen(self, crate):
         """The same as a crate above sees it."""
-        units = [unit for units in self.kept("units", crate, self.units) for unit in from_above(units)]
+        sources = self.kept("units", crate, self.units)
+        private = private_types(unit for units in sources for unit in units)
+        units = [unit for units in sources for unit in hidden(from_above(units), private)]
         sources = [Stated.of(it, said(stated(it.text), ".rt")) for it in units if not it.is_of_its_crate()]
         return sources + self.kept("defined", crate, self.defined)
 
