@@ -559,6 +559,26 @@ class Sums(Room):
         self.write(at, FILES[at])
         self.assertEqual(self.sums(), before)
 
+    def test_what_reaches_a_private_type(self):
+        at, answer = "crates/low/src/held.rt", "crates/high/proofs/size/Answers.antt"
+        edge, named = SHAPES.replace("length: u8", "length: Held"), FILES[answer] + "use Rattle.low.specs.declared."
+        for kind, shapes, answers, wanted in (
+            ("pub(crate) enum", SHAPES, FILES[answer], ""),  # `high` has a type of this name.
+            ("enum", SHAPES, FILES[answer], ""),
+            ("pub enum", SHAPES, FILES[answer], "turn bare"),
+            ("pub(crate) enum", edge, FILES[answer], "size bare area"),
+            ("pub(crate) enum", SHAPES, named + "held.Held.{Held}\n", "size bare"),
+            ("pub(crate) enum", SHAPES, named + "held.{Held}\n", "size bare"),
+            ("pub(crate) enum", SHAPES, named + "held.Held.TheVariants as v\n", "size bare"),
+        ):
+            self.write("crates/low/src/shapes.rt", shapes)
+            self.write(answer, answers)
+            self.write(at, kind + " Held {\n    One,\n}\n")
+            before = self.sums()
+            self.write(at, kind + " Held {\n    Two,\n}\n")
+            after = self.sums()
+            self.assertEqual(" ".join(it for it in before if after[it] != before[it]), wanted, (kind, answers))
+
     def test_code_is_without_contracts(self):
         self.assertEqual(reach.code("f\n    ensures { a\n        b }\n{\n    c"), "f\n{\n    c")
         self.assertEqual(reach.code("f\n    ensures { a }\n{ b },\nc"), "f\n{ b },\nc")
