@@ -157,6 +157,6 @@ pub fn message_by_parts<'a>(
         scratch,
         &lists,
     )?;
-    let mut texts = KnownTexts::new(alloc);
+    let mut texts = KnownTexts::none(alloc);
     message_from(alloc, &read.envelope(), clients, numbers, &mut texts)
 }

@@ -52,7 +52,7 @@ pub fn read_message_with(
     ensures below { 0 < clients → IfOk result (λ r. r.0 < clients) }
 {
     let mut arena = ParseArena::new(alloc);
-    let mut texts = KnownTexts::new(alloc);
+    let mut texts = KnownTexts::none(alloc);
     let object = object_in(line, &mut arena)?;
     message_in(alloc, fields_of(&object), clients, numbers, &mut texts)
 }
@@ -65,7 +65,7 @@ pub fn message_of(alloc: Global, value: &Value, clients: u8) -> Result<(u8, Inco
 {
     match value {
         Value::Object(map) => {
-            let mut texts = KnownTexts::new(alloc);
+            let mut texts = KnownTexts::none(alloc);
             let fields = Some(ObjectRef::Owned(map));
             message_in(alloc, fields, clients, Numbers::Whole, &mut texts)
         }

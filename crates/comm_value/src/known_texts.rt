@@ -22,6 +22,7 @@ const LONGEST: usize = 40;
 #[derive(Drop)]
 pub struct KnownTexts {
     places: Vec<Option<Text>>,
+    keeps: bool,
 }
 
 impl KnownTexts {
@@ -29,6 +30,15 @@ impl KnownTexts {
     pub fn new(alloc: Global) -> KnownTexts {
         KnownTexts {
             places: Vec::new(alloc),
+            keeps: true,
+        }
+    }
+
+    /// One that stays without any, for what is read once.
+    pub fn none(alloc: Global) -> KnownTexts {
+        KnownTexts {
+            places: Vec::new(alloc),
+            keeps: false,
         }
     }
 
@@ -37,7 +47,7 @@ impl KnownTexts {
     pub fn text(&mut self, alloc: Global, text: &str) -> Result<Text, AllocError>
         ensures { IfOk result (λ t. t ≡ text.now) }
     {
-        if text.len() > LONGEST {
+        if text.len() > LONGEST || !self.keeps {
             return Text::copy_of(alloc, text);
         }
         let place = place_of(text.as_bytes());
