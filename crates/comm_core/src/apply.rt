@@ -10,8 +10,8 @@ ghost use Rattle.comm_core.specs.declared.table_update.TableUpdate.TheVariants.{
 
 use crate::comm::Comm;
 use crate::comms::Comms;
+use crate::question::KeptRequest;
 use crate::table_update::TableUpdate;
-use crate::target_request::TargetRequest;
 use crate::target_table::TargetTable;
 use comm_targets::{Answer, Event, Held, Target, TargetFault};
 use comm_value::{Dict, Text};
@@ -91,7 +91,7 @@ pub fn apply<T: Target>(
 fn commit_outcome<T: Target>(
     targets: &mut TargetTable<T>,
     comms: &mut Comms,
-    request: TargetRequest,
+    request: KeptRequest,
     outcome: Option<Result<Answer, TargetFault>>,
     registered: Option<T>,
 )
@@ -115,7 +115,7 @@ fn commit_outcome<T: Target>(
 fn commit<T: Target>(
     targets: &mut TargetTable<T>,
     comms: &mut Comms,
-    request: TargetRequest,
+    request: KeptRequest,
     answer: Answer,
 )
     requires space { 0 < comms.old.room }
@@ -127,17 +127,13 @@ fn commit<T: Target>(
         (planned (machine_of targets.old.all comms.old.all) (Commit request) (Some (Ok answer))) }
 {
     targets.commit(&request.name);
-    let TargetRequest {
-        name,
-        state: before,
-        event,
-    } = request;
+    let KeptRequest { name, event, .. } = request;
     let Answer {
         state,
         messages,
         custom,
     } = answer;
-    drop((before, messages, custom));
+    drop((messages, custom));
     match event {
         Event::Open { id, version, body } => {
             drop((version, body));

@@ -1,5 +1,5 @@
 //! What a target answers, and what that comes to.
-ghost use Rattle.std.specs.Prelude.{◌≡◌, ℕ, Bool, IfOk, OnErr, None, Some};
+ghost use Rattle.std.specs.Prelude.{◌≡◌, ℕ, Bool, IfOk, OnErr, None, Some, option_map};
 ghost use Rattle.comm_targets.specs.declared.event.Event.{Event};
 ghost use Rattle.comm_core.specs.Machine.{Machine};
 ghost use Rattle.comm_core.specs.Step.{answer_step, refusal_step};
@@ -13,12 +13,13 @@ use crate::decision::Decision;
 use crate::evaluation::Evaluation;
 use crate::judge::judge;
 use crate::outgoing::{close_message, messages_of, open_message};
+use crate::question::KeptRequest;
 use crate::reply::{Refusal, Reply};
 use crate::table_update::TableUpdate;
-use crate::target_request::TargetRequest;
 use crate::target_table::TargetTable;
 use comm_messages::Outgoing;
 use comm_targets::{Answer, Custom, Event, Target, TargetFault};
+use comm_value::Dict;
 use std::alloc::{AllocError, Global};
 
 /// What comes of a call that hands no target in.
@@ -37,33 +38,39 @@ pub fn evaluate<T: Target>(
     ensures err { OnErr result (targets.new.all ≡ targets.old.all) }
     ensures room { targets.new.room ≡ targets.old.room }
 {
-    match judge(targets, comms, limit, alloc, call)? {
-        Decision::Done(reply, outgoing, table_update) => Ok(Evaluation {
+    match judge(targets, comms, limit, alloc, call) {
+        Ok(Decision::Done(reply, outgoing, table_update)) => Ok(Evaluation {
             outcome: None,
             reply,
             outgoing,
             table_update,
         }),
-        Decision::AskTarget(request) => ask(targets, comms, alloc, request),
+        Ok(Decision::AskTarget(question)) => {
+            let (request, state) = question.into_parts();
+            ask(targets, comms, alloc, request, state)
+        }
+        Err(fault) => Err(fault),
     }
 }
 
-/// Asks a target.
+/// Asks a target. `state` is the comm's.
 fn ask<T: Target>(
     targets: &mut TargetTable<T>,
     comms: &Comms,
     alloc: Global,
-    request: TargetRequest,
+    request: KeptRequest,
+    state: Option<&Dict>,
 ) -> Result<Evaluation, AllocError>
     requires none { HaveStaged targets.old.all (λ _. None) }
     requires agrees { Agrees (unstaged targets.old.all) comms.now.all }
     requires asked { CanAsk targets.old.all comms.now.all request }
+    requires lent { option_map (λ d. d.now) state ≡ request.state }
     ensures came { IfOk result (λ r. HasAnswered targets.old.all comms.now.all request
         r.outcome r.reply r.outgoing.items r.table_update targets.new.all) }
     ensures err { OnErr result (targets.new.all ≡ targets.old.all) }
     ensures room { targets.new.room ≡ targets.old.room }
 {
-    match targets.prepare(&request.name, &request.event, request.state.as_ref()) {
+    match targets.prepare(&request.name, &request.event, state) {
         Ok(answer) => match answer_step(alloc, &request, &answer) {
             Ok((reply, outgoing)) => Ok(Evaluation {
                 outcome: Some(Ok(answer)),
@@ -99,7 +106,7 @@ fn ask<T: Target>(
 /// The reply to an event that the target answers, and what goes out.
 fn answer_step(
     alloc: Global,
-    request: &TargetRequest,
+    request: &KeptRequest,
     answer: &Answer,
 ) -> Result<(Reply, Vec<Outgoing>), AllocError>
     ensures { IfOk result (λ r. (m : Machine) → GivesReply

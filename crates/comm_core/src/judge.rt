@@ -17,9 +17,9 @@ use crate::comms::Comms;
 use crate::decision::Decision;
 use crate::ids::Ids;
 use crate::outgoing::{close_message, close_messages, comm_id, one};
+use crate::question::Question;
 use crate::reply::{Refusal, Reply};
 use crate::table_update::TableUpdate;
-use crate::target_request::TargetRequest;
 use crate::target_table::TargetTable;
 use comm_messages::{Body, Outgoing};
 use comm_targets::{Event, Kind, Target};
@@ -29,13 +29,13 @@ use uuid::Uuid;
 
 /// The first of a call's tests that holds, or else what the call does. What the call has in it goes on to the target,
 /// or out.
-pub fn judge<T: Target>(
+pub fn judge<'a, T: Target>(
     targets: &TargetTable<T>,
-    comms: &Comms,
+    comms: &'a Comms,
     limit: usize,
     alloc: Global,
     call: Call,
-) -> Result<Decision, AllocError>
+) -> Result<Decision<'a>, AllocError>
     requires call { HandsNothingIn call }
     requires agrees { Agrees (unstaged targets.now.all) comms.now.all }
     ensures verdict { IfOk result (λ j. HasVerdict limit targets.now.all comms.now.all call j) }
@@ -66,7 +66,7 @@ pub fn judge<T: Target>(
 }
 
 /// The reply to a call that changes nothing and sends nothing.
-fn stays(alloc: Global, reply: Reply) -> Decision
+fn stays<'a>(alloc: Global, reply: Reply) -> Decision<'a>
     ensures verdict { (m : Machine) → verdict_of m result ≡ stays m reply }
     ensures feasible { (targets : Targets) (comms : Opens) (c : Call) → ended_of targets c ≡ None
         → IsFeasible targets comms c result }
@@ -75,7 +75,7 @@ fn stays(alloc: Global, reply: Reply) -> Decision
 }
 
 /// The reply to an open that is refused before its target is asked.
-fn refused_open(alloc: Global, id: Text, why: Refusal) -> Result<Decision, AllocError>
+fn refused_open<'a>(alloc: Global, id: Text, why: Refusal) -> Result<Decision<'a>, AllocError>
     ensures verdict { IfOk result (λ j. (m : Machine) → verdict_of m j ≡ refused_open m id why) }
     ensures feasible { IfOk result (λ j. (targets : Targets) (comms : Opens) (c : Call)
         → ended_of targets c ≡ None → IsFeasible targets comms c j) }
@@ -84,16 +84,16 @@ fn refused_open(alloc: Global, id: Text, why: Refusal) -> Result<Decision, Alloc
     Ok(Decision::Done(Reply::OpenRefused(why), outgoing, TableUpdate::Nothing))
 }
 
-fn judge_open<T: Target>(
+fn judge_open<'a, T: Target>(
     targets: &TargetTable<T>,
-    comms: &Comms,
+    comms: &'a Comms,
     limit: usize,
     alloc: Global,
     id: Text,
     target: Text,
     version: Option<Text>,
     body: Body,
-) -> Result<Decision, AllocError>
+) -> Result<Decision<'a>, AllocError>
     ensures verdict { IfOk result
         (λ j. HasVerdict limit targets.now.all comms.now.all (call.Open id target version body) j) }
     ensures feasible { IfOk result
@@ -113,11 +113,7 @@ fn judge_open<T: Target>(
     }
     let event = Event::Open { id, version, body };
     match targets.shared(target) {
-        Ok(name) => Ok(Decision::AskTarget(TargetRequest {
-            name,
-            state: None,
-            event,
-        })),
+        Ok(name) => Ok(Decision::AskTarget(Question::of_no_state(name, event))),
         Err(fault) => {
             drop(event);
             Err(fault)
@@ -125,13 +121,13 @@ fn judge_open<T: Target>(
     }
 }
 
-fn judge_msg<T: Target>(
+fn judge_msg<'a, T: Target>(
     targets: &TargetTable<T>,
-    comms: &Comms,
+    comms: &'a Comms,
     alloc: Global,
     id: Text,
     body: Body,
-) -> Result<Decision, AllocError>
+) -> Result<Decision<'a>, AllocError>
     requires { Agrees (unstaged targets.now.all) comms.now.all }
     ensures verdict { (limit : ℕ) → IfOk result
         (λ j. HasVerdict limit targets.now.all comms.now.all (call.Msg id body) j) }
@@ -148,26 +144,17 @@ fn judge_msg<T: Target>(
 }
 
 /// The question to the target of this comm.
-fn ask_target(comm: &Comm, event: Event) -> Result<Decision, AllocError>
+fn ask_target(comm: &Comm, event: Event) -> Result<Decision<'_>, AllocError>
     ensures { IfOk result (λ j. j ≡ decision.AskTarget
         (record { name = comm.now.target; state = comm.now.state; event = event })) }
 {
-    match comm_copy(comm) {
-        Ok((name, state)) => Ok(Decision::AskTarget(TargetRequest { name, state, event })),
+    match comm.target.copy() {
+        Ok(name) => Ok(Decision::AskTarget(Question::of_comm(name, comm, event))),
         Err(fault) => {
             drop(event);
             Err(fault)
         }
     }
-}
-
-/// The name of the comm's target and the comm's state, shared.
-fn comm_copy(comm: &Comm) -> Result<(Text, Option<Dict>), AllocError>
-    ensures { IfOk result (λ c. c ≡ (comm.now.target, comm.now.state)) }
-{
-    let target = comm.target.copy()?;
-    let state = state_copy(comm)?;
-    Ok((target, state))
 }
 
 /// The comm's state, shared.
@@ -180,7 +167,7 @@ pub fn state_copy(comm: &Comm) -> Result<Option<Dict>, AllocError>
     }
 }
 
-fn judge_close(comms: &Comms, alloc: Global, id: Text) -> Decision
+fn judge_close<'a>(comms: &'a Comms, alloc: Global, id: Text) -> Decision<'a>
     ensures verdict { (limit : ℕ) (targets : Targets)
         → HasVerdict limit targets comms.now.all (call.Close id) result }
     ensures feasible { (targets : Targets) → IsFeasible targets comms.now.all (call.Close id) result }
@@ -191,12 +178,12 @@ fn judge_close(comms: &Comms, alloc: Global, id: Text) -> Decision
     Decision::Done(Reply::Closed, Vec::new(alloc), TableUpdate::Close { id })
 }
 
-fn judge_unregister<T: Target>(
+fn judge_unregister<'a, T: Target>(
     targets: &TargetTable<T>,
-    comms: &Comms,
+    comms: &'a Comms,
     alloc: Global,
     name: Text,
-) -> Result<Decision, AllocError>
+) -> Result<Decision<'a>, AllocError>
     ensures verdict { (limit : ℕ) → IfOk result
         (λ j. HasVerdict limit targets.now.all comms.now.all (call.Unregister name) j) }
     ensures feasible { IfOk result
@@ -274,15 +261,15 @@ fn launch_names<T: Target>(
     Ok((id, target))
 }
 
-fn judge_launch<T: Target>(
+fn judge_launch<'a, T: Target>(
     targets: &TargetTable<T>,
-    comms: &Comms,
+    comms: &'a Comms,
     limit: usize,
     alloc: Global,
     id: Text,
     target: Text,
     state: Dict,
-) -> Decision
+) -> Decision<'a>
     ensures verdict { (uuid : List ℕ) → id ≡ comm_id uuid
         → HasVerdict limit targets.now.all comms.now.all (call.Launch uuid target state) result }
     ensures feasible { (uuid : List ℕ)
@@ -304,20 +291,16 @@ fn judge_launch<T: Target>(
         drop(state);
         return stays(alloc, Reply::OpenRefused(Refusal::TooManyComms));
     }
-    Decision::AskTarget(TargetRequest {
-        name: target,
-        state: None,
-        event: Event::Launch { id, state },
-    })
+    Decision::AskTarget(Question::of_no_state(target, Event::Launch { id, state }))
 }
 
-fn judge_push<T: Target>(
+fn judge_push<'a, T: Target>(
     targets: &TargetTable<T>,
-    comms: &Comms,
+    comms: &'a Comms,
     alloc: Global,
     id: Text,
     state: Dict,
-) -> Result<Decision, AllocError>
+) -> Result<Decision<'a>, AllocError>
     requires { Agrees (unstaged targets.now.all) comms.now.all }
     ensures verdict { (limit : ℕ) → IfOk result
         (λ j. HasVerdict limit targets.now.all comms.now.all (call.Push id state) j) }
@@ -335,7 +318,12 @@ fn judge_push<T: Target>(
     ask_target(comm, Event::Push { id, state })
 }
 
-fn judge_send(comms: &Comms, alloc: Global, id: Text, body: Body) -> Result<Decision, AllocError>
+fn judge_send<'a>(
+    comms: &'a Comms,
+    alloc: Global,
+    id: Text,
+    body: Body,
+) -> Result<Decision<'a>, AllocError>
     ensures verdict { (limit : ℕ) (targets : Targets) → IfOk result
         (λ j. HasVerdict limit targets comms.now.all (call.Send id body) j) }
     ensures feasible { (targets : Targets) → IfOk result
@@ -349,7 +337,7 @@ fn judge_send(comms: &Comms, alloc: Global, id: Text, body: Body) -> Result<Deci
     Ok(Decision::Done(Reply::Delivered(None), outgoing, TableUpdate::Nothing))
 }
 
-fn judge_hang_up(comms: &Comms, alloc: Global, id: Text) -> Result<Decision, AllocError>
+fn judge_hang_up<'a>(comms: &'a Comms, alloc: Global, id: Text) -> Result<Decision<'a>, AllocError>
     ensures verdict { (limit : ℕ) (targets : Targets) → IfOk result
         (λ j. HasVerdict limit targets comms.now.all (call.HangUp id) j) }
     ensures feasible { (targets : Targets) → IfOk result

@@ -23,6 +23,7 @@ mod limits;
 mod manager;
 mod outgoing;
 mod prepared_change;
+mod question;
 mod reads;
 mod reply;
 mod row;

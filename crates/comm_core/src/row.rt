@@ -7,9 +7,9 @@ ghost use Rattle.comm_core.specs.Row.{closed_row, ended_row, put_row, stated_row
 use crate::call::Call;
 use crate::ids::Ids;
 use crate::prepared_change::{PreparedChange, Ready};
+use crate::question::KeptRequest;
 use crate::reply::Reply;
 use crate::table_update::TableUpdate;
-use crate::target_request::TargetRequest;
 use comm_targets::{Answer, Event, Target, TargetFault};
 use comm_value::{Dict, Text};
 use std::alloc::{AllocError, Global};
@@ -117,11 +117,11 @@ fn put_row(alloc: Global, id: &Text, target: &Text, state: &Option<Dict>) -> Res
 }
 
 // What an answer changes, of a target that was asked this.
-fn answered_row(alloc: Global, request: &TargetRequest, answer: &Answer) -> Result<Row, AllocError>
+fn answered_row(alloc: Global, request: &KeptRequest, answer: &Answer) -> Result<Row, AllocError>
     ensures { IfOk result (λ r. r ≡ answered_row request.now.name request.now.event answer.now) }
 {
-    let TargetRequest { name, event, .. } = request;
-    match event {
+    let name = &request.name;
+    match &request.event {
         Event::Open { id, .. } => put_row(alloc, id, name, &answer.state),
         Event::Launch { id, .. } => put_row(alloc, id, name, &answer.state),
         Event::Msg { id, .. } => stated_row(alloc, id, name, &answer.state),

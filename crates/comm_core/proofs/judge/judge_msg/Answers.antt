@@ -11,5 +11,5 @@ returns-in-Some-clause-feasible g c =
     subst (IsFeasible c.args.targets.now.all c.args.comms.now.all (call.Msg c.args.id c.args.body)) (sym is)
     (msg_asked c.args.targets.now.all c.args.comms.now.all c.requires _ _ c.in-Some.comm.now _ _ _ (sym c.in-Some.ensures) refl refl, λ bs. refl)) c.ask_target.ensures
 
-pub returns-in-None-clause-feasible : goal.returns-in-None-clause-feasible
-returns-in-None-clause-feasible g c = c.stays.ensures.feasible c.args.targets.now.all c.args.comms.now.all (call.Msg c.args.id c.args.body) refl
+pub returns-clause-feasible : goal.returns-clause-feasible
+returns-clause-feasible g c = c.stays.ensures.feasible c.args.targets.now.all c.args.comms.now.all (call.Msg c.args.id c.args.body) refl
