@@ -7,7 +7,7 @@ use crate::subject::Subject;
 use comm_core::{Outgoings, Reply, StateAnswer};
 use comm_messages::{Outgoing, Parent};
 use comm_script::{LineFault, append_bad, append_outs, append_reply, append_state_line};
-use comm_targets::Custom;
+use comm_targets::SharedCustom;
 use std::alloc::{AllocError, Global};
 
 /// A change that was made: `number` among all changes, `call` among those of its client, what it is about, its reply,
@@ -47,7 +47,7 @@ pub enum CallResult {
     Change(MadeChange),
 }
 
-fn delivered_number(custom: &Option<Custom>) -> u32
+fn delivered_number(custom: &Option<SharedCustom>) -> u32
     ensures { result ≡ delivered_number custom.now }
 {
     match custom {

@@ -146,7 +146,7 @@ fn reply_part(
     ensures { IfOk result (λ p. option_map bytes_of_part p ≡ reply_part reply.now part) }
 {
     match reply {
-        Reply::Delivered(Some(custom)) => custom_part(alloc, custom, part),
+        Reply::Delivered(Some(custom)) => custom_part(alloc, custom.parts(), part),
         Reply::Unregistered(ids) => ids_part(alloc, ids, part),
         Reply::Replaced(ids) => ids_part(alloc, ids, part),
         _ => Ok(None),

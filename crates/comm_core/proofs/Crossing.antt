@@ -22,6 +22,7 @@ use Rattle.comm_targets.specs.contracts.answer.Answer as answer
 use Rattle.comm_targets.specs.contracts.answer.Bodies as bodies
 use Rattle.comm_targets.specs.contracts.answer.Custom as custom
 use Rattle.comm_targets.specs.contracts.fault.TargetFault as fault
+use Rattle.comm_targets.specs.contracts.shared_custom.SharedCustom as shared
 use Rattle.uuid.specs.contracts.Uuid as uuid
 use Rattle.comm_core.specs.contracts.call.Call as call
 use Rattle.comm_core.specs.contracts.entry.Entry as entry
@@ -89,6 +90,12 @@ custom_send = search (values, knot.crosses) depth 40
 pub custom_sync : IsSync custom.the_row
 custom_sync = search (values, knot.crosses) depth 40
 
+pub shared_send : IsSend shared.the_row
+shared_send = search (values, custom_send, custom_sync) depth 40
+
+pub shared_sync : IsSync shared.the_row
+shared_sync = search (values, custom_send, custom_sync) depth 40
+
 pub bodies_send : IsSend bodies.the_row
 bodies_send = search (values, body_send) depth 40
 
@@ -96,16 +103,16 @@ pub bodies_sync : IsSync bodies.the_row
 bodies_sync = search (values, body_sync) depth 40
 
 pub answer_send : IsSend answer.the_row
-answer_send = search (values, custom_send, bodies_send) depth 40
+answer_send = search (values, shared_send, bodies_send) depth 40
 
 pub answer_sync : IsSync answer.the_row
-answer_sync = search (values, custom_sync, bodies_sync) depth 40
+answer_sync = search (values, shared_sync, bodies_sync) depth 40
 
 pub reply_send : IsSend reply.the_row
-reply_send = search (values, custom_send, fault_send) depth 40
+reply_send = search (values, shared_send, fault_send) depth 40
 
 pub reply_sync : IsSync reply.the_row
-reply_sync = search (values, custom_sync, fault_sync) depth 40
+reply_sync = search (values, shared_sync, fault_sync) depth 40
 
 pub infos_send : IsSend infos.the_row
 infos_send = search leaves depth 40

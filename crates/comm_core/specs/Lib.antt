@@ -10,6 +10,7 @@ pub mod RunLaws
 pub mod Tables
 pub mod Kept
 pub mod Plans
+pub mod Told
 pub mod Row
 pub mod Ready
 pub mod Planned

@@ -10,10 +10,11 @@ ghost use Rattle.comm_core.specs.declared.table_update.TableUpdate.TheVariants.{
 
 use crate::comm::Comm;
 use crate::comms::Comms;
+use crate::kept_answer::KeptAnswer;
 use crate::question::KeptRequest;
 use crate::table_update::TableUpdate;
 use crate::target_table::TargetTable;
-use comm_targets::{Answer, Event, Held, Target, TargetFault};
+use comm_targets::{Event, Held, Target, TargetFault};
 use comm_value::{Dict, Text};
 use std::alloc::AllocError;
 
@@ -36,7 +37,7 @@ pub fn apply<T: Target>(
     targets: &mut TargetTable<T>,
     comms: &mut Comms,
     table_update: TableUpdate,
-    outcome: Option<Result<Answer, TargetFault>>,
+    outcome: Option<Result<KeptAnswer, TargetFault>>,
     registered: Option<T>,
 ) -> Option<Held<T>>
     requires room { 0 < targets.old.room }
@@ -92,7 +93,7 @@ fn commit_outcome<T: Target>(
     targets: &mut TargetTable<T>,
     comms: &mut Comms,
     request: KeptRequest,
-    outcome: Option<Result<Answer, TargetFault>>,
+    outcome: Option<Result<KeptAnswer, TargetFault>>,
     registered: Option<T>,
 )
     requires space { 0 < comms.old.room }
@@ -116,7 +117,7 @@ fn commit<T: Target>(
     targets: &mut TargetTable<T>,
     comms: &mut Comms,
     request: KeptRequest,
-    answer: Answer,
+    answer: KeptAnswer,
 )
     requires space { 0 < comms.old.room }
     requires agrees { Agrees (unstaged targets.old.all) comms.old.all }
@@ -128,12 +129,7 @@ fn commit<T: Target>(
 {
     targets.commit(&request.name);
     let KeptRequest { name, event, .. } = request;
-    let Answer {
-        state,
-        messages,
-        custom,
-    } = answer;
-    drop((messages, custom));
+    let KeptAnswer { state, .. } = answer;
     match event {
         Event::Open { id, version, body } => {
             drop((version, body));

@@ -1,10 +1,12 @@
 //! What a target answers, and what that comes to.
 ghost use Rattle.std.specs.Prelude.{◌≡◌, ℕ, Bool, IfOk, OnErr, None, Some, option_map};
 ghost use Rattle.comm_targets.specs.declared.event.Event.{Event};
+ghost use Rattle.comm_targets.specs.declared.answer.Answer.{Answer};
 ghost use Rattle.comm_core.specs.Machine.{Machine};
 ghost use Rattle.comm_core.specs.Step.{answer_step, refusal_step};
 ghost use Rattle.comm_core.specs.Tables.{machine_of, Agrees, HaveStaged, unstaged};
 ghost use Rattle.comm_core.specs.Ready.{HandsNothingIn};
+ghost use Rattle.comm_core.specs.Told.{IsTold};
 ghost use Rattle.comm_core.specs.Plans.{CanAsk, CanRefuse, GivesReply, HasAnswered, HasCome, is_memory};
 
 use crate::call::Call;
@@ -12,13 +14,14 @@ use crate::comms::Comms;
 use crate::decision::Decision;
 use crate::evaluation::Evaluation;
 use crate::judge::judge;
+use crate::kept_answer::KeptAnswer;
 use crate::outgoing::{close_message, messages_of, open_message};
 use crate::question::KeptRequest;
 use crate::reply::{Refusal, Reply};
 use crate::table_update::TableUpdate;
 use crate::target_table::TargetTable;
 use comm_messages::Outgoing;
-use comm_targets::{Answer, Custom, Event, Target, TargetFault};
+use comm_targets::{Bodies, Event, SharedCustom, Target, TargetFault};
 use comm_value::Dict;
 use std::alloc::{AllocError, Global};
 
@@ -35,6 +38,7 @@ pub fn evaluate<T: Target>(
     requires call { HandsNothingIn call }
     ensures came { IfOk result (λ r. HasCome limit targets.old.all comms.now.all call
         r.outcome r.reply r.outgoing.items r.table_update targets.new.all) }
+    ensures told { IfOk result (λ r. IsTold r.outcome r.outgoing.items) }
     ensures err { OnErr result (targets.new.all ≡ targets.old.all) }
     ensures room { targets.new.room ≡ targets.old.room }
 {
@@ -67,24 +71,28 @@ fn ask<T: Target>(
     requires lent { option_map (λ d. d.now) state ≡ request.state }
     ensures came { IfOk result (λ r. HasAnswered targets.old.all comms.now.all request
         r.outcome r.reply r.outgoing.items r.table_update targets.new.all) }
+    ensures told { IfOk result (λ r. IsTold r.outcome r.outgoing.items) }
     ensures err { OnErr result (targets.new.all ≡ targets.old.all) }
     ensures room { targets.new.room ≡ targets.old.room }
 {
     match targets.prepare(&request.name, &request.event, state) {
-        Ok(answer) => match answer_step(alloc, &request, &answer) {
-            Ok((reply, outgoing)) => Ok(Evaluation {
-                outcome: Some(Ok(answer)),
-                reply,
-                outgoing,
-                table_update: TableUpdate::Commit(request),
-            }),
-            Err(_) => {
-                targets.abandon(&request.name);
-                drop(request);
-                drop(answer);
-                Err(AllocError)
+        Ok(answer) => {
+            let (kept, messages) = KeptAnswer::take(answer);
+            match answer_step(alloc, &request, messages, &kept.custom) {
+                Ok((reply, outgoing)) => Ok(Evaluation {
+                    outcome: Some(Ok(kept)),
+                    reply,
+                    outgoing,
+                    table_update: TableUpdate::Commit(request),
+                }),
+                Err(_) => {
+                    targets.abandon(&request.name);
+                    drop(request);
+                    drop(kept);
+                    Err(AllocError)
+                }
             }
-        },
+        }
         Err(fault) => {
             if is_memory(fault) {
                 drop(request);
@@ -103,40 +111,43 @@ fn ask<T: Target>(
     }
 }
 
-/// The reply to an event that the target answers, and what goes out.
+/// The reply to an event that the target answers, and what goes out, into which the answer's messages move.
 fn answer_step(
     alloc: Global,
     request: &KeptRequest,
-    answer: &Answer,
+    messages: Bodies,
+    custom: &Option<SharedCustom>,
 ) -> Result<(Reply, Vec<Outgoing>), AllocError>
-    ensures { IfOk result (λ r. (m : Machine) → GivesReply
-        (answer_step m request.now.name request.now.event answer.now) r.0 r.1.items) }
+    ensures { (a : Answer) → messages ≡ a.messages → custom.now ≡ a.custom
+        → IfOk result (λ r. (m : Machine) → GivesReply
+        (answer_step m request.now.name request.now.event a) r.0 r.1.items) }
 {
     match &request.event {
-        Event::Open { id, .. } => Ok((Reply::Opened, messages_of(alloc, id, &answer.messages)?)),
+        Event::Open { id, .. } => Ok((Reply::Opened, messages_of(alloc, id, messages)?)),
         Event::Msg { id, .. } => {
-            let outgoing = messages_of(alloc, id, &answer.messages)?;
-            let custom = custom_copy(alloc, &answer.custom)?;
+            let outgoing = messages_of(alloc, id, messages)?;
+            let custom = custom_copy(custom)?;
             Ok((Reply::Delivered(custom), outgoing))
         }
         Event::Launch { id, state } => {
+            drop(messages);
             Ok((
                 Reply::Launched,
                 open_message(alloc, id, &request.name, state)?,
             ))
         }
-        Event::Push { id, .. } => Ok((
-            Reply::Delivered(None),
-            messages_of(alloc, id, &answer.messages)?,
-        )),
+        Event::Push { id, .. } => {
+            Ok((Reply::Delivered(None), messages_of(alloc, id, messages)?))
+        }
     }
 }
 
-fn custom_copy(alloc: Global, custom: &Option<Custom>) -> Result<Option<Custom>, AllocError>
+/// What the caller is handed, shared.
+pub fn custom_copy(custom: &Option<SharedCustom>) -> Result<Option<SharedCustom>, AllocError>
     ensures { IfOk result (λ c. c ≡ custom.now) }
 {
     match custom {
-        Some(custom) => Ok(Some(custom.copy(alloc)?)),
+        Some(custom) => Ok(Some(custom.copy()?)),
         None => Ok(None),
     }
 }

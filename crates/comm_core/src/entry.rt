@@ -1,13 +1,16 @@
 //! What a history is made of.
-ghost use Rattle.std.specs.Prelude.{◌≡◌, IfOk};
+ghost use Rattle.std.specs.Prelude.{◌≡◌, ◌++◌, IfOk, OnOk};
 ghost use Rattle.std.specs.Arc.{arc_value};
+ghost use Rattle.comm_core.specs.Told.{IsTold, bodies_in, body_of};
 ghost use Rattle.comm_core.specs.declared.entry.Entry.TheVariants.{Change};
 
+use crate::ask::custom_copy;
 use crate::call::Call;
+use crate::kept_answer::KeptAnswer;
 use crate::prepared_change::{PreparedChange, Ready};
 use crate::reply::Reply;
 use comm_messages::Outgoing;
-use comm_targets::{Answer, Target, TargetFault};
+use comm_targets::{Answer, Bodies, Target, TargetFault};
 use std::alloc::{AllocError, Global};
 use std::marker::Model;
 use std::sync::Arc;
@@ -83,15 +86,62 @@ impl Outgoings {
     }
 }
 
-/// What a target gave, shared.
-pub fn outcome_copy(
+// Adds the body of a message on a comm, shared.
+fn push_body(alloc: Global, message: &Outgoing, all: &mut Bodies) -> Result<(), AllocError>
+    ensures { OnOk result (all.new ≡ all.old ++ body_of message.now) }
+{
+    match message {
+        Outgoing::Msg { body, .. } => {
+            let body = body.copy(alloc)?;
+            all.push(body)
+        }
+        _ => Ok(()),
+    }
+}
+
+// The bodies of those of these that are messages on a comm, shared.
+fn bodies_in(alloc: Global, outgoing: &[Outgoing]) -> Result<Bodies, AllocError>
+    ensures { IfOk result (λ b. b ≡ bodies_in outgoing.now) }
+{
+    let mut all = Bodies::new(alloc);
+    for message in outgoing {
+        push_body(alloc, message, &mut all)?;
+    }
+    Ok(all)
+}
+
+// The answer of which this is kept, whole and shared. Its messages are among what goes out.
+fn whole_answer(
     alloc: Global,
-    outcome: &Option<Result<Answer, TargetFault>>,
+    answer: &KeptAnswer,
+    outgoing: &[Outgoing],
+) -> Result<Answer, AllocError>
+    requires { answer.now.messages ≡ bodies_in outgoing.now }
+    ensures { IfOk result (λ a. a ≡ answer.now) }
+{
+    let state = match &answer.state {
+        Some(state) => Some(state.copy()?),
+        None => None,
+    };
+    let custom = custom_copy(&answer.custom)?;
+    Ok(Answer {
+        state,
+        messages: bodies_in(alloc, outgoing)?,
+        custom,
+    })
+}
+
+// What a target gave, whole and shared.
+fn outcome_copy(
+    alloc: Global,
+    outcome: &Option<Result<KeptAnswer, TargetFault>>,
+    outgoing: &[Outgoing],
 ) -> Result<Option<Result<Answer, TargetFault>>, AllocError>
+    requires { IsTold outcome.now outgoing.now }
     ensures { IfOk result (λ o. o ≡ outcome.now) }
 {
     match outcome {
-        Some(Ok(answer)) => Ok(Some(Ok(answer.copy(alloc)?))),
+        Some(Ok(answer)) => Ok(Some(Ok(whole_answer(alloc, answer, outgoing)?))),
         Some(Err(fault)) => Ok(Some(Err(*fault))),
         None => Ok(None),
     }
@@ -154,7 +204,7 @@ impl<T: Target> PreparedChange<T> {
     {
         let outgoing = Outgoings::copy_of(alloc, &self.outgoing)?;
         let reply = self.reply.copy(alloc)?;
-        match outcome_copy(alloc, &self.outcome) {
+        match outcome_copy(alloc, &self.outcome, &self.outgoing) {
             Ok(outcome) => Ok((outcome, reply, outgoing)),
             Err(fault) => {
                 drop(reply);

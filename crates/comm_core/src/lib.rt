@@ -18,6 +18,7 @@ mod evaluation;
 mod ids;
 mod infos;
 mod judge;
+mod kept_answer;
 mod laws;
 mod limits;
 mod manager;

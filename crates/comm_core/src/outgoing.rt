@@ -18,9 +18,16 @@ use uuid::Uuid;
 pub fn one(alloc: Global, message: Outgoing) -> Result<Vec<Outgoing>, AllocError>
     ensures { IfOk result (λ v. v.items ≡ message ∷ []) }
 {
-    let mut all = Vec::new(alloc);
-    all.push(message)?;
-    Ok(all)
+    match Vec::with_capacity(alloc, 1) {
+        Ok(mut all) => {
+            all.push_reserved(message);
+            Ok(all)
+        }
+        Err(fault) => {
+            drop(message);
+            Err(fault)
+        }
+    }
 }
 
 /// A list of just the close of this comm.
@@ -41,17 +48,20 @@ pub fn close_messages(alloc: Global, ids: &[Text]) -> Result<Vec<Outgoing>, Allo
     Ok(all)
 }
 
-/// The messages of a comm.
-pub fn messages_of(alloc: Global, id: &Text, messages: &Bodies) -> Result<Vec<Outgoing>, AllocError>
-    ensures { IfOk result (λ v. v.items ≡ messages_of id.now messages.now) }
+/// The messages of a comm, which these bodies move into.
+pub fn messages_of(alloc: Global, id: &Text, messages: Bodies) -> Result<Vec<Outgoing>, AllocError>
+    ensures { IfOk result (λ v. v.items ≡ messages_of id.now messages) }
 {
-    let messages = messages.as_slice();
-    let mut all = Vec::with_capacity(alloc, messages.len())?;
-    for body in messages {
+    let mut rest = messages.into_vec();
+    if rest.is_empty() {
+        return Ok(Vec::new(alloc));
+    }
+    let mut all = Vec::with_capacity(alloc, rest.len())?;
+    while let Some(body) = rest.pop() {
         let id = id.copy()?;
-        let body = body.copy(alloc)?;
         all.push(Outgoing::Msg { id, body })?;
     }
+    all.reverse(); // They were taken from the end.
     Ok(all)
 }
 

@@ -2,10 +2,11 @@
 ghost use Rattle.std.specs.Prelude.{◌≡◌};
 
 use crate::call::Call;
+use crate::kept_answer::KeptAnswer;
 use crate::reply::Reply;
 use crate::table_update::TableUpdate;
 use comm_messages::Outgoing;
-use comm_targets::{Answer, Held, Target, TargetFault};
+use comm_targets::{Held, Target, TargetFault};
 use std::marker::Model;
 use std::snapshot::Snapshot;
 
@@ -17,7 +18,7 @@ use std::snapshot::Snapshot;
 #[must_use]
 pub struct PreparedChange<T: Target> {
     pub(crate) call: Snapshot<Call>,
-    pub(crate) outcome: Option<Result<Answer, TargetFault>>,
+    pub(crate) outcome: Option<Result<KeptAnswer, TargetFault>>,
     pub(crate) reply: Reply,
     pub(crate) outgoing: Vec<Outgoing>,
     pub(crate) table_update: TableUpdate,
@@ -29,6 +30,7 @@ impl<T: Target> Model for PreparedChange<T> {
     ghost use Rattle.std.specs.Prelude.{option_map};
     ghost use Rattle.comm_core.specs.Ready.{Readied, readied};
     ghost use Rattle.comm_core.specs.ReadyCode.{readied_code};
+    ghost use Rattle.comm_core.specs.Told.{IsTold};
 
     ghost Value = { Readied };
 
@@ -36,6 +38,8 @@ impl<T: Target> Model for PreparedChange<T> {
 
     ghost view = { λ p. readied p.call.value p.outcome p.reply p.outgoing.items p.table_update
         (option_map T.means p.registered) };
+
+    ghost invariant = { λ p. IsTold p.outcome p.outgoing.items };
 }
 
 /// A prepared change with its call, which the caller keeps, as for an entry of a history.

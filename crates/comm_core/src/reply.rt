@@ -1,7 +1,7 @@
 ghost use Rattle.std.specs.Prelude.{◌≡◌, IfOk};
 
 use crate::ids::Ids;
-use comm_targets::{Custom, TargetFault};
+use comm_targets::{SharedCustom, TargetFault};
 use comm_value::Dict;
 use std::alloc::{AllocError, Global};
 use thiserror::Error;
@@ -32,7 +32,7 @@ pub enum Reply {
     IdInUse,
     OpenRefused(Refusal),
     /// The target took the message; what the caller is handed, if anything.
-    Delivered(Option<Custom>),
+    Delivered(Option<SharedCustom>),
     /// The target refuses the message. The comm stays open.
     Fault(TargetFault),
     /// No comm has the id.
@@ -81,7 +81,7 @@ impl Reply {
             Reply::IdInUse => Ok(Reply::IdInUse),
             Reply::OpenRefused(why) => Ok(Reply::OpenRefused(why.copy())),
             Reply::Delivered(None) => Ok(Reply::Delivered(None)),
-            Reply::Delivered(Some(custom)) => Ok(Reply::Delivered(Some(custom.copy(alloc)?))),
+            Reply::Delivered(Some(custom)) => Ok(Reply::Delivered(Some(custom.copy()?))),
             Reply::Fault(fault) => Ok(Reply::Fault(*fault)),
             Reply::NoComm => Ok(Reply::NoComm),
             Reply::Closed => Ok(Reply::Closed),

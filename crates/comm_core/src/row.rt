@@ -6,11 +6,12 @@ ghost use Rattle.comm_core.specs.Row.{closed_row, ended_row, put_row, stated_row
 
 use crate::call::Call;
 use crate::ids::Ids;
+use crate::kept_answer::KeptAnswer;
 use crate::prepared_change::{PreparedChange, Ready};
 use crate::question::KeptRequest;
 use crate::reply::Reply;
 use crate::table_update::TableUpdate;
-use comm_targets::{Answer, Event, Target, TargetFault};
+use comm_targets::{Event, Target, TargetFault};
 use comm_value::{Dict, Text};
 use std::alloc::{AllocError, Global};
 use std::marker::Model;
@@ -117,7 +118,11 @@ fn put_row(alloc: Global, id: &Text, target: &Text, state: &Option<Dict>) -> Res
 }
 
 // What an answer changes, of a target that was asked this.
-fn answered_row(alloc: Global, request: &KeptRequest, answer: &Answer) -> Result<Row, AllocError>
+fn answered_row(
+    alloc: Global,
+    request: &KeptRequest,
+    answer: &KeptAnswer,
+) -> Result<Row, AllocError>
     ensures { IfOk result (λ r. r ≡ answered_row request.now.name request.now.event answer.now) }
 {
     let name = &request.name;
@@ -183,7 +188,7 @@ fn done_row(alloc: Global, call: &Call, reply: &Reply) -> Result<Row, AllocError
 fn updated_row(
     alloc: Global,
     table_update: &TableUpdate,
-    outcome: &Option<Result<Answer, TargetFault>>,
+    outcome: &Option<Result<KeptAnswer, TargetFault>>,
     call: &Call,
     reply: &Reply,
 ) -> Result<Row, AllocError>

@@ -110,7 +110,7 @@ fn append_reply_words(alloc: Global, reply: &Reply, out: &mut Vec<u8>) -> Result
         Reply::Delivered(None) => append(b"delivered", out),
         Reply::Delivered(Some(custom)) => {
             append(b"custom ", out)?;
-            append_custom(alloc, custom, out)?;
+            append_custom(alloc, custom.parts(), out)?;
             Ok(())
         }
         Reply::Fault(fault) => {

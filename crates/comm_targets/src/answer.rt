@@ -1,6 +1,7 @@
 ghost use Rattle.std.specs.Prelude.{◌≡◌, ◌++◌, [], ◌∷◌, IfOk, OnOk, OnErr};
 ghost use Rattle.comm_targets.specs.Widget.{nothing};
 
+use crate::shared_custom::SharedCustom;
 use comm_messages::Body;
 use comm_value::{Buffers, Dict, Val};
 use std::alloc::{AllocError, Global};
@@ -39,19 +40,7 @@ pub struct Answer {
     /// What goes out on the comm, each as one `comm_msg`.
     pub messages: Bodies,
     /// What the caller is handed. At an opening there is none.
-    pub custom: Option<Custom>,
-}
-
-impl Custom {
-    /// A copy, which shares the value and the buffers. Err: memory.
-    pub fn copy(&self, alloc: Global) -> Result<Custom, AllocError>
-        ensures { IfOk result (λ c. c ≡ self.now) }
-    {
-        Ok(Custom {
-            content: self.content.copy()?,
-            buffers: self.buffers.copy(alloc)?,
-        })
-    }
+    pub custom: Option<SharedCustom>,
 }
 
 impl Bodies {
@@ -61,6 +50,22 @@ impl Bodies {
     {
         Bodies {
             all: Vec::new(alloc),
+        }
+    }
+
+    /// This body alone. Err: memory.
+    pub fn one(alloc: Global, body: Body) -> Result<Bodies, AllocError>
+        ensures { IfOk result (λ b. b ≡ body ∷ []) }
+    {
+        match Vec::with_capacity(alloc, 1) {
+            Ok(mut all) => {
+                all.push_reserved(body);
+                Ok(Bodies { all })
+            }
+            Err(fault) => {
+                drop(body);
+                Err(fault)
+            }
         }
     }
 
@@ -78,6 +83,14 @@ impl Bodies {
         ensures { result.now ≡ self.now }
     {
         self.all.as_slice()
+    }
+
+    /// The bodies, which are moved out, in the order in which they go out.
+    pub fn into_vec(self) -> Vec<Body>
+        ensures { result.items ≡ self }
+    {
+        let Bodies { all } = self;
+        all
     }
 
     /// A copy, which shares each body's data and buffers. Err: memory.
@@ -113,7 +126,7 @@ impl Answer {
             None => None,
         };
         let custom = match &self.custom {
-            Some(custom) => Some(custom.copy(alloc)?),
+            Some(custom) => Some(custom.copy()?),
             None => None,
         };
         Ok(Answer {

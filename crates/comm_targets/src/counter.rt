@@ -58,10 +58,10 @@ fn count_answer(alloc: Global, next: u64, event: &Event) -> Result<Answer, Alloc
     ensures { (notes : ℕ) → next ≡ one_more notes
         → IfOk result (λ a. a ≡ count_answer notes event.now) }
 {
-    let mut messages = Bodies::new(alloc);
-    if let Event::Msg { .. } = event {
-        messages.push(count_body(alloc, next)?)?;
-    }
+    let messages = match event {
+        Event::Msg { .. } => Bodies::one(alloc, count_body(alloc, next)?)?,
+        _ => Bodies::new(alloc),
+    };
     Ok(Answer {
         state: None,
         messages,

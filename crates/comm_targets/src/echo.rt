@@ -33,10 +33,10 @@ impl Echo {
 fn echo_of(alloc: Global, event: &Event) -> Result<Answer, AllocError>
     ensures { IfOk result (λ a. a ≡ echo_of event.now) }
 {
-    let mut messages = Bodies::new(alloc);
-    if let Event::Msg { body, .. } = event {
-        messages.push(body.copy(alloc)?)?;
-    }
+    let messages = match event {
+        Event::Msg { body, .. } => Bodies::one(alloc, body.copy(alloc)?)?,
+        _ => Bodies::new(alloc),
+    };
     Ok(Answer {
         state: None,
         messages,

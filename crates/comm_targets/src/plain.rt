@@ -7,6 +7,7 @@ use crate::event::Event;
 use crate::fault::TargetFault;
 use crate::kind::Kind;
 use crate::open_comms::OpenComms;
+use crate::shared_custom::SharedCustom;
 use crate::target::Target;
 use comm_messages::Body;
 use comm_value::{Dict, Val};
@@ -52,13 +53,14 @@ impl PlainTarget {
 }
 
 // The data and the buffers of a message, shared.
-fn payload_of(alloc: Global, body: &Body) -> Result<Custom, AllocError>
+fn payload_of(alloc: Global, body: &Body) -> Result<SharedCustom, AllocError>
     ensures { IfOk result (λ c. c ≡ payload_of body.now) }
 {
-    Ok(Custom {
+    let custom = Custom {
         content: Val::Dict(body.content().copy()?),
         buffers: body.buffers().copy(alloc)?,
-    })
+    };
+    SharedCustom::new(alloc, custom)
 }
 
 fn plain_of(alloc: Global, event: &Event) -> Result<Answer, AllocError>

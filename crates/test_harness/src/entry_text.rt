@@ -85,6 +85,7 @@ pub fn append_target_answer(
         text.push(b'\n')?;
     }
     if let Some(custom) = &answer.custom {
+        let custom = custom.parts();
         append_words(&["given", "custom"], text)?;
         append_custom(alloc, &custom.content, &custom.buffers, text)?;
         text.push(b'\n')?;

@@ -4,7 +4,9 @@ ghost use Rattle.comm_targets.specs.Answers.{IsFreeAnswer, IsFreeFault};
 
 use crate::call_log::CallLog;
 use comm_messages::Body;
-use comm_targets::{Answer, Bodies, Custom, Event, Kind, OpenComms, Target, TargetFault};
+use comm_targets::{
+    Answer, Bodies, Custom, Event, Kind, OpenComms, SharedCustom, Target, TargetFault,
+};
 use comm_value::{Buffers, Dict, Text, Val};
 use std::alloc::{AllocError, Global};
 
@@ -132,12 +134,15 @@ fn state_in(data: &Dict, now: Option<&Dict>) -> Result<Option<Dict>, AllocError>
     }
 }
 
-fn custom_in(alloc: Global, body: &Body) -> Result<Option<Custom>, AllocError> {
+fn custom_in(alloc: Global, body: &Body) -> Result<Option<SharedCustom>, AllocError> {
     match body.content().get("custom") {
-        Some(value) => Ok(Some(Custom {
-            content: value.copy()?,
-            buffers: body.buffers().copy(alloc)?,
-        })),
+        Some(value) => {
+            let custom = Custom {
+                content: value.copy()?,
+                buffers: body.buffers().copy(alloc)?,
+            };
+            Ok(Some(SharedCustom::new(alloc, custom)?))
+        }
         None => Ok(None),
     }
 }

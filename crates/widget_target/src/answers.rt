@@ -2,7 +2,7 @@ ghost use Rattle.std.specs.Prelude.{◌≡◌, IfOk};
 ghost use Rattle.comm_targets.specs.Widget.{new_state, one_message};
 
 use comm_messages::Body;
-use comm_targets::Answer;
+use comm_targets::{Answer, Bodies};
 use comm_value::Dict;
 use std::alloc::{AllocError, Global};
 
@@ -20,6 +20,6 @@ pub fn one_message(alloc: Global, body: Body) -> Result<Answer, AllocError>
     ensures { IfOk result (λ a. a ≡ one_message body) }
 {
     let mut answer = Answer::empty(alloc);
-    answer.messages.push(body)?;
+    answer.messages = Bodies::one(alloc, body)?;
     Ok(answer)
 }

@@ -9,7 +9,7 @@ use crate::telling::Telling;
 use crate::template::Template;
 use crate::update::{state_message, update_answer};
 use comm_messages::Body;
-use comm_targets::{Answer, Custom, TargetFault};
+use comm_targets::{Answer, Custom, SharedCustom, TargetFault};
 use comm_value::Dict;
 use std::alloc::{AllocError, Global};
 
@@ -56,6 +56,6 @@ fn custom_answer(alloc: Global, body: &Body) -> Result<Answer, AllocError>
         buffers: body.buffers().copy(alloc)?,
     };
     let mut answer = Answer::empty(alloc);
-    answer.custom = Some(custom);
+    answer.custom = Some(SharedCustom::new(alloc, custom)?);
     Ok(answer)
 }

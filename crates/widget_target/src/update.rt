@@ -112,9 +112,7 @@ fn state_messages(
     ensures { IfOk result (λ m. m ≡ state_message (method_name telling) update.now ∷ []) }
 {
     let body = state_message(alloc, template, telling, update)?;
-    let mut messages = Bodies::new(alloc);
-    messages.push(body)?;
-    Ok(messages)
+    Bodies::one(alloc, body)
 }
 
 /// The message that tells a state, or some of its keys: `{"buffer_paths":..,"method":..,"state":..}`, with the

@@ -1,0 +1,19 @@
+-- What of an answer goes out; for private clauses.
+use Rattle.std.specs.Prelude.{◌≡◌, List, [], ◌∷◌, Option, Some, Ok, flat_map}
+use Rattle.comm_messages.specs.Content.{Content}
+use Rattle.comm_messages.specs.declared.outgoing.Outgoing.{Outgoing}
+use Rattle.comm_messages.specs.declared.outgoing.Outgoing.TheVariants as out
+use Rattle.comm_core.specs.Step.{Outcome}
+
+abbrev pub body_of : Outgoing → List Content
+body_of (out.Msg id body) = body ∷ []
+body_of message = []
+
+-- what goes out as messages on a comm
+abbrev pub bodies_in : List Outgoing → List Content
+bodies_in messages = flat_map body_of messages
+
+-- an answer's messages are those that go out
+abbrev pub IsTold : Option Outcome → List Outgoing → Type 0
+IsTold (Some (Ok a)) messages = a.messages ≡ bodies_in messages
+IsTold o messages = Unit {0}
