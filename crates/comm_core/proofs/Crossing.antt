@@ -18,6 +18,7 @@ use Rattle.comm_value.specs.contracts.val.Val as val
 use Rattle.comm_messages.specs.contracts.body.Body as body
 use Rattle.comm_messages.specs.contracts.infos.Infos as infos
 use Rattle.comm_messages.specs.contracts.outgoing.Outgoing as outgoing
+use Rattle.comm_messages.specs.contracts.outgoing_body.OutgoingBody as outgoing_body
 use Rattle.comm_targets.specs.contracts.answer.Answer as answer
 use Rattle.comm_targets.specs.contracts.answer.Bodies as bodies
 use Rattle.comm_targets.specs.contracts.answer.Custom as custom
@@ -66,6 +67,12 @@ body_send = search values depth 40
 pub body_sync : IsSync body.the_row
 body_sync = search values depth 40
 
+pub outgoing_body_send : IsSend outgoing_body.the_row
+outgoing_body_send = search (values, body_send) depth 40
+
+pub outgoing_body_sync : IsSync outgoing_body.the_row
+outgoing_body_sync = search (values, body_sync) depth 40
+
 pub uuid_send : IsSend uuid.the_row
 uuid_send = search (sendable, crosses) depth 40
 
@@ -97,10 +104,10 @@ pub shared_sync : IsSync shared.the_row
 shared_sync = search (values, custom_send, custom_sync) depth 40
 
 pub bodies_send : IsSend bodies.the_row
-bodies_send = search (values, body_send) depth 40
+bodies_send = search (values, outgoing_body_send) depth 40
 
 pub bodies_sync : IsSync bodies.the_row
-bodies_sync = search (values, body_sync) depth 40
+bodies_sync = search (values, outgoing_body_sync) depth 40
 
 pub answer_send : IsSend answer.the_row
 answer_send = search (values, shared_send, bodies_send) depth 40
@@ -121,10 +128,10 @@ pub infos_sync : IsSync infos.the_row
 infos_sync = search leaves depth 40
 
 pub outgoing_send : IsSend outgoing.the_row
-outgoing_send = search (values, body_send, infos_send) depth 40
+outgoing_send = search (values, outgoing_body_send, infos_send) depth 40
 
 pub outgoing_sync : IsSync outgoing.the_row
-outgoing_sync = search (values, body_sync, infos_sync) depth 40
+outgoing_sync = search (values, outgoing_body_sync, infos_sync) depth 40
 
 pub outgoings_send : IsSend outgoings.the_row
 outgoings_send = search (leaves, outgoing_send) depth 40

@@ -21,7 +21,7 @@ use crate::question::Question;
 use crate::reply::{Refusal, Reply};
 use crate::table_update::TableUpdate;
 use crate::target_table::TargetTable;
-use comm_messages::{Body, Outgoing};
+use comm_messages::{Body, Outgoing, OutgoingBody};
 use comm_targets::{Event, Kind, Target};
 use comm_value::{Dict, Text};
 use std::alloc::{AllocError, Global};
@@ -333,6 +333,7 @@ fn judge_send<'a>(
         drop(body);
         return Ok(stays(alloc, Reply::NoComm));
     }
+    let body = OutgoingBody::new(body);
     let outgoing = one(alloc, Outgoing::Msg { id, body })?;
     Ok(Decision::Done(Reply::Delivered(None), outgoing, TableUpdate::Nothing))
 }

@@ -8,7 +8,7 @@ ghost use Rattle.comm_value.specs.Paths.{paths_tree};
 ghost use Rattle.comm_messages.specs.declared.outgoing.Outgoing.TheVariants as out;
 ghost use Rattle.comm_core.specs.Step.{comm_id, opening_of, messages_of};
 
-use comm_messages::{Body, Outgoing};
+use comm_messages::{Body, Outgoing, OutgoingBody};
 use comm_targets::Bodies;
 use comm_value::{Dict, Path, Separated, Text, Val, paths_val, separate};
 use std::alloc::{AllocError, Global};
@@ -91,7 +91,7 @@ pub fn open_message(
 }
 
 /// The body of that message: the state without its bytes, where they stood, and the bytes.
-fn opening_of(alloc: Global, state: &Dict) -> Result<Body, AllocError>
+fn opening_of(alloc: Global, state: &Dict) -> Result<OutgoingBody, AllocError>
     ensures { IfOk result (λ b. b ≡ opening_of state.now) }
 {
     let Separated {
@@ -102,7 +102,7 @@ fn opening_of(alloc: Global, state: &Dict) -> Result<Body, AllocError>
     match places(alloc, paths.as_slice()) {
         Ok(content) => {
             let content = with(alloc, content, "state", Val::Dict(plain))?;
-            Ok(Body::new(content, buffers))
+            Ok(OutgoingBody::new(Body::new(content, buffers)))
         }
         Err(fault) => {
             drop(plain);

@@ -1,4 +1,5 @@
 pub mod Content
+pub mod Told
 pub mod Gives
 pub mod Fields
 pub mod Buffers

@@ -26,8 +26,10 @@ mod incoming;
 mod infos;
 mod laws;
 mod outgoing;
+mod outgoing_body;
 mod parts;
 mod read;
+mod telling;
 mod write;
 
 pub use body::Body;
@@ -42,11 +44,13 @@ pub use incoming::Incoming;
 pub use infos::{Info, Infos};
 pub use laws::{any_number_is_read, written_is_read_again};
 pub use outgoing::{Outgoing, Parent};
+pub use outgoing_body::OutgoingBody;
 pub use parts::{IncomingParts, ParsedParts, PartsScratch, message_by_parts, parse_parts};
 pub use read::{
     MessageType, body_of, body_with, heading, incoming_in, message_from, message_in, message_of,
     object_of, read_message, read_message_with, type_of,
 };
+pub use telling::Telling;
 pub use write::{
     append_buffers, append_content, append_ids, append_message, append_metadata, write_message,
 };

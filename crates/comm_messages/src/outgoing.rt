@@ -1,7 +1,7 @@
 ghost use Rattle.std.specs.Prelude.{◌≡◌, IfOk};
 
-use crate::body::Body;
 use crate::infos::Infos;
+use crate::outgoing_body::OutgoingBody;
 use comm_value::Text;
 use std::alloc::{AllocError, Global};
 
@@ -17,14 +17,14 @@ pub enum Outgoing {
         /// `metadata.version`.
         version: Text,
         /// `content.data` and the buffers.
-        body: Body,
+        body: OutgoingBody,
     },
     /// `comm_msg` goes to an open comm.
     Msg {
         /// `content.comm_id`.
         id: Text,
         /// `content.data` and the buffers.
-        body: Body,
+        body: OutgoingBody,
     },
     /// `comm_close` closes a comm at the frontend.
     Close {

@@ -10,9 +10,9 @@ ghost use Rattle.comm_messages.specs.Text.{text, buffer_texts, comm_members, goe
 ghost use Rattle.comm_messages.specs.Parts.{GrowsBy, buffers_text, parent_text, front_text};
 ghost use Rattle.comm_messages.specs.Parts.{content_text, info_text, metadata_text, end_text, ids_text};
 
-use crate::body::Body;
 use crate::infos::{Info, Infos};
 use crate::outgoing::{Outgoing, Parent};
+use crate::outgoing_body::OutgoingBody;
 use base64::engine::general_purpose::STANDARD;
 use comm_value::{Buffers, Bytes, Text, write_text};
 use std::alloc::{AllocError, Global};
@@ -187,13 +187,13 @@ fn append_id(id: &Text, out: &mut Vec<u8>) -> Result<(), AllocError>
     Ok(())
 }
 
-fn append_data(body: &Body, out: &mut Vec<u8>) -> Result<(), AllocError>
+fn append_data(body: &OutgoingBody, out: &mut Vec<u8>) -> Result<(), AllocError>
     ensures { OnOk result (GrowsBy out.old.items
         (codes ",\"data\":" ++ compact_text (object (json_members body.now.content)))
         out.new.items) }
 {
     append(b",\"data\":", out)?;
-    body.content().write_json(out)?;
+    body.write_json(out)?;
     Ok(())
 }
 

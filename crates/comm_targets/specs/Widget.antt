@@ -6,13 +6,14 @@ use Rattle.std.specs.Result.{result_map_both}
 use Rattle.std.specs.List.{before_first}
 use Rattle.std.specs.Str.{bytes_eq}
 use Rattle.comm_messages.specs.Content.{Content}
+use Rattle.comm_messages.specs.Told.{told_data}
 use Rattle.comm_value.specs.Tree.{Tree, null, boolean, whole, decimal, text, bytes, list, dict}
-use Rattle.comm_value.specs.Tree.{Members, no_members, member}
-use Rattle.comm_value.specs.Node.{Path, get}
+use Rattle.comm_value.specs.Tree.{Members, no_members}
+use Rattle.comm_value.specs.Node.{get}
 use Rattle.comm_value.specs.Places.{member_paths, member_buffers, plain_members}
 use Rattle.comm_value.specs.Put.{placed_in}
 use Rattle.comm_value.specs.Gives.{◌>>=◌}
-use Rattle.comm_value.specs.Paths.{read_paths, paths_tree}
+use Rattle.comm_value.specs.Paths.{read_paths}
 use Rattle.comm_value.specs.Merge.{merged}
 use Rattle.comm_value.specs.declared.val.Val.{Val}
 use Rattle.comm_value.specs.declared.val.Val.TheVariants as val
@@ -86,12 +87,6 @@ opening_state version c =
     if is_supported version then given_state (get (codes "state") c.content) c else Err WrongVersion
 
 -- ---- messages ("State update messages")
-
--- the data of the message that tells a state without its bytes, which stood at these paths
-abbrev pub told_data : List ℕ → List Path → Members → Members
-told_data method paths plain =
-    member (codes "buffer_paths") (paths_tree paths)
-    (member (codes "method") (text method) (member (codes "state") (dict plain) no_members))
 
 -- the message of this method that tells a state, or some of its keys
 abbrev pub state_message : List ℕ → Members → Content

@@ -2,7 +2,7 @@ ghost use Rattle.std.specs.Prelude.{◌≡◌, ◌++◌, [], ◌∷◌, IfOk, On
 ghost use Rattle.comm_targets.specs.Widget.{nothing};
 
 use crate::shared_custom::SharedCustom;
-use comm_messages::Body;
+use comm_messages::OutgoingBody;
 use comm_value::{Buffers, Dict, Val};
 use std::alloc::{AllocError, Global};
 use std::marker::Model;
@@ -17,7 +17,7 @@ pub struct Custom {
 /// Bodies of messages in the order in which they go out.
 #[derive(Drop)]
 pub struct Bodies {
-    all: Vec<Body>,
+    all: Vec<OutgoingBody>,
 }
 
 impl Model for Bodies {
@@ -54,7 +54,7 @@ impl Bodies {
     }
 
     /// This body alone. Err: memory.
-    pub fn one(alloc: Global, body: Body) -> Result<Bodies, AllocError>
+    pub fn one(alloc: Global, body: OutgoingBody) -> Result<Bodies, AllocError>
         ensures { IfOk result (λ b. b ≡ body ∷ []) }
     {
         match Vec::with_capacity(alloc, 1) {
@@ -70,7 +70,7 @@ impl Bodies {
     }
 
     /// Adds a body, which goes out last. Err: memory; the bodies stay as they were.
-    pub fn push(&mut self, body: Body) -> Result<(), AllocError>
+    pub fn push(&mut self, body: OutgoingBody) -> Result<(), AllocError>
         ensures ok { OnOk result (self.new ≡ self.old ++ body ∷ []) }
         ensures err { OnErr result (self.new ≡ self.old) }
     {
@@ -79,14 +79,14 @@ impl Bodies {
     }
 
     /// The bodies, in the order in which they go out.
-    pub fn as_slice(&self) -> &[Body]
+    pub fn as_slice(&self) -> &[OutgoingBody]
         ensures { result.now ≡ self.now }
     {
         self.all.as_slice()
     }
 
     /// The bodies, which are moved out, in the order in which they go out.
-    pub fn into_vec(self) -> Vec<Body>
+    pub fn into_vec(self) -> Vec<OutgoingBody>
         ensures { result.items ≡ self }
     {
         let Bodies { all } = self;

@@ -10,7 +10,7 @@ use crate::fault::TargetFault;
 use crate::kind::Kind;
 use crate::open_comms::OpenComms;
 use crate::target::Target;
-use comm_messages::Body;
+use comm_messages::{Body, OutgoingBody};
 use comm_value::{Buffers, Dict, Text, Val, Whole};
 use std::alloc::{AllocError, Global};
 
@@ -59,7 +59,9 @@ fn count_answer(alloc: Global, next: u64, event: &Event) -> Result<Answer, Alloc
         → IfOk result (λ a. a ≡ count_answer notes event.now) }
 {
     let messages = match event {
-        Event::Msg { .. } => Bodies::one(alloc, count_body(alloc, next)?)?,
+        Event::Msg { .. } => {
+            Bodies::one(alloc, OutgoingBody::new(count_body(alloc, next)?))?
+        }
         _ => Bodies::new(alloc),
     };
     Ok(Answer {

@@ -8,6 +8,7 @@ use crate::fault::TargetFault;
 use crate::kind::Kind;
 use crate::open_comms::OpenComms;
 use crate::target::Target;
+use comm_messages::OutgoingBody;
 use comm_value::Dict;
 use std::alloc::{AllocError, Global};
 
@@ -34,7 +35,7 @@ fn echo_of(alloc: Global, event: &Event) -> Result<Answer, AllocError>
     ensures { IfOk result (λ a. a ≡ echo_of event.now) }
 {
     let messages = match event {
-        Event::Msg { body, .. } => Bodies::one(alloc, body.copy(alloc)?)?,
+        Event::Msg { body, .. } => Bodies::one(alloc, OutgoingBody::new(body.copy(alloc)?))?,
         _ => Bodies::new(alloc),
     };
     Ok(Answer {

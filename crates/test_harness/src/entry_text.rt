@@ -1,6 +1,8 @@
 //! Calls, answers of targets, entries and rows as text.
 use crate::reply_text::append_answer;
-use crate::value_text::{append_body, append_custom, append_state, append_words};
+use crate::value_text::{
+    append_body, append_custom, append_outgoing_body, append_state, append_words,
+};
 use comm_core::{Call, Entry, Row};
 use comm_messages::{Body, Parent};
 use comm_targets::{Answer, TargetFault};
@@ -81,7 +83,7 @@ pub fn append_target_answer(
     }
     for message in answer.messages.as_slice() {
         append_words(&["given", "message"], text)?;
-        append_body(alloc, message, text)?;
+        append_outgoing_body(alloc, message, text)?;
         text.push(b'\n')?;
     }
     if let Some(custom) = &answer.custom {

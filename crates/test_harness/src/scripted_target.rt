@@ -3,7 +3,7 @@ ghost use Rattle.std.specs.Prelude.{◌≡◌, ◌⊎◌, [], None, IfOk, IfErr,
 ghost use Rattle.comm_targets.specs.Answers.{IsFreeAnswer, IsFreeFault};
 
 use crate::call_log::CallLog;
-use comm_messages::Body;
+use comm_messages::{Body, OutgoingBody};
 use comm_targets::{
     Answer, Bodies, Custom, Event, Kind, OpenComms, SharedCustom, Target, TargetFault,
 };
@@ -83,7 +83,8 @@ fn push_content(alloc: Global, content: Dict, messages: &mut Bodies) -> Result<(
     if content.has_bytes() {
         return Ok(());
     }
-    messages.push(Body::new(content, Buffers::none(alloc)))
+    let body = Body::new(content, Buffers::none(alloc));
+    messages.push(OutgoingBody::new(body))
 }
 
 fn push_message(

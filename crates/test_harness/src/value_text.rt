@@ -1,5 +1,5 @@
 //! Values as text.
-use comm_messages::Body;
+use comm_messages::{Body, OutgoingBody};
 use comm_value::{Buffers, Dict, Path, Separated, Val, paths_val, separate};
 use std::alloc::{AllocError, Global};
 
@@ -38,6 +38,17 @@ pub fn append_buffers(
 pub fn append_body(alloc: Global, body: &Body, text: &mut Vec<u8>) -> Result<(), AllocError> {
     text.push(b' ')?;
     body.content().write_json(text)?;
+    append_buffers(alloc, body.buffers(), text)
+}
+
+/// A space, the data that goes out, and the buffers.
+pub(crate) fn append_outgoing_body(
+    alloc: Global,
+    body: &OutgoingBody,
+    text: &mut Vec<u8>,
+) -> Result<(), AllocError> {
+    text.push(b' ')?;
+    body.write_json(text)?;
     append_buffers(alloc, body.buffers(), text)
 }
 

@@ -1,11 +1,7 @@
 -- What a message tells of a state has no bytes in it, and a state without bytes is told as it is.
-use Rattle.std.proofs.Common.{◌≡◌, ℕ, suc, Bool, true, false, ◌||◌, List, [], ◌∷◌, map, refl, ap, true≢false}
+use Rattle.std.proofs.Common.{◌≡◌, ℕ, suc, Bool, true, false, ◌||◌, [], refl, ap, true≢false}
 use Rattle.comm_value.specs.Tree.{Tree, null, boolean, whole, decimal, text, bytes, list, dict, Items, no_items, item, Members, no_members, member}
-use Rattle.comm_value.specs.Node.{Path}
-use Rattle.comm_value.specs.Paths.{paths_tree, path_tree, step_tree, items_from}
 use Rattle.comm_value.specs.Places.{has_bytes, items_have_bytes, members_have_bytes, plain, plain_items, plain_members, paths, item_paths, member_paths, buffers, item_buffers, member_buffers}
-use Rattle.comm_targets.specs.Widget.{told_data}
-use Rattle.comm_value.specs.declared.path.Step.TheVariants.{Key, Index}
 
 mutual
   pub plain_items_free : (ts : Items) → items_have_bytes (plain_items ts) ≡ false
@@ -29,23 +25,6 @@ mutual
   plain_members_free (member k (bytes b) ms) = plain_members_free ms
   plain_members_free (member k (list is) ms) = rw (plain_items_free is) (plain_members_free ms)
   plain_members_free (member k (dict us) ms) = rw (plain_members_free us) (plain_members_free ms)
-
-steps_free : (p : Path) → items_have_bytes (items_from (map step_tree p)) ≡ false
-steps_free [] = refl
-steps_free (Key k ∷ p) = steps_free p
-steps_free (Index n ∷ p) = steps_free p
-
-listed_free : (ps : List Path) → items_have_bytes (items_from (map path_tree ps)) ≡ false
-listed_free [] = refl
-listed_free (p ∷ ps) = rw (steps_free p) (listed_free ps)
-
-pub paths_free : (ps : List Path) → has_bytes (paths_tree ps) ≡ false
-paths_free ps = listed_free ps
-
--- the data of a message that tells a state
-pub told_free : (method : List ℕ) (ps : List Path) (plain state content : Members)
-    → content ≡ told_data method ps plain → plain ≡ plain_members state → members_have_bytes content ≡ false
-told_free method ps plain state content is told = rw (is, told, paths_free ps) (rw (plain_members_free state) refl)
 
 -- a state without bytes is told as it is
 neither : (a b : Bool) → (a || b) ≡ false → (a ≡ false) × (b ≡ false)

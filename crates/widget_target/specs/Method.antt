@@ -9,8 +9,6 @@ use Rattle.comm_targets.specs.declared.kind.Kind.{Kind}
 use Rattle.comm_targets.specs.declared.kind.Kind.TheVariants as kind
 use Rattle.widget_target.specs.declared.method.Method.{Method}
 use Rattle.widget_target.specs.declared.method.Method.TheVariants.{Update, RequestState, Custom}
-use Rattle.widget_target.specs.declared.telling.Telling.{Telling}
-use Rattle.widget_target.specs.declared.telling.Telling.TheVariants as telling
 
 abbrev pub method_named : List ℕ → Result Method TargetFault
 method_named name =
@@ -23,11 +21,6 @@ method_named name =
 abbrev pub method_of : Option Tree → Result Method TargetFault
 method_of (Some (text name)) = method_named name
 method_of _ = Err NoMethod
-
--- of the message that tells a state
-abbrev pub method_name : Telling → List ℕ
-method_name telling.Update = codes "update"
-method_name telling.EchoUpdate = codes "echo_update"
 
 -- the kind of a target that echoes, or of one that doesn't
 abbrev pub kind_of : Bool → Kind

@@ -1,7 +1,7 @@
 ghost use Rattle.std.specs.Prelude.{◌≡◌, IfOk};
 ghost use Rattle.comm_targets.specs.Widget.{new_state, one_message};
 
-use comm_messages::Body;
+use comm_messages::OutgoingBody;
 use comm_targets::{Answer, Bodies};
 use comm_value::Dict;
 use std::alloc::{AllocError, Global};
@@ -16,7 +16,7 @@ pub fn new_state(alloc: Global, state: Dict) -> Answer
 }
 
 /// The answer that sends this message, and leaves the state.
-pub fn one_message(alloc: Global, body: Body) -> Result<Answer, AllocError>
+pub fn one_message(alloc: Global, body: OutgoingBody) -> Result<Answer, AllocError>
     ensures { IfOk result (λ a. a ≡ one_message body) }
 {
     let mut answer = Answer::empty(alloc);

@@ -11,8 +11,6 @@ mod message;
 mod method;
 mod open;
 mod state;
-mod telling;
-mod template;
 mod update;
 mod version;
 mod widget;

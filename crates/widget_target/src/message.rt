@@ -5,10 +5,8 @@ ghost use Rattle.widget_target.specs.Gives.{Gives};
 
 use crate::answers::one_message;
 use crate::method::{Method, method_of};
-use crate::telling::Telling;
-use crate::template::Template;
 use crate::update::{state_message, update_answer};
-use comm_messages::Body;
+use comm_messages::{Body, Telling};
 use comm_targets::{Answer, Custom, SharedCustom, TargetFault};
 use comm_value::Dict;
 use std::alloc::{AllocError, Global};
@@ -17,7 +15,6 @@ use std::alloc::{AllocError, Global};
 /// Err: NoMethod, UnknownMethod, the faults of `update`, or Memory.
 pub fn message_answer(
     alloc: Global,
-    template: &mut Option<Template>,
     echoing: bool,
     body: &Body,
     now: &Dict,
@@ -26,21 +23,17 @@ pub fn message_answer(
         (message_answer echoing (get (codes "method") body.now.content) now.now body.now) }
 {
     match method_of(body.content())? {
-        Method::Update => update_answer(alloc, template, echoing, body, now),
-        Method::RequestState => Ok(request_answer(alloc, template, now)?),
+        Method::Update => update_answer(alloc, echoing, body, now),
+        Method::RequestState => Ok(request_answer(alloc, now)?),
         Method::Custom => Ok(custom_answer(alloc, body)?),
     }
 }
 
 // The answer to `request_state`: the whole state goes out.
-fn request_answer(
-    alloc: Global,
-    template: &mut Option<Template>,
-    now: &Dict,
-) -> Result<Answer, AllocError>
+fn request_answer(alloc: Global, now: &Dict) -> Result<Answer, AllocError>
     ensures { IfOk result (λ a. a ≡ one_message (update_of now.now)) }
 {
-    one_message(alloc, state_message(alloc, template, Telling::Update, now)?)
+    one_message(alloc, state_message(alloc, Telling::Update, now)?)
 }
 
 // The answer to `custom`: the caller is handed the data's `content` and all the message's buffers.

@@ -3,13 +3,11 @@ ghost use Rattle.comm_value.specs.Merge.{merged};
 ghost use Rattle.comm_value.specs.Node.{get};
 ghost use Rattle.comm_value.specs.Places.{plain_members, member_paths, member_buffers};
 ghost use Rattle.comm_targets.specs.Widget.{echoes, merge_answer, push_answer, state_message, update_answer};
-ghost use Rattle.widget_target.specs.Method.{method_name};
+ghost use Rattle.comm_messages.specs.Told.{method_name};
 ghost use Rattle.widget_target.specs.Gives.{Gives};
 
 use crate::state::state_of;
-use crate::telling::Telling;
-use crate::template::{Template, told_data};
-use comm_messages::Body;
+use comm_messages::{Body, OutgoingBody, Telling};
 use comm_targets::{Answer, Bodies, TargetFault};
 use comm_value::{Buffers, Dict, Separated, merge, separate};
 use std::alloc::{AllocError, Global};
@@ -18,7 +16,6 @@ use std::alloc::{AllocError, Global};
 /// that echoes repeats them. Without `state` nothing is changed or sent. Err: a fault of the state, or Memory.
 pub fn update_answer(
     alloc: Global,
-    template: &mut Option<Template>,
     echoing: bool,
     body: &Body,
     now: &Dict,
@@ -30,20 +27,19 @@ pub fn update_answer(
         return Ok(Answer::empty(alloc));
     };
     let update = state_of(alloc, state, body)?;
-    Ok(merge_answer(alloc, template, echoing, update, now)?)
+    Ok(merge_answer(alloc, echoing, update, now)?)
 }
 
 // The answer to an update that brought these keys.
 fn merge_answer(
     alloc: Global,
-    template: &mut Option<Template>,
     echoing: bool,
     update: Dict,
     now: &Dict,
 ) -> Result<Answer, AllocError>
     ensures { IfOk result (λ a. a ≡ merge_answer echoing now.now update) }
 {
-    let Ok(messages) = echoes(alloc, template, echoing, &update) else {
+    let Ok(messages) = echoes(alloc, echoing, &update) else {
         drop(update);
         return Err(AllocError);
     };
@@ -66,32 +62,22 @@ fn merge_copy(alloc: Global, now: &Dict, update: Dict) -> Result<Dict, AllocErro
 }
 
 // What is told of an update that brought these keys.
-fn echoes(
-    alloc: Global,
-    template: &mut Option<Template>,
-    echoing: bool,
-    update: &Dict,
-) -> Result<Bodies, AllocError>
+fn echoes(alloc: Global, echoing: bool, update: &Dict) -> Result<Bodies, AllocError>
     ensures { IfOk result (λ m. m ≡ echoes echoing update.now) }
 {
     if !echoing || update.is_empty() {
         return Ok(Bodies::new(alloc));
     }
-    state_messages(alloc, template, Telling::EchoUpdate, update)
+    state_messages(alloc, Telling::EchoUpdate, update)
 }
 
 /// The answer to a change of these keys by the kernel: they replace those of the widget's state, and one `update`
 /// message with just these keys goes out. Err: memory.
-pub fn push_answer(
-    alloc: Global,
-    template: &mut Option<Template>,
-    update: &Dict,
-    now: &Dict,
-) -> Result<Answer, AllocError>
+pub fn push_answer(alloc: Global, update: &Dict, now: &Dict) -> Result<Answer, AllocError>
     ensures { IfOk result (λ a. a ≡ push_answer now.now update.now) }
 {
     let state = merge_copy(alloc, now, update.copy()?)?;
-    let Ok(messages) = state_messages(alloc, template, Telling::Update, update) else {
+    let Ok(messages) = state_messages(alloc, Telling::Update, update) else {
         drop(state);
         return Err(AllocError);
     };
@@ -103,15 +89,10 @@ pub fn push_answer(
 }
 
 // The one message that tells these keys.
-fn state_messages(
-    alloc: Global,
-    template: &mut Option<Template>,
-    telling: Telling,
-    update: &Dict,
-) -> Result<Bodies, AllocError>
+fn state_messages(alloc: Global, telling: Telling, update: &Dict) -> Result<Bodies, AllocError>
     ensures { IfOk result (λ m. m ≡ state_message (method_name telling) update.now ∷ []) }
 {
-    let body = state_message(alloc, template, telling, update)?;
+    let body = state_message(alloc, telling, update)?;
     Bodies::one(alloc, body)
 }
 
@@ -119,10 +100,9 @@ fn state_messages(
 /// buffers in the order of the paths ("State update messages").
 pub fn state_message(
     alloc: Global,
-    template: &mut Option<Template>,
     telling: Telling,
     state: &Dict,
-) -> Result<Body, AllocError>
+) -> Result<OutgoingBody, AllocError>
     ensures { IfOk result (λ b. b ≡ state_message (method_name telling) state.now) }
 {
     let Separated {
@@ -130,8 +110,7 @@ pub fn state_message(
         paths,
         buffers,
     } = separate_state(alloc, state)?;
-    let content = told_data(alloc, template, telling, plain, paths.as_slice())?;
-    Ok(Body::new(content, buffers))
+    OutgoingBody::told(alloc, telling, plain, paths.as_slice(), buffers)
 }
 
 // The state without its bytes, and where they stood. A state without bytes is shared.

@@ -8,7 +8,6 @@ ghost use Rattle.widget_target.specs.Method.{kind_of};
 use crate::answers::new_state;
 use crate::message::message_answer;
 use crate::open::opening_state;
-use crate::template::Template;
 use crate::update::push_answer;
 use comm_targets::{Answer, Event, Kind, OpenComms, Target, TargetFault};
 use comm_value::Dict;
@@ -22,8 +21,6 @@ pub struct WidgetTarget {
     comms: OpenComms,
     // Whether it repeats to the frontends what an update brought.
     echoing: bool,
-    // Made by the first update message.
-    template: Option<Template>,
 }
 
 impl WidgetTarget {
@@ -50,7 +47,6 @@ impl WidgetTarget {
             alloc,
             comms: OpenComms::new(alloc),
             echoing,
-            template: None,
         }
     }
 }
@@ -77,7 +73,7 @@ impl Target for WidgetTarget {
     }
 
     fn prepare(&mut self, event: &Event, now: Option<&Dict>) -> Result<Answer, TargetFault> {
-        let answer = answer_to(self.alloc, &mut self.template, self.echoing, event, now)?;
+        let answer = answer_to(self.alloc, self.echoing, event, now)?;
         if self.comms.stage(self.alloc, event, &answer).is_err() {
             drop(answer);
             return Err(TargetFault::Memory);
@@ -103,7 +99,6 @@ impl Target for WidgetTarget {
 // The answer to an event, of a comm whose state is `now`; with none the empty state.
 fn answer_to(
     alloc: Global,
-    template: &mut Option<Template>,
     echoing: bool,
     event: &Event,
     now: Option<&Dict>,
@@ -112,10 +107,10 @@ fn answer_to(
         (answer_of echoing (unwrap_or (option_map (λ d. d.now) now.entry) no_members) event.now) }
 {
     match now {
-        Some(now) => answer_over(alloc, template, echoing, event, now),
+        Some(now) => answer_over(alloc, echoing, event, now),
         None => {
             let empty = Dict::new();
-            let answer = answer_over(alloc, template, echoing, event, &empty);
+            let answer = answer_over(alloc, echoing, event, &empty);
             drop(empty);
             answer
         }
@@ -125,7 +120,6 @@ fn answer_to(
 // The answer to an event, of a comm with this state.
 fn answer_over(
     alloc: Global,
-    template: &mut Option<Template>,
     echoing: bool,
     event: &Event,
     now: &Dict,
@@ -136,8 +130,8 @@ fn answer_over(
         Event::Open { version, body, .. } => {
             Ok(new_state(alloc, opening_state(alloc, version.as_ref(), body)?))
         }
-        Event::Msg { body, .. } => message_answer(alloc, template, echoing, body, now),
+        Event::Msg { body, .. } => message_answer(alloc, echoing, body, now),
         Event::Launch { state, .. } => Ok(new_state(alloc, state.copy()?)),
-        Event::Push { state, .. } => Ok(push_answer(alloc, template, state, now)?),
+        Event::Push { state, .. } => Ok(push_answer(alloc, state, now)?),
     }
 }

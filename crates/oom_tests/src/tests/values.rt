@@ -2,7 +2,7 @@
 use crate::tests::core_steps::PARENT;
 use crate::tests::trial::MEMORY;
 use comm_messages::{
-    Incoming, MessageFault, Outgoing, message_of, read_message_with, write_message,
+    Incoming, MessageFault, Outgoing, OutgoingBody, message_of, read_message_with, write_message,
 };
 use comm_value::{
     Buffers, Dict, Numbers, Path, Separated, Text, Val, ValueFault, merge, paths_of, paths_val,
@@ -365,7 +365,7 @@ fn write_line(
     text: &mut TextBuilder,
 ) -> Result<bool, TestFault> {
     let id = Text::copy_of(alloc, "a")?;
-    let body = body_of(alloc, case.other)?;
+    let body = OutgoingBody::new(body_of(alloc, case.other)?);
     let message = Outgoing::Msg { id, body };
     let _is_heard = refuse(alloc, number);
     let given = write_message(alloc, &message, &PARENT);

@@ -1,7 +1,7 @@
 //! Messages whose data has numbers that aren't whole, where any number is a value.
 use super::append_read;
 use super::writing::line_of;
-use comm_messages::{Incoming, MessageFault, Outgoing, Parent, read_message_with};
+use comm_messages::{Incoming, MessageFault, Outgoing, OutgoingBody, Parent, read_message_with};
 use comm_value::Numbers;
 use std::alloc::Global;
 use std::test::Fail;
@@ -13,6 +13,7 @@ fn append_again(alloc: Global, line: &str, text: &mut Vec<u8>) -> Result<(), Tes
     let Incoming::Msg { id, body } = incoming else {
         return Err(TestFault("no comm_msg"));
     };
+    let body = OutgoingBody::new(body);
     let message = Outgoing::Msg { id, body };
     let line = line_of(alloc, message, &Parent::Call { client, number: 1 })?;
     text.extend_from_slice(&line)?;

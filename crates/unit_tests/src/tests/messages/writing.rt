@@ -4,8 +4,8 @@ ghost use Rattle.comm_messages.specs.Text.{goes_with};
 
 use super::append_read;
 use comm_core::Call;
-use comm_messages::{Body, Outgoing, Parent, read_message, write_message};
-use comm_value::Dict;
+use comm_messages::{Body, Outgoing, OutgoingBody, Parent, Telling, read_message, write_message};
+use comm_value::{Buffers, Dict};
 use std::alloc::{AllocError, Global};
 use std::test::Fail;
 use test_harness::{
@@ -27,11 +27,14 @@ fn outgoing_of(alloc: Global, line: &str) -> Result<Outgoing, TestFault>
                 id,
                 target,
                 version,
-                body,
+                body: OutgoingBody::new(body),
             }),
             None => Err(TestFault("no version")),
         },
-        Call::Msg { id, body } => Ok(Outgoing::Msg { id, body }),
+        Call::Msg { id, body } => Ok(Outgoing::Msg {
+            id,
+            body: OutgoingBody::new(body),
+        }),
         Call::Close { id } => Ok(Outgoing::Close { id }),
         _ => Err(TestFault("no message")),
     }
@@ -110,5 +113,21 @@ fn a_body_gives_its_parts_back(rt: HostRuntime) -> Result<(), Fail> {
     )?;
     let body = Body::new(Dict::new(), buffers);
     holds(body.content().is_empty(), "another content")?;
+    Ok(())
+}
+
+#[test]
+fn a_told_state_is_data(rt: HostRuntime) -> Result<(), Fail> {
+    let alloc = rt.alloc();
+    let none = Buffers::none(alloc);
+    let body = OutgoingBody::told(alloc, Telling::EchoUpdate, Dict::new(), &[], none)?;
+    let content = body.content(alloc)?;
+    let mut made = Vec::new(alloc);
+    content.write_json(&mut made)?;
+    let mut written = Vec::new(alloc);
+    body.write_json(&mut written)?;
+    let text: &[u8] = br#"{"buffer_paths":[],"method":"echo_update","state":{}}"#;
+    holds(made.as_slice() == text, "other data")?;
+    holds(written.as_slice() == text, "another text")?;
     Ok(())
 }

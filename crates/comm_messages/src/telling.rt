@@ -1,7 +1,8 @@
 ghost use Rattle.std.specs.Prelude.{◌≡◌};
-ghost use Rattle.widget_target.specs.Method.{method_name};
+ghost use Rattle.comm_messages.specs.Told.{method_name};
 
-/// Which message tells a state, or some of its keys ("State update messages").
+/// Which message tells a state, or some of its keys ('Jupyter widgets messaging protocol' 2.1.0, "State update
+/// messages").
 #[derive(Clone, Copy, Debug, PartialEq, Eq, Drop)]
 pub enum Telling {
     /// `update`: the kernel changed the state, or was asked for it.
