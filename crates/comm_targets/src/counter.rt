@@ -59,9 +59,7 @@ fn count_answer(alloc: Global, next: u64, event: &Event) -> Result<Answer, Alloc
         → IfOk result (λ a. a ≡ count_answer notes event.now) }
 {
     let messages = match event {
-        Event::Msg { .. } => {
-            Bodies::one(alloc, OutgoingBody::new(count_body(alloc, next)?))?
-        }
+        Event::Msg { .. } => { Bodies::one(alloc, OutgoingBody::new(count_body(alloc, next)?))? }
         _ => Bodies::new(alloc),
     };
     Ok(Answer {
