@@ -1,0 +1,186 @@
+//! Dicts that are read straight from the tokens of a text, with no tree of the text beside.
+ghost use Rattle.std.specs.Prelude.{◌≡◌, ◌<◌, length, true, is_some, Some, IfSome, IfOk, OnSome, option_map, [], ◌∷◌};
+ghost use Rattle.serde_json.specs.Read.{number_of};
+ghost use Rattle.comm_value.specs.FromJson.{taken_as};
+ghost use Rattle.comm_value.specs.Order.{is_ordered, members_ordered};
+ghost use Rattle.comm_value.specs.Put.{insert};
+ghost use Rattle.comm_value.specs.Reading.{Reads, ReadsItems, ReadsMember, ReadsMembers, ReadsMore};
+ghost use Rattle.comm_value.specs.View.{tree, members_of};
+
+use crate::chunks::put_member;
+use crate::from_json::{Numbers, number_from};
+use crate::known_texts::KnownTexts;
+use crate::val::{Dict, Items, Member, Val};
+use comm_json::NumberRef;
+use json::{Reader, Token};
+use std::alloc::{AllocError, Global};
+
+/// The most items of a list, and members of an object, that are read one by one.
+const MOST: usize = 64;
+
+impl Dict {
+    /// Reads the members of an object that has begun, in which values nest at most so deep; short texts are shared with
+    /// those that were met before. None: the text is no JSON, a number of it is no value, it is large, or memory ran out.
+    /// [`Dict::from_ref`] says which, and reads what is large.
+    pub fn read(
+        alloc: Global,
+        numbers: Numbers,
+        texts: &mut KnownTexts,
+        reader: &mut Reader<'_>,
+        depth: usize,
+    ) -> Option<Dict>
+        ensures { IfSome result (λ d. ReadsMembers numbers depth reader.old d reader.new) }
+    {
+        read_members(alloc, numbers, texts, reader, depth)
+    }
+}
+
+fn read_number(alloc: Global, numbers: Numbers, text: &str) -> Option<Val>
+    ensures in_range { OnSome result (is_some (number_of text.now) ≡ true) }
+    ensures taken { IfSome result (λ v. taken_as numbers text.now ≡ Some (tree v)) }
+{
+    number_from(alloc, numbers, NumberRef::Written(text)).ok()
+}
+
+#[cycle(read)]
+fn read_val(
+    alloc: Global,
+    numbers: Numbers,
+    texts: &mut KnownTexts,
+    reader: &mut Reader<'_>,
+    depth: usize,
+) -> Option<Val>
+    ensures reads { IfSome result (λ v. Reads numbers depth reader.old (tree v) reader.new) }
+    ensures shorter { OnSome result (length reader.new < length reader.old) }
+{
+    match reader.next()? {
+        Token::Null => Some(Val::Null),
+        Token::Bool(b) => Some(Val::Bool(b)),
+        Token::Number(text) => read_number(alloc, numbers, text),
+        Token::String(text) => Some(Val::Text(texts.text(alloc, text).ok()?)),
+        Token::BeginArray => {
+            if depth == 0 {
+                return None;
+            }
+            let items = read_items(alloc, numbers, texts, reader, depth - 1)?;
+            Some(Val::List(items))
+        }
+        Token::BeginObject => {
+            if depth == 0 {
+                return None;
+            }
+            let dict = read_members(alloc, numbers, texts, reader, depth - 1)?;
+            Some(Val::Dict(dict))
+        }
+        Token::EndArray | Token::EndObject | Token::Key(_) | Token::Bad => None,
+    }
+}
+
+#[cycle(read)]
+fn read_items(
+    alloc: Global,
+    numbers: Numbers,
+    texts: &mut KnownTexts,
+    reader: &mut Reader<'_>,
+    depth: usize,
+) -> Option<Items>
+    ensures reads { IfSome result (λ is. ReadsItems numbers depth reader.old is reader.new) }
+    ensures shorter { OnSome result (length reader.new < length reader.old) }
+{
+    if reader.take_end_array() {
+        return Some(Items::empty());
+    }
+    let mut found = Vec::new(alloc);
+    loop {
+        let value = read_val(alloc, numbers, texts, reader, depth)?;
+        value.in_order();
+        found.push(value).ok()?;
+        if reader.take_end_array() {
+            return Items::new(alloc, found).ok();
+        }
+        if found.len() == MOST {
+            return None;
+        }
+    }
+}
+
+// The next member of an object; Some(None) is its end.
+#[cycle(read)]
+fn read_member(
+    alloc: Global,
+    numbers: Numbers,
+    texts: &mut KnownTexts,
+    reader: &mut Reader<'_>,
+    depth: usize,
+) -> Option<Option<Member>>
+    ensures reads { IfSome result (λ o. ReadsMember numbers depth reader.old
+        (option_map (λ m. (m.key, tree m.value)) o) reader.new) }
+    ensures ordered { IfSome result (λ o. IfSome o (λ m. is_ordered (tree m.value) ≡ true)) }
+    ensures shorter { OnSome result (length reader.new < length reader.old) }
+{
+    let Some(name) = reader.next_key().ok()? else {
+        return Some(None);
+    };
+    let key = texts.text(alloc, name).ok()?;
+    let value = read_val(alloc, numbers, texts, reader, depth)?;
+    value.in_order();
+    Some(Some(Member { key, value }))
+}
+
+// Each member goes to its place as it is read. Of several with one key the last stands.
+#[cycle(read)]
+fn read_members(
+    alloc: Global,
+    numbers: Numbers,
+    texts: &mut KnownTexts,
+    reader: &mut Reader<'_>,
+    depth: usize,
+) -> Option<Dict>
+    ensures reads { IfSome result (λ d. ReadsMembers numbers depth reader.old d reader.new) }
+    ensures shorter { OnSome result (length reader.new < length reader.old) }
+{
+    let Some(first) = read_member(alloc, numbers, texts, reader, depth)? else {
+        return Some(Dict::new());
+    };
+    let Some(second) = read_member(alloc, numbers, texts, reader, depth)? else {
+        return Dict::of_one(alloc, first).ok();
+    };
+    let both = both(alloc, first, second).ok()?;
+    read_rest(alloc, numbers, texts, reader, depth, both)
+}
+
+// The two members in the order of their keys, the second alone where they have the same.
+fn both(alloc: Global, first: Member, second: Member) -> Result<Vec<Member>, AllocError>
+    requires { is_ordered (tree first.value) ≡ true }
+    ensures { IfOk result (λ all. members_of all.items
+        ≡ insert second.key (tree second.value) (members_of (first ∷ []))) }
+{
+    let mut all = Vec::with_capacity(alloc, 4)?;
+    all.push(first)?;
+    put_member(all, second)
+}
+
+// The dict of these members and of those that follow them.
+#[cycle(read)]
+fn read_rest(
+    alloc: Global,
+    numbers: Numbers,
+    texts: &mut KnownTexts,
+    reader: &mut Reader<'_>,
+    depth: usize,
+    before: Vec<Member>,
+) -> Option<Dict>
+    requires { members_ordered (members_of before.items) ≡ true }
+    ensures reads { IfSome result
+        (λ d. ReadsMore numbers depth reader.old (members_of before.items) d reader.new) }
+    ensures shorter { OnSome result (length reader.new < length reader.old) }
+{
+    let mut found = before;
+    while let Some(member) = read_member(alloc, numbers, texts, reader, depth)? {
+        if found.len() == MOST {
+            return None;
+        }
+        found = put_member(found, member).ok()?;
+    }
+    Dict::from_members(alloc, found).ok()
+}
