@@ -128,7 +128,12 @@ fn commit<T: Target>(
         (planned (machine_of targets.old.all comms.old.all) (Commit request) (Some (Ok answer))) }
 {
     targets.commit(&request.name);
-    let KeptRequest { name, event, .. } = request;
+    let KeptRequest {
+        name,
+        event,
+        place,
+        ..
+    } = request;
     let KeptAnswer { state, .. } = answer;
     match event {
         Event::Open { id, version, body } => {
@@ -141,11 +146,11 @@ fn commit<T: Target>(
         }
         Event::Msg { id, body } => {
             drop(body);
-            note_state(comms, &id, state);
+            note_state(comms, place, &id, state);
         }
         Event::Push { id, state: values } => {
             drop(values);
-            note_state(comms, &id, state);
+            note_state(comms, place, &id, state);
         }
     }
 }
@@ -160,13 +165,13 @@ fn note_open(comms: &mut Comms, id: Text, target: Text, state: Option<Dict>)
     comms.insert(id, Comm { target, state });
 }
 
-/// The comm's new state, where the answer has one.
-fn note_state(comms: &mut Comms, id: &Text, state: Option<Dict>)
+/// The comm's new state, where the answer has one. It probably stands at this place.
+fn note_state(comms: &mut Comms, place: usize, id: &Text, state: Option<Dict>)
     ensures { (c : Comm) → at comms.old.all id.now ≡ Some c
         → comms.new.all ≡ stated comms.old.all id.now c.target state }
 {
     match state {
-        Some(state) => comms.set_state(id, state),
+        Some(state) => comms.set_state(place, id, state),
         None => {}
     }
 }

@@ -84,6 +84,13 @@ impl Comms {
         self.all.get(id)
     }
 
+    /// The comm of this id, and where it stands until a comm is opened or closed.
+    pub fn find(&self, id: &Text) -> Option<(usize, &Comm)>
+        ensures { option_map (λ c. c.1.now) result ≡ at self.now.all id.now }
+    {
+        self.all.find(id)
+    }
+
     /// Adds a comm, for which there is room.
     pub fn insert(&mut self, id: Text, comm: Comm)
         requires room { 0 < self.old.room }
@@ -104,13 +111,14 @@ impl Comms {
         self.all.take(id)
     }
 
-    /// Gives a comm another state, which no listing shows.
-    pub fn set_state(&mut self, id: &Text, state: Dict)
+    /// Gives a comm another state, which no listing shows. It probably stands at this place.
+    pub fn set_state(&mut self, place: usize, id: &Text, state: Dict)
         ensures all { (c : Comm) → at self.old.all id.now ≡ Some c → self.new.all ≡
             with_at self.old.all id.now (record { target = c.target; state = Some state }) }
         ensures room { self.new.room ≡ self.old.room }
     {
-        self.all.update(
+        self.all.update_at(
+            place,
             id,
             |comm| Comm {
                 target: comm.target,

@@ -134,8 +134,8 @@ fn judge_msg<'a, T: Target>(
     ensures feasible { IfOk result
         (λ j. IsFeasible targets.now.all comms.now.all (call.Msg id body) j) }
 {
-    match comms.get(&id) {
-        Some(comm) => ask_target(comm, Event::Msg { id, body }),
+    match comms.find(&id) {
+        Some((place, comm)) => ask_target(place, comm, Event::Msg { id, body }),
         None => {
             drop(body);
             Ok(stays(alloc, Reply::NoComm))
@@ -143,13 +143,13 @@ fn judge_msg<'a, T: Target>(
     }
 }
 
-/// The question to the target of this comm.
-fn ask_target(comm: &Comm, event: Event) -> Result<Decision<'_>, AllocError>
+/// The question to the target of this comm, which stands at this place.
+fn ask_target(place: usize, comm: &Comm, event: Event) -> Result<Decision<'_>, AllocError>
     ensures { IfOk result (λ j. j ≡ decision.AskTarget
         (record { name = comm.now.target; state = comm.now.state; event = event })) }
 {
     match comm.target.copy() {
-        Ok(name) => Ok(Decision::AskTarget(Question::of_comm(name, comm, event))),
+        Ok(name) => Ok(Decision::AskTarget(Question::of_comm(name, place, comm, event))),
         Err(fault) => {
             drop(event);
             Err(fault)
@@ -307,7 +307,7 @@ fn judge_push<'a, T: Target>(
     ensures feasible { IfOk result
         (λ j. IsFeasible targets.now.all comms.now.all (call.Push id state) j) }
 {
-    let Some(comm) = comms.get(&id) else {
+    let Some((place, comm)) = comms.find(&id) else {
         drop(state);
         return Ok(stays(alloc, Reply::NoComm));
     };
@@ -315,7 +315,7 @@ fn judge_push<'a, T: Target>(
         drop(state);
         return Ok(stays(alloc, Reply::NotWidget));
     }
-    ask_target(comm, Event::Push { id, state })
+    ask_target(place, comm, Event::Push { id, state })
 }
 
 fn judge_send<'a>(

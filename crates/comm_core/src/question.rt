@@ -11,6 +11,8 @@ use std::snapshot::Snapshot;
 pub struct KeptRequest {
     pub name: Text,
     pub event: Event,
+    /// Where the comm stands among the open ones, as far as is known.
+    pub place: usize,
     state: Snapshot<Option<Dict>>,
 }
 
@@ -54,19 +56,25 @@ impl<'a> Question<'a> {
         let none = None;
         let state = Snapshot::of(&none);
         Question {
-            request: KeptRequest { name, event, state },
+            request: KeptRequest {
+                name,
+                event,
+                place: 0,
+                state,
+            },
             state: None,
         }
     }
 
-    /// What the target of this name is asked about this comm, whose state is lent.
-    pub fn of_comm(name: Text, comm: &'a Comm, event: Event) -> Question<'a>
+    /// What the target of this name is asked about this comm, whose state is lent, and which stands at this place.
+    pub fn of_comm(name: Text, place: usize, comm: &'a Comm, event: Event) -> Question<'a>
         ensures { result ≡ record { name = name; state = comm.now.state; event = event } }
     {
         Question {
             request: KeptRequest {
                 name,
                 event,
+                place,
                 state: Snapshot::of(&comm.state),
             },
             state: comm.state.as_ref(),

@@ -1,8 +1,9 @@
 -- Entries and the places that they are kept at, as places are emptied, changed and swept.
-use Rattle.std.proofs.Common.{◌≡◌, ℕ, ◌+◌, ◌-◌, ◌≤◌, Bool, true, false, cond, filter, List, [], ◌∷◌, ◌++◌, length, Option, Some, None, Result, Ok, Err, OnOk, IsOk, is_some, refl, ap, sym, ◌∙◌, arith, true≢false}
+use Rattle.std.proofs.Common.{◌≡◌, ℕ, zero, suc, ◌+◌, ◌-◌, ◌≤◌, Bool, true, false, cond, filter, List, [], ◌∷◌, ◌++◌, length, slice_get, Option, Some, None, Result, Ok, Err, OnOk, IsOk, is_some, refl, ap, sym, subst, ◌∙◌, arith, true≢false}
 use Rattle.std.specs.List.{AllByRecursion, IsDistinct}
 use Rattle.std.specs.Option.{option_flatten, option_map_or}
-use Rattle.std.specs.Map.{keys_of, lookup, remove_entry, set_value, IsKeyTest}
+use Rattle.std.specs.Map.{keys_of, values_of, lookup, remove_entry, set_value, IsKeyTest}
+use Rattle.indexmap.specs.IndexMap.{set_value_at}
 use Rattle.std.specs.Map.Calls.{RetainsPairs}
 use Rattle.ordered_table.specs.Table.{IsKept, entry_before, there, at_place}
 
@@ -63,6 +64,35 @@ module _ {K V : Type 0} where
                 | Some v ↦ ap (λ b. cond b (Some v) (lookup test (there ps))) hit
               ])
           | false ↦ λ miss. lookup_kept test p.0 p.1 (there ps) miss ∙ more
+        ]) refl
+
+    keys_set_at : (ps : List (K × Option V)) (i : ℕ) (w : Option V) → keys_of (set_value_at ps i w) ≡ keys_of ps
+    keys_set_at [] i w = refl
+    keys_set_at (p ∷ ps) zero w = refl
+    keys_set_at (p ∷ ps) (suc i) w = ap (λ ks. p.0 ∷ ks) (keys_set_at ps i w)
+
+    at_passes : (P : K → Type 0) (ps : List (K × Option V)) (i : ℕ) (k : K) (o : Option V) → AllByRecursion P (keys_of ps) → slice_get ps i ≡ Some (k, o) → P k
+    at_passes P [] i k o all at = cc
+    at_passes P (p ∷ ps) zero k o all at = let same : p.0 ≡ k = cc in subst P same all.0
+    at_passes P (p ∷ ps) (suc i) k o all at = at_passes P ps i k o all.1 at
+
+    -- a place whose key passes is the one that is found
+    pub found_at : (ps : List (K × Option V)) (i : ℕ) (k : K) (o w : Option V) → IsDistinct eq (keys_of ps) → slice_get ps i ≡ Some (k, o) → test k ≡ true
+        → (set_value_at ps i w ≡ set_value test ps w) × (lookup test ps ≡ slice_get (values_of ps) i) × IsDistinct eq (keys_of (set_value_at ps i w))
+    found_at [] i k o w d at hit = cc
+    found_at (p ∷ ps) zero k o w d at hit =
+        let same : p.0 ≡ k = cc in
+        let here : test p.0 ≡ true = ap test same ∙ hit in (
+          ap (λ b. cond b ((p.0, w) ∷ ps) (p ∷ set_value test ps w)) (sym here),
+          ap (λ b. cond b (Some p.1) (lookup test ps)) here,
+          d,
+        )
+    found_at (p ∷ ps) (suc i) k o w d at hit =
+        let more = found_at ps i k o w (rest_distinct p ps d) at hit in
+        (elim (test p.0) as (λ b. test p.0 ≡ b → (p ∷ set_value_at ps i w ≡ cond b ((p.0, w) ∷ ps) (p ∷ set_value test ps w))
+        × (cond b (Some p.1) (lookup test ps) ≡ slice_get (values_of ps) i) × IsDistinct eq (keys_of (p ∷ set_value_at ps i w))) [
+          | true ↦ λ here. absurd (true≢false (sym hit ∙ at_passes (λ k. test k ≡ false) ps i k o (rest_absent p ps d here) at))
+          | false ↦ λ miss. (ap (λ es. p ∷ es) more.0, more.1, subst (λ ks. IsDistinct eq (p.0 ∷ ks)) (sym (keys_set_at ps i w)) d)
         ]) refl
 
     -- an emptied place takes its entry out

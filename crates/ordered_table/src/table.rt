@@ -1,4 +1,5 @@
-ghost use Rattle.std.specs.Prelude.{◌≡◌, ◌<◌, ◌≤◌, ◌++◌, [], ◌∷◌, Bool, IsTrue, OnOk, None, Some, filter, is_some};
+ghost use Rattle.std.specs.Prelude.{◌≡◌, ◌<◌, ◌≤◌, ◌++◌, [], ◌∷◌, Bool, IsTrue, OnOk, None, Some, Option, true, filter, is_some};
+ghost use Rattle.std.specs.Prelude.{slice_get};
 ghost use Rattle.std.specs.Option.{option_flatten};
 ghost use Rattle.std.specs.Map.{lookup, remove_entry, set_value};
 ghost use Rattle.ordered_table.specs.Table.{Computes, at_place, entries, there};
@@ -101,6 +102,27 @@ impl<K: Eq + Hash + Drop, V: Drop> Table<K, V> {
         }
     }
 
+    /// [`Table::update`] of a key that probably stands at this place ([`Table::find`]), where it is sought first. O(1).
+    pub fn update_at<F: FnOnce(V) -> V>(&mut self, place: usize, key: &K, change: F)
+        requires { F.IsAlwaysCallable change }
+        ensures entries { (v : V) → lookup (K.eq key.now) (entries self.old) ≡ Some v
+            → (w : V) × F.post change v w
+            × (entries self.new ≡ set_value (K.eq key.now) (entries self.old) w) }
+        ensures absent { lookup (K.eq key.now) (entries self.old) ≡ None
+            → entries self.new ≡ entries self.old }
+        ensures room { self.new.room ≡ self.old.room }
+    {
+        if stands_at(&self.rows, place, key) {
+            if let Some(slot) = self.rows.get_index_mut(place) {
+                if let Some(value) = slot.take() {
+                    *slot = Some(change(value));
+                }
+            }
+        } else {
+            self.update(key, change);
+        }
+    }
+
     /// Keeps the entries for which `keep` answers true, in their order. O(n).
     pub fn retain<F: Fn(&K, &V) -> bool>(&mut self, keep: F)
         requires { F.IsAlwaysCallable keep }
@@ -121,6 +143,17 @@ impl<K: Eq + Hash + Drop, V: Drop> Table<K, V> {
             },
         );
         self.live = self.rows.len();
+    }
+}
+
+// Whether a key has this place, be it a gap.
+fn stands_at<K: Eq + Hash, V>(rows: &IndexMap<K, Option<V>>, place: usize, key: &K) -> bool
+    ensures { result ≡ true → (k : K) × (o : Option V)
+        × (slice_get rows.now.entries place ≡ Some (k, o)) × (K.eq key.now k ≡ true) }
+{
+    match rows.get_index(place) {
+        Some((found, _)) => key == found,
+        None => false,
     }
 }
 

@@ -42,6 +42,21 @@ impl<K: Eq + Hash + Drop, V: Drop> Table<K, V> {
         }
     }
 
+    /// A key's place, from 0, and its value, as [`Table::get`]. An insertion, a removal or a sweep may move the place. O(1)
+    /// on average.
+    pub fn find(&self, key: &K) -> Option<(usize, &V)>
+        ensures value { option_map (λ e. e.1.now) result
+            ≡ lookup (K.eq key.now) (entries self.now) }
+        ensures place { IfSome result (λ e. (k : K)
+            × (slice_get self.now.places e.0 ≡ Some (k, Some e.1.now))) }
+    {
+        match self.rows.get_full(key) {
+            Some((place, _, Some(value))) => Some((place, value)),
+            Some((_, _, None)) => None,
+            None => None,
+        }
+    }
+
     /// The number of places, gaps included: what an iteration by [`Table::at`] goes over.
     pub fn places(&self) -> usize
         ensures { result ≡ length self.now.places }
