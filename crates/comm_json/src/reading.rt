@@ -1,5 +1,6 @@
 ghost use Rattle.std.specs.Prelude.{◌≡◌, Some, None, IfOk, IfErr};
 ghost use Rattle.json.specs.Json.{object, no_members};
+ghost use Rattle.json.specs.Lex.{tokens};
 ghost use Rattle.json.specs.Value.{value_view};
 ghost use Rattle.comm_json.specs.declared.reading.JsonFault.TheVariants.{NotJson};
 ghost use Rattle.comm_json.specs.Behind.{tidy, text_value, line_value};
@@ -8,7 +9,7 @@ use crate::json_ref::LineValue;
 use crate::ranges::numbers_are_in_range;
 use bumpalo::Bump;
 use json::{Error as ReadError, Reader, Scratch, Value};
-use std::alloc::Global;
+use std::alloc::{AllocError, Global};
 use thiserror::Error;
 
 /// The memory that the strings of a text are parsed into: keep one from text to text. It holds as much as the longest
@@ -24,6 +25,14 @@ impl TextScratch {
         TextScratch {
             inner: Scratch::new(alloc),
         }
+    }
+
+    /// A reader of the tokens of a text, for what reads it without a tree. Strings are slices of the text, or of the
+    /// scratch where they have escapes. Err: out of memory.
+    pub fn reader<'a>(&'a mut self, text: &'a str) -> Result<Reader<'a>, AllocError>
+        ensures { IfOk result (λ reader. reader ≡ tokens text.now) }
+    {
+        Reader::new(text, &mut self.inner)
     }
 }
 
@@ -106,7 +115,7 @@ fn read_text<'a>(
     if text == "{}" {
         return Ok(no_members(lists));
     }
-    let Ok(mut reader) = Reader::new(text, &mut scratch.inner) else {
+    let Ok(mut reader) = scratch.reader(text) else {
         return Err(JsonFault::Memory);
     };
     match Value::read(lists, &mut reader, DEPTH) {

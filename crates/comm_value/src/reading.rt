@@ -29,7 +29,8 @@ impl Dict {
         reader: &mut Reader<'_>,
         depth: usize,
     ) -> Option<Dict>
-        ensures { IfSome result (λ d. ReadsMembers numbers depth reader.old d reader.new) }
+        ensures reads { IfSome result (λ d. ReadsMembers numbers depth reader.old d reader.new) }
+        ensures shorter { OnSome result (length reader.new < length reader.old) }
     {
         read_members(alloc, numbers, texts, reader, depth)
     }
