@@ -30,7 +30,7 @@ get_member-put_at Equal k l j i ms is later = rw is refl
 get_member-put_at Greater k l j i ms is later = rw is later
 
 -- what was put at a key is found there
-get_member-put : (k : List ℕ) (j : Json) (ms : Members) → get_member k (put k j ms) ≡ Some j
+pub get_member-put : (k : List ℕ) (j : Json) (ms : Members) → get_member k (put k j ms) ≡ Some j
 get_member-put k j no_members = rw same_text refl
 get_member-put k j (member l i ms) = get_member-put_at _ k l j i ms refl (get_member-put k j ms)
 
@@ -56,7 +56,7 @@ get_member-put_other_at Equal q k l j i ms is other later =
 get_member-put_other_at Greater q k l j i ms is other later = ap (λ r. match_ordering (slice_cmp nat_cmp q l) r (Some i) r) later
 
 -- the other keys keep their values
-get_member-put_other : (q k : List ℕ) (j : Json) (ms : Members) → (q ≡ k → ⊥) → get_member q (put k j ms) ≡ get_member q ms
+pub get_member-put_other : (q k : List ℕ) (j : Json) (ms : Members) → (q ≡ k → ⊥) → get_member q (put k j ms) ≡ get_member q ms
 get_member-put_other q k j no_members other = skips q k j no_members other
 get_member-put_other q k j (member l i ms) other = get_member-put_other_at _ q k l j i ms refl other (get_member-put_other q k j ms other)
 

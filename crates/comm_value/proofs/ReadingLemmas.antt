@@ -21,7 +21,7 @@ use Rattle.comm_value.specs.declared.val.Member.{Member}
 use Rattle.comm_value.proofs.FromJsonLemmas.{put_read}
 use Rattle.comm_value.proofs.Keys.{both, both_true}
 
-none_before : {A : Type 0} (r : Option (A × List Token)) → r ≡ parse_map (λ a. a) r
+pub none_before : {A : Type 0} (r : Option (A × List Token)) → r ≡ parse_map (λ a. a) r
 none_before None = refl
 none_before (Some p) = refl
 
@@ -102,7 +102,7 @@ module _ (numbers : Numbers) (depth : ℕ) (ts : List Token) where
 
 -- ---- members
 
-abbrev members_before : List (List ℕ × Json) → json.Members → json.Members
+abbrev pub members_before : List (List ℕ × Json) → json.Members → json.Members
 members_before [] rest = rest
 members_before (m ∷ ms) rest = member m.0 m.1 (members_before ms rest)
 
@@ -110,15 +110,15 @@ members_push : (ms : List (List ℕ × Json)) (m : List ℕ × Json) (rest : jso
 members_push [] m rest = refl
 members_push (n ∷ ms) m rest = ap (member n.0 n.1) (members_push ms m rest)
 
-one_more_member : (ms : List (List ℕ × Json)) (m : List ℕ × Json) (r : Option (json.Members × List Token)) → parse_map (members_before ms) (parse_map (member m.0 m.1) r) ≡ parse_map (members_before (ms ++ m ∷ [])) r
+pub one_more_member : (ms : List (List ℕ × Json)) (m : List ℕ × Json) (r : Option (json.Members × List Token)) → parse_map (members_before ms) (parse_map (member m.0 m.1) r) ≡ parse_map (members_before (ms ++ m ∷ [])) r
 one_more_member ms m None = refl
 one_more_member ms m (Some p) = ap (λ js. Some (js, p.1)) (members_push ms m p.0)
 
-fit_push : (ms : List (List ℕ × Json)) (m : List ℕ × Json) → members_in_range (members_before ms no_members) ≡ true → in_range m.1 ≡ true → members_in_range (members_before (ms ++ m ∷ []) no_members) ≡ true
+pub fit_push : (ms : List (List ℕ × Json)) (m : List ℕ × Json) → members_in_range (members_before ms no_members) ≡ true → in_range m.1 ≡ true → members_in_range (members_before (ms ++ m ∷ []) no_members) ≡ true
 fit_push [] m h fits = both_true (in_range m.1) true fits refl
 fit_push (n ∷ ms) m h fits = let p = both (in_range n.1) _ h in both_true (in_range n.1) _ p.0 (fit_push ms m p.1 fits)
 
-tidy_push : (ms : List (List ℕ × Json)) (m : List ℕ × Json) (found : json.Members) → put m.0 (tidy m.1) (tidy_members (members_before ms no_members) found) ≡ tidy_members (members_before (ms ++ m ∷ []) no_members) found
+pub tidy_push : (ms : List (List ℕ × Json)) (m : List ℕ × Json) (found : json.Members) → put m.0 (tidy m.1) (tidy_members (members_before ms no_members) found) ≡ tidy_members (members_before (ms ++ m ∷ []) no_members) found
 tidy_push [] m found = refl
 tidy_push (n ∷ ms) m found = tidy_push ms m (put n.0 (tidy n.1) found)
 
