@@ -1,4 +1,4 @@
-ghost use Rattle.std.specs.Prelude.{◌≡◌, ◌<◌, IfOk};
+ghost use Rattle.std.specs.Prelude.{◌≡◌, ◌<◌, Ok, IfOk, IfSome};
 ghost use Rattle.comm_messages.specs.Envelope.{envelope};
 ghost use Rattle.comm_messages.specs.Fields.{fields};
 ghost use Rattle.comm_script.specs.Line.{Gives};
@@ -8,11 +8,12 @@ use crate::asked::{LineFault, Request};
 use crate::command::command;
 use bumpalo::Bump;
 use comm_core::Call;
-use comm_json::{ParseArena, TextScratch};
+use comm_json::TextScratch;
 use comm_messages::{
     EnvelopeRef, Fields, Incoming, client_of, envelope_of_line, fields_of, member, message_from,
-    object_among, object_in,
+    object_among,
 };
+use comm_reader::message_at_once;
 use comm_value::{KnownTexts, Numbers};
 use std::alloc::Global;
 
@@ -20,7 +21,8 @@ use std::alloc::Global;
 /// nothing of what is read: keep one from line to line, so that few lines take memory for it.
 #[derive(Drop)]
 pub struct LineMemory {
-    arena: ParseArena,
+    scratch: TextScratch,
+    lists: Bump,
     texts: KnownTexts,
 }
 
@@ -28,7 +30,8 @@ impl LineMemory {
     /// An empty one, which has allocated nothing.
     pub fn new(alloc: Global) -> LineMemory {
         LineMemory {
-            arena: ParseArena::new(alloc),
+            scratch: TextScratch::new(alloc),
+            lists: Bump::new(alloc),
             texts: KnownTexts::new(alloc),
         }
     }
@@ -111,12 +114,43 @@ pub fn parse_line(
     ensures below { IfOk result (λ r. r.0 < clients) }
     ensures handless { IfOk result (λ r. HandsNothing r.1) }
 {
-    let LineMemory { arena, texts } = memory;
-    let object = object_in(line, arena)?;
-    asked_in(alloc, fields_of(&object), clients, numbers, texts)
+    let LineMemory {
+        scratch,
+        lists,
+        texts,
+    } = memory;
+    // The lists of the last line were dropped. If one were left, the arena would grow instead of being emptied.
+    let _ = lists.reset();
+    parse_line_among(alloc, line, clients, numbers, scratch, &*lists, texts)
 }
 
-/// Reads a line as [`parse_line`] does. Its strings are parsed into the scratch, its lists into the arena.
+// What a frontend's message asks for, if the line is one that can be read at once. A line that begins as a command isn't
+// tried.
+fn asked_at_once<'a>(
+    alloc: Global,
+    line: &'a [u8],
+    clients: u8,
+    numbers: Numbers,
+    scratch: &'a mut TextScratch,
+    lists: &'a Bump,
+    texts: &mut KnownTexts,
+) -> Option<(u8, Request)>
+    requires { 0 < clients }
+    ensures asked { IfSome result (λ r. asked numbers clients line.now ≡ Ok (r.0, r.1)) }
+    ensures below { IfSome result (λ r. r.0 < clients) }
+    ensures handless { IfSome result (λ r. HandsNothing r.1) }
+{
+    if line.starts_with(b"{\"call\"") {
+        return None;
+    }
+    let (client, incoming) = message_at_once(
+        alloc, line, "call", clients, numbers, scratch, lists, texts,
+    )?;
+    Some((client, asked_by_message(incoming)))
+}
+
+/// Reads a line as [`parse_line`] does. Its strings are parsed into the scratch, its lists into the arena. The line of a
+/// frontend's message is read in one walk where it can be ([`message_at_once`]), else from its parsed object.
 pub fn parse_line_among<'a>(
     alloc: Global,
     line: &'a [u8],
@@ -131,6 +165,9 @@ pub fn parse_line_among<'a>(
     ensures below { IfOk result (λ r. r.0 < clients) }
     ensures handless { IfOk result (λ r. HandsNothing r.1) }
 {
+    if let Some(asked) = asked_at_once(alloc, line, clients, numbers, scratch, lists, texts) {
+        return Ok(asked);
+    }
     let members = object_among(line, scratch, lists)?;
     asked_in(alloc, fields_of(&members), clients, numbers, texts)
 }
