@@ -1,11 +1,11 @@
 -- A message that passes each test of its content, from what a walk has read.
 use Rattle.std.proofs.Common.{ℕ, List, Option, Some, None, Ok, ◌≡◌, refl, sym, ap, ◌∙◌, codes}
-use Rattle.json.specs.Json.{Members}
-use Rattle.comm_json.specs.Behind.{get_member}
+use Rattle.json.specs.Json.{Json, Members}
+use Rattle.comm_json.specs.Behind.{get_member, line_value}
 use Rattle.comm_value.specs.declared.from_json.Numbers.{Numbers}
-use Rattle.comm_messages.specs.Envelope.{Envelope}
+use Rattle.comm_messages.specs.Envelope.{Envelope, of_parts}
 use Rattle.comm_messages.specs.Fields.{object_or_empty, read_fields, text, text_or_none, client_of}
-use Rattle.comm_messages.specs.Message.{close_in, info_request_in, incoming_in, msg_in, open_in, version_of, message_from, heading, type_of}
+use Rattle.comm_messages.specs.Message.{close_in, info_request_in, incoming_in, msg_in, open_in, version_of, message_by_parts, message_from, heading, type_of}
 use Rattle.comm_messages.specs.declared.incoming.Incoming.{Incoming}
 use Rattle.comm_messages.specs.declared.incoming.Incoming.TheVariants.{Open, Msg, Close, InfoRequest}
 use Rattle.comm_messages.specs.declared.read.MessageType.{MessageType}
@@ -37,3 +37,7 @@ pub message_is : (clients : ℕ) (numbers : Numbers) (from : Envelope) (content 
     → object_or_empty from.content ≡ Some content → incoming_in numbers type from content ≡ Ok incoming → message_from clients numbers from ≡ Ok (client, incoming)
 unfolding message_from heading
 message_is clients numbers from content client type incoming c t o i = rw (c, t, o, i) refl
+
+pub by_parts : (clients : ℕ) (numbers : Numbers) (client : ℕ) (header metadata content : List ℕ) (buffers : List (List ℕ)) (h m c : Json) → line_value header ≡ Some h → line_value metadata ≡ Some m → line_value content ≡ Some c
+    → message_by_parts clients numbers client header metadata content buffers ≡ message_from clients numbers (of_parts client h m c buffers)
+by_parts clients numbers client header metadata content buffers h m c is_h is_m is_c = rw (is_h, is_m, is_c) refl

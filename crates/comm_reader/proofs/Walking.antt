@@ -1,6 +1,7 @@
 -- The members that a walk over an object has read, all but those with one key as they stand.
-use Rattle.std.proofs.Common.{ℕ, ◌-◌, ◌<◌, ◌≤◌, List, [], ◌∷◌, ◌++◌, length, Option, Some, None, Bool, true, false, true≢false, ◌≡◌, refl, sym, ap, subst, ◌∙◌, arith, bytes_eq, Bor}
+use Rattle.std.proofs.Common.{ℕ, ◌-◌, ◌<◌, ◌≤◌, List, [], ◌∷◌, ◌++◌, length, Option, Some, None, Bool, true, false, true≢false, ◌≡◌, refl, sym, ap, subst, ◌∙◌, arith, bytes_eq, Bor, IsUtf8}
 use Rattle.std.proofs.lemmas.Slice.Eq.{bytes_eq-Decides}
+use Rattle.std.proofs.lemmas.Str.{is_utf8-from_IsUtf8}
 use Rattle.json.specs.Token.{Token}
 use Rattle.json.specs.Json.{Json, object, Members, no_members, member, value, members, parse_map, read_key}
 use Rattle.json.specs.Value.{value_view, members_view}
@@ -11,7 +12,7 @@ use Rattle.json.specs.Lex.{tokens}
 use Rattle.comm_json.specs.Behind.{text_value, get_member, in_range, members_in_range, tidy, tidy_members, put}
 use Rattle.comm_json.proofs.LookUp.{get_member-put, get_member-put_other}
 use Rattle.comm_value.proofs.ReadingLemmas.{members_before, none_before, one_more_member, fit_push, tidy_push}
-use Rattle.comm_reader.specs.Reader.{Others, ReadsMembers, ReadsObject, ReadsText}
+use Rattle.comm_reader.specs.Reader.{Others, ReadsLine, ReadsMembers, ReadsObject, ReadsText}
 
 -- ---- keys
 
@@ -94,8 +95,13 @@ module _ (key : List ℕ) (depth : ℕ) (ts : List Token) where
 pub entered : (depth : ℕ) (ts next rest : List Token) (Are : Members → Type 0) → ts ≡ Token.begin_object ∷ next → 0 < depth → ReadsMembers (depth - 1) next Are rest → ReadsObject depth ts Are rest
 entered depth ts next rest Are begun deep r = (r.0, ap (value depth) begun ∙ value-begin_object depth next deep ∙ ap (parse_map object) r.1, r.2, r.3)
 
-pub whole_text : (text : List ℕ) (next rest : List Token) (Are : Members → Type 0) → tokens text ≡ Token.begin_object ∷ next → ReadsMembers (max_depth - 1) next Are rest → rest ≡ [] → ReadsText text Are
-whole_text text next rest Are begun r end =
-    let read : value max_depth (tokens text) ≡ Some (object r.0, []) =
-    ap (value max_depth) begun ∙ value-begin_object max_depth next (omega arith) ∙ ap (parse_map object) r.1 ∙ ap (λ ts. Some (object r.0, ts)) end in
+pub whole_value : (text : List ℕ) (rest : List Token) (Are : Members → Type 0) → ReadsObject max_depth (tokens text) Are rest → rest ≡ [] → ReadsText text Are
+whole_value text rest Are r end =
+    let read : value max_depth (tokens text) ≡ Some (object r.0, []) = r.1 ∙ ap (λ ts. Some (object r.0, ts)) end in
     (tidy_members r.0 no_members, rw (read, r.2) refl, r.3)
+
+pub whole_text : (text : List ℕ) (next rest : List Token) (Are : Members → Type 0) → tokens text ≡ Token.begin_object ∷ next → ReadsMembers (max_depth - 1) next Are rest → rest ≡ [] → ReadsText text Are
+whole_text text next rest Are begun r end = whole_value text rest Are (entered max_depth (tokens text) next rest Are begun (omega arith) r) end
+
+pub whole_line : (bytes : List ℕ) (Are : Members → Type 0) → IsUtf8 bytes → ReadsText bytes Are → ReadsLine bytes Are
+whole_line bytes Are utf8 r = (r.0, rw (is_utf8-from_IsUtf8 bytes utf8) r.1, r.2)

@@ -3,7 +3,7 @@ use Rattle.std.specs.Prelude.{◌≡◌, ℕ, List, length, false, true, Option,
 use Rattle.std.specs.Str.{bytes_eq}
 use Rattle.json.specs.Token.{Token}
 use Rattle.json.specs.Json.{Json, object, Members, no_members, value, members}
-use Rattle.comm_json.specs.Behind.{get_member, members_in_range, text_value, tidy_members}
+use Rattle.comm_json.specs.Behind.{get_member, line_value, members_in_range, text_value, tidy_members}
 use Rattle.comm_value.specs.FromJson.{members_of}
 use Rattle.comm_value.specs.Tree as tree
 use Rattle.comm_value.specs.declared.from_json.Numbers.{Numbers}
@@ -47,6 +47,10 @@ HasLine numbers l ms =
 -- a text is an object whose members are so, and nothing after it
 abbrev pub ReadsText : List ℕ → (Members → Type 0) → Type 0
 ReadsText text Are = (ms : Members) × (text_value text ≡ Some (object ms)) × Are ms
+
+-- the same of a text in bytes
+abbrev pub ReadsLine : List ℕ → (Members → Type 0) → Type 0
+ReadsLine bytes Are = (ms : Members) × (line_value bytes ≡ Some (object ms)) × Are ms
 
 -- what a message has beside its content
 abbrev pub HasRest : Envelope → Members → List (List ℕ) → Type 0

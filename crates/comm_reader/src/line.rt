@@ -15,8 +15,8 @@ use comm_value::{KnownTexts, Numbers};
 use json::Reader;
 use std::alloc::Global;
 
-// The levels of nesting of a line that `comm_json` reads.
-const DEPTH: usize = 127;
+/// The levels of nesting of a text that `comm_json` reads.
+pub const DEPTH: usize = 127;
 
 /// The members of a message's line: its content, and the others as they stand in the line.
 #[derive(Drop)]
