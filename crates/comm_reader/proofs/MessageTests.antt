@@ -1,7 +1,9 @@
 -- A message that passes each test of its content, from what a walk has read.
-use Rattle.std.proofs.Common.{ℕ, List, Option, Some, None, Ok, ◌≡◌, refl, sym, ap, ◌∙◌, codes}
-use Rattle.json.specs.Json.{Json, Members}
-use Rattle.comm_json.specs.Behind.{get_member, line_value}
+use Rattle.std.proofs.Common.{◌<◌, ◌^◌, pos, true, nat_lt, decimal, option_and_then, ℕ, List, Option, Some, None, Ok, ◌≡◌, refl, sym, ap, ◌∙◌, codes}
+use Rattle.json.specs.Json.{Json, Members, number}
+use Rattle.comm_json.specs.Behind.{get_member, line_value, whole_of}
+use Rattle.serde_json.specs.Find.{as_integer}
+use Rattle.serde_json.proofs.Numbers.{number_of-decimal}
 use Rattle.comm_value.specs.declared.from_json.Numbers.{Numbers}
 use Rattle.comm_messages.specs.Envelope.{Envelope, of_parts}
 use Rattle.comm_messages.specs.Fields.{object_or_empty, read_fields, text, text_or_none, client_of}
@@ -41,3 +43,8 @@ message_is clients numbers from content client type incoming c t o i = rw (c, t,
 pub by_parts : (clients : ℕ) (numbers : Numbers) (client : ℕ) (header metadata content : List ℕ) (buffers : List (List ℕ)) (h m c : Json) → line_value header ≡ Some h → line_value metadata ≡ Some m → line_value content ≡ Some c
     → message_by_parts clients numbers client header metadata content buffers ≡ message_from clients numbers (of_parts client h m c buffers)
 by_parts clients numbers client header metadata content buffers h m c is_h is_m is_c = rw (is_h, is_m, is_c) refl
+
+pub client_is : (clients client : ℕ) → client < 2 ^ 64 → nat_lt client clients ≡ true → client_of clients (Some (number (decimal client))) ≡ Ok client
+client_is clients client small below =
+    let known : whole_of (decimal client) ≡ Some (pos client) = ap (option_and_then as_integer) (number_of-decimal client small) in
+    rw (known, below) refl
