@@ -1,7 +1,7 @@
 //! What frontends send, and what is answered.
 use super::{MAX_COMMS, ScriptCase};
 
-pub const ROWS: [ScriptCase; 12] = [
+pub const ROWS: [ScriptCase; 13] = [
     ScriptCase {
         name: "an open towards nobody is refused with a close",
         comms: MAX_COMMS,
@@ -33,6 +33,25 @@ reply 2 no_comm
         script: br#"{"header":{"msg_type":"comm_info_request"}}
 "#,
         answers: br#"out {"buffers":[],"client":0,"content":{"comms":{},"status":"ok"},"front":0,"header":{"msg_type":"comm_info_reply"},"metadata":{}}
+"#,
+    },
+    ScriptCase {
+        name: "members stand in any order, and the last of those with one key counts",
+        comms: MAX_COMMS,
+        script: br#"{"name":"t","kind":"echo","call":"register"}
+{"content":{"data":{},"target_name":"t","comm_id":"a"},"header":{"msg_type":"comm_open"}}
+{"header":{"msg_type":"comm_close"},"content":{"data":{"n":1},"comm_id":"b","data":{"n":2,"m":3,"n":4},"comm_id":"a"},"header":{"msg_type":"comm_msg"}}
+{"header":{"msg_type":"comm_msg"},"content":{"comm_id":"a","data":{"n":1}},"content":{"comm_id":"a"}}
+{"header":{"msg_type":"comm_msg"},"content":{"comm_id":"a","data":{"n":1}},"id":"a","call":"hang_up"}
+"#,
+        answers: br#"reply 1 registered
+reply 2 opened
+reply 3 delivered
+out {"buffers":[],"call":3,"client":0,"content":{"comm_id":"a","data":{"m":3,"n":4}},"header":{"msg_type":"comm_msg"},"metadata":{}}
+reply 4 delivered
+out {"buffers":[],"call":4,"client":0,"content":{"comm_id":"a","data":{}},"header":{"msg_type":"comm_msg"},"metadata":{}}
+reply 5 closed
+out {"buffers":[],"call":5,"client":0,"content":{"comm_id":"a","data":{}},"header":{"msg_type":"comm_close"},"metadata":{}}
 "#,
     },
     ScriptCase {

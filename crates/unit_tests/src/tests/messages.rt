@@ -13,6 +13,7 @@ use test_harness::{
     split_word,
 };
 
+mod at_once;
 mod decimals;
 mod parts;
 mod writing;

@@ -1,14 +1,19 @@
 //! Messages by their parts: three JSON texts, and buffers as bytes.
 use super::append_read;
+use super::at_once::append_found;
+use bumpalo::Bump;
 use comm_messages::{IncomingParts, PartsScratch, message_by_parts};
-use comm_value::Numbers;
+use comm_reader::parts_at_once;
+use comm_value::{KnownTexts, Numbers};
 use std::alloc::Global;
 use std::test::Fail;
 use test_harness::{Case, Subject, TestFault, run_cases, split_word};
 
 /// Reads a message of one of 4 clients from a line of its parts: the client, the header, the metadata and the content,
 /// which are JSON without a space, and a word of letters for each buffer. Any number is a value.
-struct MessagesByParts;
+struct MessagesByParts {
+    at_once: bool,
+}
 
 impl Subject for MessagesByParts {
     fn answer(&self, alloc: Global, line: &str, text: &mut Vec<u8>) -> Result<(), TestFault> {
@@ -36,30 +41,44 @@ impl Subject for MessagesByParts {
             sizes: &sizes,
         };
         let mut scratch = PartsScratch::new(alloc);
+        if self.at_once {
+            let lists = Bump::new(alloc);
+            let mut texts = KnownTexts::new(alloc);
+            let found = parts_at_once(
+                alloc,
+                parts,
+                4,
+                Numbers::Any,
+                &mut scratch,
+                &lists,
+                &mut texts,
+            );
+            return append_found(alloc, found, text);
+        }
         let read = message_by_parts(alloc, parts, 4, Numbers::Any, &mut scratch);
         append_read(alloc, read, text)
     }
 }
 
-const READ: [Case; 2] = [
-    Case {
-        name: "each type of message is read, with its buffers as they are",
-        lines: r#"3 {"msg_type":"comm_open"} {"version":"2.1.0"} {"comm_id":"\u0061","target_name":"t\n","data":{"b":"\"","a":[]}} ab c
+const READ: [Case; 1] = [Case {
+    name: "each type of message is read, with its buffers as they are",
+    lines: r#"3 {"msg_type":"comm_open"} {"version":"2.1.0"} {"comm_id":"\u0061","target_name":"t\n","data":{"b":"\"","a":[]}} ab c
 0 {"msg_type":"comm_msg"} {} {"comm_id":"a","data":{"y":[-0,1.50],"x":1}} abc
 0 {"msg_type":"comm_msg"} null {"comm_id":"a"}
 1 {"msg_type":"comm_close"} {} {"comm_id":"a"} a
 2 {"msg_type":"comm_info_request"} {} {}"#,
-        want: r#"3 open a t
+    want: r#"3 open a t
  2.1.0 {"a":[],"b":"\""} 6162 63
 0 msg a {"x":1,"y":[-0,1.50]} 616263
 0 msg a {}
 1 close a
 2 info -
 "#,
-    },
-    Case {
-        name: "texts that aren't JSON, and then the first test that fails",
-        lines: r#"4 {"msg_type":"comm_msg" {} {}
+}];
+
+const REFUSED: [Case; 1] = [Case {
+    name: "texts that aren't JSON, and then the first test that fails",
+    lines: r#"4 {"msg_type":"comm_msg" {} {}
 4 {} {}} {}
 4 {} {} {},"client":0
 4 {} {} {"x":1e400}
@@ -67,7 +86,7 @@ const READ: [Case; 2] = [
 0 {} [] 1
 0 {"msg_type":"comm_msg"} [] 1
 0 {"msg_type":"comm_msg"} [] {"comm_id":"a"}"#,
-        want: "the line is not a JSON object
+    want: "the line is not a JSON object
 the line is not a JSON object
 the line is not a JSON object
 the line is not a JSON object
@@ -76,10 +95,17 @@ the line is not a JSON object
 `content` is not an object
 `metadata` is not an object
 ",
-    },
-];
+}];
 
 #[test]
 fn messages_are_read_by_their_parts(rt: HostRuntime) -> Result<(), Fail> {
-    Ok(run_cases(&rt, rt.alloc(), &MessagesByParts, &READ)?)
+    let tested = MessagesByParts { at_once: false };
+    run_cases(&rt, rt.alloc(), &tested, &READ)?;
+    Ok(run_cases(&rt, rt.alloc(), &tested, &REFUSED)?)
+}
+
+#[test]
+fn messages_by_their_parts_are_read_at_once(rt: HostRuntime) -> Result<(), Fail> {
+    let tested = MessagesByParts { at_once: true };
+    Ok(run_cases(&rt, rt.alloc(), &tested, &READ)?)
 }
