@@ -1,6 +1,6 @@
 -- Messages for opaque targets, of which neither data nor buffers are read; and which comm a frontend opens by what
 -- can't be read.
-use Rattle.std.specs.Prelude.{ℕ, [], Bool, true, false, Option, Some, None, option_map, Ok, Err, codes}
+use Rattle.std.specs.Prelude.{◌≡◌, ℕ, List, [], Bool, true, false, Option, Some, None, option_map, Ok, Err, codes}
 use Rattle.std.specs.Prelude.{if◌then◌else◌}
 use Rattle.json.specs.Json.{Members}
 use Rattle.comm_json.specs.Behind.{get_member}
@@ -10,8 +10,10 @@ use Rattle.comm_messages.specs.Content.{Content}
 use Rattle.comm_messages.specs.Envelope.{Envelope}
 use Rattle.comm_messages.specs.Fields.{text}
 use Rattle.comm_messages.specs.Gives as message
-use Rattle.comm_messages.specs.Message.{heading, object_of, type_of}
+use Rattle.comm_messages.specs.Message.{envelope_in, heading, object_of, type_of}
 use Rattle.comm_messages.specs.declared.fault.Field.TheVariants as field
+use Rattle.comm_messages.specs.declared.incoming.Incoming.{Incoming}
+use Rattle.comm_messages.specs.declared.incoming.Incoming.TheVariants as incoming
 use Rattle.comm_messages.specs.declared.read.MessageType.{MessageType}
 use Rattle.comm_messages.specs.declared.read.MessageType.TheVariants as type
 use Rattle.comm_targets.specs.declared.kind.Kind.{Kind}
@@ -89,6 +91,19 @@ opaque_or None reading = reading
 -- that fails, as of any message.
 abbrev pub asked_of : Machine → Numbers → Envelope → Reading (ℕ × Request)
 asked_of m numbers envelope = opaque_or (opaque_in m envelope) (asked_from numbers 4 envelope)
+
+-- whether a message that was read is for an opaque target, or for a comm of one
+abbrev pub is_for_opaque : Machine → Incoming → Bool
+is_for_opaque m (incoming.Open id target version body) = is_opaque_target m target
+is_for_opaque m (incoming.Msg id body) = is_opaque_comm m id
+is_for_opaque m (incoming.Close id) = is_opaque_comm m id
+is_for_opaque m (incoming.InfoRequest target) = false
+
+-- parts ask for this
+abbrev pub AskedByParts : Machine → Numbers → (client : ℕ) → (header metadata content : List ℕ) → List (List ℕ)
+    → ℕ × Request → Type 0
+AskedByParts m numbers client header metadata content buffers asked =
+    (e : Envelope) × (envelope_in client header metadata content buffers ≡ Ok e) × (asked_of m numbers e ≡ Ok asked)
 
 -- ---- an open that can't be read
 

@@ -1,5 +1,6 @@
 //! What a frontend's message asks for. Of one for an opaque target neither data nor buffers are read.
 ghost use Rattle.std.specs.Prelude.{◌≡◌, ◌<◌, IfOk, IfSome, option_map};
+ghost use Rattle.comm_messages.specs.Buffers.{split_buffers};
 ghost use Rattle.comm_messages.specs.Envelope.{envelope};
 ghost use Rattle.comm_messages.specs.Fields.{fields};
 ghost use Rattle.comm_core.specs.Ready.{HandsNothingIn, machine};
@@ -7,7 +8,8 @@ ghost use Rattle.comm_script.specs.Command.{HandsNothing};
 ghost use Rattle.comm_script.specs.Line.{Gives as ReadGives};
 ghost use Rattle.comm_c.specs.Handles.{IsAllowed};
 ghost use Rattle.comm_c.specs.Inputs.{Gives, envelope_input, message_input};
-ghost use Rattle.comm_c.specs.Opaque.{asked_of, comm_id_in, is_opaque, is_opaque_comm, is_opaque_target};
+ghost use Rattle.comm_c.specs.Opaque.{AskedByParts, asked_of, comm_id_in, is_for_opaque, is_opaque};
+ghost use Rattle.comm_c.specs.Opaque.{is_opaque_comm, is_opaque_target};
 ghost use Rattle.comm_c.specs.Opaque.{nothing_in, opaque_call, opaque_close, opaque_msg, opaque_open, opening_in};
 
 use crate::counted_core::CountedCore;
@@ -15,9 +17,10 @@ use crate::input::{CallFault, Input, MAX_CLIENTS, test_buffers};
 use bumpalo::Bump;
 use comm_core::Call;
 use comm_messages::{
-    Body, EnvelopeRef, Field, Fields, MessageFault, MessageType, PartsScratch, heading,
-    incoming_in, member, object_of, parse_parts, text, type_of,
+    Body, EnvelopeRef, Field, Fields, Incoming, IncomingParts, MessageFault, MessageType,
+    PartsScratch, heading, incoming_in, member, object_of, parse_parts, text, type_of,
 };
+use comm_reader::parts_at_once;
 use comm_script::{LineFault, Request, asked_by_message};
 use comm_targets::Kind;
 use comm_value::{Buffers, Dict, KnownTexts, Text};
@@ -230,6 +233,49 @@ impl CountedCore {
         }
     }
 
+    fn is_for_opaque(&self, message: &Incoming) -> bool
+        ensures { result ≡ is_for_opaque (machine self.now.core) message.now }
+    {
+        match message {
+            Incoming::Open { target, .. } => self.is_opaque_target(target),
+            Incoming::Msg { id, .. } => self.is_opaque_comm(id),
+            Incoming::Close { id } => self.is_opaque_comm(id),
+            Incoming::InfoRequest { .. } => false,
+        }
+    }
+
+    // What a message by its parts asks for, if it can be read in one walk over its content and is for no opaque target.
+    fn asked_at_once<'a>(
+        &self,
+        alloc: Global,
+        parts: IncomingParts<'a>,
+        scratch: &'a mut PartsScratch,
+        lists: &'a Bump,
+        texts: &mut KnownTexts,
+    ) -> Option<(u8, Request)>
+        ensures asked { IfSome result (λ r. AskedByParts (machine self.now.core) self.now.numbers
+            parts.entry.client parts.entry.header.now parts.entry.metadata.now
+            parts.entry.content.now (split_buffers parts.entry.buffers.now parts.entry.sizes.now)
+            (r.0, r.1)) }
+        ensures below { IfSome result (λ r. r.0 < 4) }
+        ensures handless { IfSome result (λ r. HandsNothing r.1) }
+    {
+        let (client, message) = parts_at_once(
+            alloc,
+            parts,
+            MAX_CLIENTS,
+            self.numbers,
+            scratch,
+            lists,
+            texts,
+        )?;
+        if self.is_for_opaque(&message) {
+            drop(message);
+            return None;
+        }
+        Some((client, asked_by_message(message)))
+    }
+
     /// What a message by its parts asks for. The sizes are tested first, then whether the texts are JSON. Err: the
     /// first test that fails, or Memory.
     #[tactic(auto, unfolding(crate::specs::Inputs::message_input))]
@@ -252,6 +298,17 @@ impl CountedCore {
     {
         test_buffers(buffers, sizes)?;
         let lists = Bump::new(alloc);
+        let parts = IncomingParts {
+            client,
+            header,
+            metadata,
+            content,
+            buffers,
+            sizes,
+        };
+        if let Some(asked) = self.asked_at_once(alloc, parts, scratch, &lists, texts) {
+            return Ok(Input::reading(Ok(asked)));
+        }
         match parse_parts(
             client, header, metadata, content, buffers, sizes, scratch, &lists,
         ) {
