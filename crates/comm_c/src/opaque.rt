@@ -248,18 +248,30 @@ impl CountedCore {
     fn asked_at_once<'a>(
         &self,
         alloc: Global,
-        parts: IncomingParts<'a>,
+        client: u32,
+        header: &'a [u8],
+        metadata: &'a [u8],
+        content: &'a [u8],
+        buffers: &'a [u8],
+        sizes: &'a [usize],
         scratch: &'a mut PartsScratch,
         lists: &'a Bump,
         texts: &mut KnownTexts,
     ) -> Option<(u8, Request)>
         ensures asked { IfSome result (λ r. AskedByParts (machine self.now.core) self.now.numbers
-            parts.entry.client parts.entry.header.now parts.entry.metadata.now
-            parts.entry.content.now (split_buffers parts.entry.buffers.now parts.entry.sizes.now)
+            client header.now metadata.now content.now (split_buffers buffers.now sizes.now)
             (r.0, r.1)) }
         ensures below { IfSome result (λ r. r.0 < 4) }
         ensures handless { IfSome result (λ r. HandsNothing r.1) }
     {
+        let parts = IncomingParts {
+            client,
+            header,
+            metadata,
+            content,
+            buffers,
+            sizes,
+        };
         let (client, message) = parts_at_once(
             alloc,
             parts,
@@ -298,15 +310,9 @@ impl CountedCore {
     {
         test_buffers(buffers, sizes)?;
         let lists = Bump::new(alloc);
-        let parts = IncomingParts {
-            client,
-            header,
-            metadata,
-            content,
-            buffers,
-            sizes,
-        };
-        if let Some(asked) = self.asked_at_once(alloc, parts, scratch, &lists, texts) {
+        if let Some(asked) = self.asked_at_once(
+            alloc, client, header, metadata, content, buffers, sizes, scratch, &lists, texts,
+        ) {
             return Ok(Input::reading(Ok(asked)));
         }
         match parse_parts(
