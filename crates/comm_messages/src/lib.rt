@@ -48,7 +48,7 @@ pub use outgoing_body::OutgoingBody;
 pub use parts::{IncomingParts, ParsedParts, PartsScratch, message_by_parts, parse_parts};
 pub use read::{
     MessageType, body_of, body_with, heading, incoming_in, message_from, message_in, message_of,
-    object_of, read_message, read_message_with, type_of,
+    object_of, read_message, read_message_with, type_named, type_of,
 };
 pub use telling::Telling;
 pub use write::{

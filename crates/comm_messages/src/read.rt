@@ -140,7 +140,8 @@ pub fn type_of(header: Option<JsonRef<'_, '_>>) -> Result<MessageType, MessageFa
     }
 }
 
-fn type_named(name: &str) -> Result<MessageType, MessageFault>
+/// The type of a message that has this `msg_type`. Err: UnknownType.
+pub fn type_named(name: &str) -> Result<MessageType, MessageFault>
     ensures { Gives (λ t. t) result (type_named name.now) }
 {
     if name == "comm_open" {

@@ -1,2 +1,3 @@
 pub mod Walking
+pub mod Slots
 pub mod MessageTests

@@ -1,18 +1,28 @@
 -- A frontend's message that is read in one walk over its line ('Messaging in Jupyter' 5.3, "Custom Messages"; RFC 8259).
-use Rattle.std.specs.Prelude.{◌≡◌, ℕ, List, length, false, true, Option, Some, None, Ok, codes}
+use Rattle.std.specs.Prelude.{◌≡◌, ℕ, List, length, false, true, Option, Some, None, Ok, IfSome, codes, option_map}
+use Rattle.std.specs.Borrow.{Bor}
 use Rattle.std.specs.Str.{bytes_eq}
 use Rattle.json.specs.Token.{Token}
-use Rattle.json.specs.Json.{Json, object, Members, no_members, value, members}
-use Rattle.comm_json.specs.Behind.{get_member, line_value, members_in_range, text_value, tidy_members}
+use Rattle.json.specs.Json.{Json, object, string, Members, no_members, value, members}
+use Rattle.comm_json.specs.Behind.{get_member, in_range, line_value, members_in_range, text_value, tidy, tidy_members}
 use Rattle.comm_value.specs.FromJson.{members_of}
 use Rattle.comm_value.specs.Tree as tree
 use Rattle.comm_value.specs.declared.from_json.Numbers.{Numbers}
-use Rattle.comm_messages.specs.Fields.{object_in, object_or_empty, read_fields}
+use Rattle.comm_messages.specs.Buffers.{buffers_of}
+use Rattle.comm_messages.specs.Fields.{client_of, object_in, object_or_empty}
 use Rattle.comm_messages.specs.Envelope.{Envelope}
-use Rattle.comm_messages.specs.Message.{message_in}
+use Rattle.comm_messages.specs.Message.{message_in, type_of, version_of}
 use Rattle.comm_messages.specs.declared.incoming.Incoming.{Incoming}
+use Rattle.comm_messages.specs.declared.read.MessageType.{MessageType}
 use Rattle.comm_reader.specs.declared.content.Content.{Content}
+use Rattle.comm_reader.specs.declared.heading.Metadata.{Metadata}
 use Rattle.comm_reader.specs.declared.line.Line.{Line}
+use Rattle.comm_reader.specs.declared.line.LineKey.{LineKey}
+use Rattle.comm_reader.specs.declared.line.LineKey.TheVariants as line_key
+
+-- the next value of the tokens is so
+abbrev pub ReadsValue : ℕ → List Token → (Json → Type 0) → List Token → Type 0
+ReadsValue depth ts Is rest = (j : Json) × (value depth ts ≡ Some (j, rest)) × (in_range j ≡ true) × Is (tidy j)
 
 -- the next value of the tokens is an object, whose members are so
 abbrev pub ReadsObject : ℕ → List Token → (Members → Type 0) → List Token → Type 0
@@ -25,10 +35,6 @@ ReadsMembers depth ts Are rest =
     (ms : Members) × (members (value depth) (length ts) ts ≡ Some (ms, rest)) × (members_in_range ms ≡ true)
     × Are (tidy_members ms no_members)
 
--- the members but the one with this key
-abbrev pub Others : List ℕ → Members → Members → Type 0
-Others key ms others = (k : List ℕ) → bytes_eq k key ≡ false → get_member k ms ≡ get_member k others
-
 -- a value is absent, or an object whose members are so
 abbrev pub HasObject : Option Json → (Members → Type 0) → Type 0
 HasObject value Are = (ms : Members) × (object_or_empty value ≡ Some ms) × Are ms
@@ -36,13 +42,43 @@ HasObject value Are = (ms : Members) × (object_or_empty value ≡ Some ms) × A
 abbrev pub IsData : Numbers → tree.Members → Members → Type 0
 IsData numbers d ms = members_of numbers ms ≡ Some d
 
-abbrev pub HasContent : Numbers → Content → Members → Type 0
-HasContent numbers c ms =
-    HasObject (get_member (codes "data") ms) (IsData numbers c.data) × Others (codes "data") ms (read_fields c.others.items)
+-- the version in a message's metadata
+abbrev pub IsVersion : Option (Bor (List ℕ)) → Members → Type 0
+IsVersion version ms = version_of ms ≡ option_map (λ s. s.now) version
 
-abbrev pub HasLine : Numbers → Line → Members → Type 0
-HasLine numbers l ms =
-    HasObject (get_member (codes "content") ms) (HasContent numbers l.content) × Others (codes "content") ms (read_fields l.others.items)
+-- the type in a message's header
+abbrev pub IsType : MessageType → Members → Type 0
+IsType t ms = type_of (Some (object ms)) ≡ Ok t
+
+-- the members of a content
+pub record HasContent (numbers : Numbers) (c : Content) (ms : Members) : Type 0 where
+  pub dict : HasObject (get_member (codes "data") ms) (IsData numbers c.dict)
+  pub comm_id : get_member (codes "comm_id") ms ≡ option_map (λ s. string s.now) c.comm_id
+  pub target_name : get_member (codes "target_name") ms ≡ option_map (λ s. string s.now) c.target_name
+
+-- the key of this part
+abbrev pub IsKey : LineKey → List ℕ → Type 0
+IsKey line_key.Header k = bytes_eq k (codes "header") ≡ true
+IsKey line_key.Content k = bytes_eq k (codes "content") ≡ true
+IsKey line_key.Metadata k = bytes_eq k (codes "metadata") ≡ true
+IsKey line_key.Buffers k = bytes_eq k (codes "buffers") ≡ true
+IsKey line_key.Client k = bytes_eq k (codes "client") ≡ true
+IsKey line_key.Other k =
+    (bytes_eq k (codes "header") ≡ false) × (bytes_eq k (codes "content") ≡ false) × (bytes_eq k (codes "metadata") ≡ false)
+    × (bytes_eq k (codes "buffers") ≡ false) × (bytes_eq k (codes "client") ≡ false)
+
+abbrev pub version_told : Option Metadata → Option (Bor (List ℕ))
+version_told None = None
+version_told (Some m) = m.version
+
+-- the members of a line without this key
+pub record HasLine (absent : List ℕ) (clients : ℕ) (numbers : Numbers) (l : Line) (ms : Members) : Type 0 where
+  pub no_other : get_member absent ms ≡ None
+  pub client : client_of clients (get_member (codes "client") ms) ≡ Ok l.client
+  pub header : IfSome l.type_ (λ t. type_of (get_member (codes "header") ms) ≡ Ok t)
+  pub content : IfSome l.content (λ c. HasObject (get_member (codes "content") ms) (HasContent numbers c))
+  pub metadata : HasObject (get_member (codes "metadata") ms) (IsVersion (version_told l.metadata))
+  pub buffers : buffers_of (get_member (codes "buffers") ms) ≡ Ok l.buffers
 
 -- a text is an object whose members are so, and nothing after it
 abbrev pub ReadsText : List ℕ → (Members → Type 0) → Type 0
@@ -53,8 +89,8 @@ abbrev pub ReadsLine : List ℕ → (Members → Type 0) → Type 0
 ReadsLine bytes Are = (ms : Members) × (line_value bytes ≡ Some (object ms)) × Are ms
 
 -- what a message has beside its content
-abbrev pub HasRest : Envelope → Members → List (List ℕ) → Type 0
-HasRest from metadata buffers = (object_or_empty from.metadata ≡ Some metadata) × (from.buffers ≡ Ok buffers)
+abbrev pub HasRest : Envelope → Option (Bor (List ℕ)) → List (List ℕ) → Type 0
+HasRest from version buffers = HasObject from.metadata (IsVersion version) × (from.buffers ≡ Ok buffers)
 
 -- the members have no such key, and their message is this one
 abbrev pub IsMessageOf : List ℕ → ℕ → Numbers → Members → ℕ × Incoming → Type 0

@@ -4,31 +4,18 @@ ghost use Rattle.comm_value.specs.Places.{members_have_bytes};
 ghost use Rattle.comm_value.specs.declared.from_json.Numbers.{Numbers};
 ghost use Rattle.comm_reader.specs.Reader.{ReadsMembers, ReadsObject, HasContent, IsData};
 
-use crate::walk::{enter, read_value};
+use crate::walk::{enter, read_string, read_value};
 use bumpalo::Bump;
-use comm_json::LineMembers;
 use comm_value::{Dict, KnownTexts, Numbers};
 use json::Reader;
 use std::alloc::Global;
 
-/// The members of a message's content: its `data` as a dict, and the others as they stand in the line.
+/// What a message is made of in its content.
 #[derive(Drop)]
 pub struct Content<'a> {
-    pub data: Dict,
-    pub others: LineMembers<'a>,
-}
-
-impl<'a> Content<'a> {
-    /// A content without members.
-    pub fn empty(lists: &'a Bump) -> Content<'a>
-        ensures has { (numbers : Numbers) → HasContent numbers result no_members }
-        ensures plain { members_have_bytes result.data ≡ false }
-    {
-        Content {
-            data: Dict::new(),
-            others: Vec::new(lists),
-        }
-    }
+    pub dict: Dict,
+    pub comm_id: Option<&'a str>,
+    pub target_name: Option<&'a str>,
 }
 
 fn read_data(
@@ -49,7 +36,7 @@ fn read_data(
     Dict::read(alloc, numbers, texts, reader, depth - 1)
 }
 
-// The members of a content that has begun.
+// The members of a content that has begun. Of several with one key the last counts.
 fn read_members<'a>(
     alloc: Global,
     numbers: Numbers,
@@ -60,24 +47,32 @@ fn read_members<'a>(
 ) -> Option<Content<'a>>
     ensures reads { IfSome result (λ c. ReadsMembers depth reader.old
         (HasContent numbers c) reader.new) }
-    ensures plain { IfSome result (λ c. members_have_bytes c.data ≡ false) }
+    ensures plain { IfSome result (λ c. members_have_bytes c.dict ≡ false) }
     ensures shorter { OnSome result (length reader.new < length reader.old) }
 {
-    let mut data = Dict::new();
-    let mut others = Vec::new(lists);
+    let mut dict = Dict::new();
+    let mut comm_id = None;
+    let mut target_name = None;
     while let Some(key) = reader.next_key().ok()? {
         if key == "data" {
-            data = read_data(alloc, numbers, texts, reader, depth)?;
+            dict = read_data(alloc, numbers, texts, reader, depth)?;
+        } else if key == "comm_id" {
+            comm_id = Some(read_string(reader, depth)?);
+        } else if key == "target_name" {
+            target_name = Some(read_string(reader, depth)?);
         } else {
-            let value = read_value(reader, lists, depth)?;
-            others.push((key, value)).ok()?;
+            drop(read_value(reader, lists, depth)?);
         }
     }
-    Some(Content { data, others })
+    Some(Content {
+        dict,
+        comm_id,
+        target_name,
+    })
 }
 
 /// Reads the next value as a content, in which values nest at most so deep. None: it is no object, its `data` is none
-/// that [`Dict::read`] reads, or another member is no value.
+/// that [`Dict::read`] reads, its `comm_id` or `target_name` is no string, or another member is no value.
 pub fn read_content<'a>(
     alloc: Global,
     numbers: Numbers,
@@ -88,7 +83,7 @@ pub fn read_content<'a>(
 ) -> Option<Content<'a>>
     ensures reads { IfSome result (λ c. ReadsObject depth reader.old
         (HasContent numbers c) reader.new) }
-    ensures plain { IfSome result (λ c. members_have_bytes c.data ≡ false) }
+    ensures plain { IfSome result (λ c. members_have_bytes c.dict ≡ false) }
     ensures shorter { OnSome result (length reader.new < length reader.old) }
 {
     enter(reader)?;

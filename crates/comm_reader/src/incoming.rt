@@ -2,13 +2,12 @@ ghost use Rattle.std.specs.Prelude.{◌≡◌, false, Ok, IfSome, option_map};
 ghost use Rattle.json.specs.Json.{Members};
 ghost use Rattle.comm_value.specs.Places.{members_have_bytes};
 ghost use Rattle.comm_messages.specs.Envelope.{Envelope};
-ghost use Rattle.comm_messages.specs.Fields.{fields};
-ghost use Rattle.comm_messages.specs.Message.{close_in, incoming_in, info_request_in, msg_in, open_in, version_of};
+ghost use Rattle.comm_messages.specs.Message.{close_in, incoming_in, info_request_in, msg_in, open_in};
 ghost use Rattle.comm_value.specs.declared.from_json.Numbers.{Numbers};
 ghost use Rattle.comm_reader.specs.Reader.{HasContent, HasRest};
 
 use crate::content::Content;
-use comm_messages::{Body, Fields, Incoming, MessageType, fields_of, member, text, text_or_none};
+use comm_messages::{Body, Incoming, MessageType};
 use comm_value::{Buffers, KnownTexts, Text};
 use std::alloc::Global;
 
@@ -21,34 +20,31 @@ fn known(alloc: Global, texts: &mut KnownTexts, text: Option<&str>) -> Option<Op
     }
 }
 
-fn version_of<'v>(metadata: Fields<'v, '_>) -> Option<&'v str>
-    ensures { option_map (λ t. t.now) result ≡ version_of (fields metadata.entry) }
-{
-    text(member(metadata, "version"))
-}
-
 #[tactic(auto, unfolding(comm_messages::specs::Message::open_in))]
 fn open_of(
     alloc: Global,
     texts: &mut KnownTexts,
     content: Content<'_>,
-    metadata: Fields<'_, '_>,
+    version: Option<&str>,
     buffers: Buffers,
 ) -> Option<Incoming>
-    requires { members_have_bytes content.data ≡ false }
+    requires { members_have_bytes content.dict ≡ false }
     ensures { IfSome result (λ i. (numbers : Numbers) (from : Envelope) (ms : Members)
-        → HasContent numbers content.entry ms → HasRest from (fields metadata.entry) buffers
+        → HasContent numbers content.entry ms → HasRest from version.entry buffers
         → open_in numbers from ms ≡ Ok i) }
 {
-    let Content { data, others } = content;
-    let fields = fields_of(&others);
-    let id = text(member(fields, "comm_id"))?;
-    let target = text(member(fields, "target_name"))?;
+    let Content {
+        dict,
+        comm_id,
+        target_name,
+    } = content;
+    let id = comm_id?;
+    let target = target_name?;
     Some(Incoming::Open {
         id: texts.text(alloc, id).ok()?,
         target: texts.text(alloc, target).ok()?,
-        version: known(alloc, texts, version_of(metadata))?,
-        body: Body::new(data, buffers),
+        version: known(alloc, texts, version)?,
+        body: Body::new(dict, buffers),
     })
 }
 
@@ -57,19 +53,19 @@ fn msg_of(
     alloc: Global,
     texts: &mut KnownTexts,
     content: Content<'_>,
-    metadata: Fields<'_, '_>,
+    version: Option<&str>,
     buffers: Buffers,
 ) -> Option<Incoming>
-    requires { members_have_bytes content.data ≡ false }
+    requires { members_have_bytes content.dict ≡ false }
     ensures { IfSome result (λ i. (numbers : Numbers) (from : Envelope) (ms : Members)
-        → HasContent numbers content.entry ms → HasRest from (fields metadata.entry) buffers
+        → HasContent numbers content.entry ms → HasRest from version.entry buffers
         → msg_in numbers from ms ≡ Ok i) }
 {
-    let Content { data, others } = content;
-    let id = text(member(fields_of(&others), "comm_id"))?;
+    let Content { dict, comm_id, .. } = content;
+    let id = comm_id?;
     Some(Incoming::Msg {
         id: texts.text(alloc, id).ok()?,
-        body: Body::new(data, buffers),
+        body: Body::new(dict, buffers),
     })
 }
 
@@ -78,14 +74,14 @@ fn close_of(
     alloc: Global,
     texts: &mut KnownTexts,
     content: &Content<'_>,
-    metadata: Fields<'_, '_>,
+    version: Option<&str>,
     buffers: &Buffers,
 ) -> Option<Incoming>
     ensures { IfSome result (λ i. (numbers : Numbers) (from : Envelope) (ms : Members)
-        → HasContent numbers content.now ms → HasRest from (fields metadata.entry) buffers.now
+        → HasContent numbers content.now ms → HasRest from version.entry buffers.now
         → close_in from ms ≡ Ok i) }
 {
-    let id = text(member(fields_of(&content.others), "comm_id"))?;
+    let id = content.comm_id?;
     Some(Incoming::Close {
         id: texts.text(alloc, id).ok()?,
     })
@@ -96,38 +92,37 @@ fn info_request_of(
     alloc: Global,
     texts: &mut KnownTexts,
     content: &Content<'_>,
-    metadata: Fields<'_, '_>,
+    version: Option<&str>,
     buffers: &Buffers,
 ) -> Option<Incoming>
     ensures { IfSome result (λ i. (numbers : Numbers) (from : Envelope) (ms : Members)
-        → HasContent numbers content.now ms → HasRest from (fields metadata.entry) buffers.now
+        → HasContent numbers content.now ms → HasRest from version.entry buffers.now
         → info_request_in from ms ≡ Ok i) }
 {
-    let target = text_or_none(member(fields_of(&content.others), "target_name"))?;
     Some(Incoming::InfoRequest {
-        target: known(alloc, texts, target)?,
+        target: known(alloc, texts, content.target_name)?,
     })
 }
 
-/// The message of this type with this content, these members of its metadata and these buffers. None: it fails a test
+/// The message of this type with this content, this version in its metadata, and these buffers. None: it fails a test
 /// of its content, or memory ran out.
 pub fn incoming_of(
     alloc: Global,
     texts: &mut KnownTexts,
     type_: MessageType,
     content: Content<'_>,
-    metadata: Fields<'_, '_>,
+    version: Option<&str>,
     buffers: Buffers,
 ) -> Option<Incoming>
-    requires { members_have_bytes content.data ≡ false }
+    requires { members_have_bytes content.dict ≡ false }
     ensures { IfSome result (λ i. (numbers : Numbers) (from : Envelope) (ms : Members)
-        → HasContent numbers content.entry ms → HasRest from (fields metadata.entry) buffers
+        → HasContent numbers content.entry ms → HasRest from version.entry buffers
         → incoming_in numbers type_ from ms ≡ Ok i) }
 {
     match type_ {
-        MessageType::Open => open_of(alloc, texts, content, metadata, buffers),
-        MessageType::Msg => msg_of(alloc, texts, content, metadata, buffers),
-        MessageType::Close => close_of(alloc, texts, &content, metadata, &buffers),
-        MessageType::InfoRequest => info_request_of(alloc, texts, &content, metadata, &buffers),
+        MessageType::Open => open_of(alloc, texts, content, version, buffers),
+        MessageType::Msg => msg_of(alloc, texts, content, version, buffers),
+        MessageType::Close => close_of(alloc, texts, &content, version, &buffers),
+        MessageType::InfoRequest => info_request_of(alloc, texts, &content, version, &buffers),
     }
 }

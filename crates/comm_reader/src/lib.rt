@@ -8,6 +8,7 @@
 #![tactic(auto)]
 
 mod content;
+mod heading;
 mod incoming;
 mod line;
 mod parts;

@@ -1,33 +1,114 @@
-ghost use Rattle.std.specs.Prelude.{◌≡◌, ◌<◌, ℕ, length, false, None, IfSome, OnSome};
-ghost use Rattle.json.specs.Json.{Members};
+ghost use Rattle.std.specs.Prelude.{◌≡◌, ◌<◌, ℕ, List, false, Some, Ok, IfSome, OnSome, length};
+ghost use Rattle.json.specs.Json.{Members, no_members};
+ghost use Rattle.json.specs.Value.{value_view};
+ghost use Rattle.comm_json.specs.Behind.{tidy};
 ghost use Rattle.comm_value.specs.Places.{members_have_bytes};
-ghost use Rattle.comm_messages.specs.Message.{message_in};
 ghost use Rattle.comm_value.specs.declared.from_json.Numbers.{Numbers};
-ghost use Rattle.comm_reader.specs.Reader.{HasLine, IsMessage, IsMessageOf, ReadsMembers, ReadsText};
+ghost use Rattle.comm_messages.specs.Buffers.{buffers_of};
+ghost use Rattle.comm_messages.specs.Fields.{client_of};
+ghost use Rattle.comm_reader.specs.Reader.{HasLine, IsKey, IsMessage, IsMessageOf, ReadsMembers, ReadsText, ReadsValue, version_told};
 
 use crate::content::{Content, read_content};
+use crate::heading::{Metadata, read_metadata, read_type};
 use crate::incoming::incoming_of;
 use crate::walk::{enter, read_value};
 use bumpalo::Bump;
-use comm_json::{LineMembers, TextScratch};
-use comm_messages::{Incoming, buffers_of, client_of, fields_of, member, object_or_empty, type_of};
-use comm_value::{KnownTexts, Numbers};
+use comm_json::{JsonRef, LineValue, TextScratch};
+use comm_messages::{Incoming, MessageType, buffers_of, client_of};
+use comm_value::{Buffers, KnownTexts, Numbers};
 use json::Reader;
 use std::alloc::Global;
 
 /// The levels of nesting of a text that `comm_json` reads.
 pub const DEPTH: usize = 127;
 
-/// The members of a message's line: its content, and the others as they stand in the line.
-#[derive(Drop)]
-pub struct Line<'a> {
-    pub content: Content<'a>,
-    pub others: LineMembers<'a>,
+/// Which part of a message the key of a line's member names.
+#[derive(Clone, Copy, Drop)]
+pub enum LineKey {
+    Header,
+    Content,
+    Metadata,
+    Buffers,
+    Client,
+    Other,
 }
 
-// The members of a line's object that has begun.
+fn line_key(key: &str) -> LineKey
+    ensures { IsKey result key.now }
+{
+    if key == "header" {
+        LineKey::Header
+    } else if key == "content" {
+        LineKey::Content
+    } else if key == "metadata" {
+        LineKey::Metadata
+    } else if key == "buffers" {
+        LineKey::Buffers
+    } else if key == "client" {
+        LineKey::Client
+    } else {
+        LineKey::Other
+    }
+}
+
+/// What a message is made of in its line.
+#[derive(Drop)]
+pub struct Line<'a> {
+    pub type_: Option<MessageType>,
+    pub client: u8,
+    pub content: Option<Content<'a>>,
+    pub metadata: Option<Metadata<'a>>,
+    pub buffers: Buffers,
+}
+
+fn client_in<'v, 'a>(value: &'v LineValue<'a>, clients: u8) -> Option<u8>
+    ensures value { IfSome result
+        (λ n. client_of clients (Some (tidy (value_view value.now))) ≡ Ok n) }
+    ensures below { 0 < clients → IfSome result (λ n. n < clients) }
+{
+    client_of(Some(JsonRef::Borrowed(value)), clients).ok()
+}
+
+fn read_client<'a>(
+    reader: &mut Reader<'a>,
+    lists: &'a Bump,
+    clients: u8,
+    depth: usize,
+) -> Option<u8>
+    ensures reads { IfSome result (λ n. ReadsValue depth reader.old
+        (λ j. client_of clients (Some j) ≡ Ok n) reader.new) }
+    ensures below { 0 < clients → IfSome result (λ n. n < clients) }
+    ensures shorter { OnSome result (length reader.new < length reader.old) }
+{
+    let value = read_value(reader, lists, depth)?;
+    client_in(&value, clients)
+}
+
+fn buffers_in<'v, 'a>(alloc: Global, value: &'v LineValue<'a>) -> Option<Buffers>
+    ensures { IfSome result (λ b. buffers_of (Some (tidy (value_view value.now))) ≡ Ok b) }
+{
+    buffers_of(alloc, Some(JsonRef::Borrowed(value))).ok()
+}
+
+fn read_buffers<'a>(
+    alloc: Global,
+    reader: &mut Reader<'a>,
+    lists: &'a Bump,
+    depth: usize,
+) -> Option<Buffers>
+    ensures reads { IfSome result (λ b. ReadsValue depth reader.old
+        (λ j. buffers_of (Some j) ≡ Ok b) reader.new) }
+    ensures shorter { OnSome result (length reader.new < length reader.old) }
+{
+    let value = read_value(reader, lists, depth)?;
+    buffers_in(alloc, &value)
+}
+
+// The members of a line's object that has begun, none of which has this key. Of several with one key the last counts.
 fn read_members<'a>(
     alloc: Global,
+    absent: &str,
+    clients: u8,
     numbers: Numbers,
     texts: &mut KnownTexts,
     reader: &mut Reader<'a>,
@@ -35,36 +116,74 @@ fn read_members<'a>(
     depth: usize,
 ) -> Option<Line<'a>>
     ensures reads { IfSome result (λ l. ReadsMembers depth reader.old
-        (HasLine numbers l) reader.new) }
-    ensures plain { IfSome result (λ l. members_have_bytes l.content.data ≡ false) }
+        (HasLine absent.now clients numbers l) reader.new) }
+    ensures plain { IfSome result (λ l. IfSome l.content (λ c. members_have_bytes c.dict ≡ false)) }
+    ensures below { 0 < clients → IfSome result (λ l. l.client < clients) }
 {
-    let mut content = Content::empty(lists);
-    let mut others = Vec::new(lists);
+    let mut type_ = None;
+    let mut client = 0;
+    let mut content = None;
+    let mut metadata = None;
+    let mut buffers = Buffers::none(alloc);
     while let Some(key) = reader.next_key().ok()? {
-        if key == "content" {
-            content = read_content(alloc, numbers, texts, reader, lists, depth)?;
-        } else {
-            let value = read_value(reader, lists, depth)?;
-            others.push((key, value)).ok()?;
+        if key == absent {
+            return None;
+        }
+        match line_key(key) {
+            LineKey::Header => {
+                type_ = Some(read_type(reader, lists, depth)?);
+            }
+            LineKey::Content => {
+                content = Some(read_content(alloc, numbers, texts, reader, lists, depth)?);
+            }
+            LineKey::Metadata => {
+                metadata = Some(read_metadata(reader, lists, depth)?);
+            }
+            LineKey::Buffers => {
+                buffers = read_buffers(alloc, reader, lists, depth)?;
+            }
+            LineKey::Client => {
+                client = read_client(reader, lists, clients, depth)?;
+            }
+            LineKey::Other => drop(read_value(reader, lists, depth)?),
         }
     }
-    Some(Line { content, others })
+    Some(Line {
+        type_,
+        client,
+        content,
+        metadata,
+        buffers,
+    })
 }
 
 fn read_text<'a>(
     alloc: Global,
+    absent: &str,
+    clients: u8,
     numbers: Numbers,
     texts: &mut KnownTexts,
     text: &'a str,
     scratch: &'a mut TextScratch,
     lists: &'a Bump,
 ) -> Option<Line<'a>>
-    ensures reads { IfSome result (λ l. ReadsText text.now (HasLine numbers l)) }
-    ensures plain { IfSome result (λ l. members_have_bytes l.content.data ≡ false) }
+    ensures reads { IfSome result
+        (λ l. ReadsText text.now (HasLine absent.now clients numbers l)) }
+    ensures plain { IfSome result (λ l. IfSome l.content (λ c. members_have_bytes c.dict ≡ false)) }
+    ensures below { 0 < clients → IfSome result (λ l. l.client < clients) }
 {
     let mut reader = scratch.reader(text).ok()?;
     enter(&mut reader)?;
-    let line = read_members(alloc, numbers, texts, &mut reader, lists, DEPTH - 1)?;
+    let line = read_members(
+        alloc,
+        absent,
+        clients,
+        numbers,
+        texts,
+        &mut reader,
+        lists,
+        DEPTH - 1,
+    )?;
     if reader.next().is_none() {
         Some(line)
     } else {
@@ -72,29 +191,34 @@ fn read_text<'a>(
     }
 }
 
-// The message of a line without such a member.
-fn message_without(
-    alloc: Global,
-    absent: &str,
-    clients: u8,
-    texts: &mut KnownTexts,
-    line: Line<'_>,
-) -> Option<(u8, Incoming)>
-    requires { members_have_bytes line.content.data ≡ false }
-    ensures message { IfSome result (λ r. (numbers : Numbers) (ms : Members)
-        → HasLine numbers line.entry ms → IsMessageOf absent.now clients numbers ms (r.0, r.1)) }
-    ensures below { 0 < clients → IfSome result (λ r. r.0 < clients) }
+fn version_in<'a>(metadata: Option<Metadata<'a>>) -> Option<&'a str>
+    ensures { result ≡ version_told metadata.entry }
 {
-    let Line { content, others } = line;
-    let fields = fields_of(&others);
-    if absent == "content" || member(fields, absent).is_some() {
-        return None;
+    match metadata {
+        Some(metadata) => metadata.version,
+        None => None,
     }
-    let client = client_of(member(fields, "client"), clients).ok()?;
-    let type_ = type_of(member(fields, "header")).ok()?;
-    let metadata = object_or_empty(member(fields, "metadata"))?;
-    let buffers = buffers_of(alloc, member(fields, "buffers")).ok()?;
-    let incoming = incoming_of(alloc, texts, type_, content, metadata, buffers)?;
+}
+
+fn message_of(alloc: Global, texts: &mut KnownTexts, line: Line<'_>) -> Option<(u8, Incoming)>
+    requires { IfSome line.content (λ c. members_have_bytes c.dict ≡ false) }
+    ensures message { IfSome result
+        (λ r. (absent : List ℕ) (clients : ℕ) (numbers : Numbers) (ms : Members)
+        → HasLine absent clients numbers line.entry ms
+        → IsMessageOf absent clients numbers ms (r.0, r.1)) }
+    ensures client { IfSome result (λ r. r.0 ≡ line.entry.client) }
+{
+    let Line {
+        type_,
+        client,
+        content,
+        metadata,
+        buffers,
+    } = line;
+    let type_ = type_?;
+    let content = content?;
+    let version = version_in(metadata);
+    let incoming = incoming_of(alloc, texts, type_, content, version, buffers)?;
     Some((client, incoming))
 }
 
@@ -117,6 +241,6 @@ pub fn message_at_once<'a>(
     ensures below { 0 < clients → IfSome result (λ r. r.0 < clients) }
 {
     let text = simdutf8::compat::from_utf8(line).ok()?;
-    let read = read_text(alloc, numbers, texts, text, scratch, lists)?;
-    message_without(alloc, absent, clients, texts, read)
+    let read = read_text(alloc, absent, clients, numbers, texts, text, scratch, lists)?;
+    message_of(alloc, texts, read)
 }

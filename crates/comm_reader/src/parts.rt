@@ -1,26 +1,58 @@
-ghost use Rattle.std.specs.Prelude.{◌≡◌, ◌<◌, false, decimal, Some, Ok, IfSome, option_map};
-ghost use Rattle.json.specs.Json.{Members, number, object};
-ghost use Rattle.json.specs.Value.{value_view};
-ghost use Rattle.comm_json.specs.Behind.{line_value, tidy};
-ghost use Rattle.comm_value.specs.declared.from_json.Numbers.{Numbers};
+ghost use Rattle.std.specs.Prelude.{◌≡◌, ◌<◌, false, decimal, Some, Ok, IfSome};
+ghost use Rattle.json.specs.Json.{number};
 ghost use Rattle.comm_value.specs.Places.{members_have_bytes};
 ghost use Rattle.comm_messages.specs.Buffers.{split_buffers};
-ghost use Rattle.comm_messages.specs.Envelope.{of_parts};
-ghost use Rattle.comm_messages.specs.Fields.{client_of, fields, object_or_empty};
-ghost use Rattle.comm_messages.specs.Message.{message_by_parts, message_from, type_of};
-ghost use Rattle.comm_reader.specs.Reader.{HasContent, ReadsLine};
+ghost use Rattle.comm_messages.specs.Fields.{client_of};
+ghost use Rattle.comm_messages.specs.Message.{message_by_parts};
+ghost use Rattle.comm_reader.specs.Reader.{HasContent, IsType, IsVersion, ReadsLine};
 
 use crate::content::{Content, read_content};
+use crate::heading::{read_type, read_version};
 use crate::incoming::incoming_of;
 use crate::line::DEPTH;
+use crate::walk::reader_of;
 use bumpalo::Bump;
-use comm_json::{JsonRef, LineValue, TextScratch, read_among};
-use comm_messages::{
-    BuffersRef, Fields, Incoming, IncomingParts, MessageType, PartsScratch, buffers_in,
-    object_or_empty, type_of,
-};
+use comm_json::TextScratch;
+use comm_messages::{BuffersRef, Incoming, IncomingParts, MessageType, PartsScratch, buffers_in};
 use comm_value::{Buffers, KnownTexts, Numbers};
 use std::alloc::Global;
+
+fn type_in<'a>(
+    bytes: &'a [u8],
+    scratch: &'a mut TextScratch,
+    lists: &'a Bump,
+) -> Option<MessageType>
+    ensures { IfSome result (λ t. ReadsLine bytes.now (IsType t)) }
+{
+    let mut reader = reader_of(bytes, scratch)?;
+    let type_ = read_type(&mut reader, lists, DEPTH)?;
+    if reader.next().is_none() {
+        Some(type_)
+    } else {
+        None
+    }
+}
+
+fn version_in<'a>(
+    bytes: &'a [u8],
+    scratch: &'a mut TextScratch,
+    lists: &'a Bump,
+) -> Option<Option<&'a str>>
+    ensures { IfSome result (λ v. ReadsLine bytes.now (IsVersion v)) }
+{
+    let text = simdutf8::compat::from_utf8(bytes).ok()?;
+    // Metadata are so nearly always.
+    if text == "{}" {
+        return Some(None);
+    }
+    let mut reader = scratch.reader(text).ok()?;
+    let version = read_version(&mut reader, lists, DEPTH)?;
+    if reader.next().is_none() {
+        Some(version)
+    } else {
+        None
+    }
+}
 
 fn content_in<'a>(
     alloc: Global,
@@ -31,7 +63,7 @@ fn content_in<'a>(
     lists: &'a Bump,
 ) -> Option<Content<'a>>
     ensures reads { IfSome result (λ c. ReadsLine bytes.now (HasContent numbers c)) }
-    ensures plain { IfSome result (λ c. members_have_bytes c.data ≡ false) }
+    ensures plain { IfSome result (λ c. members_have_bytes c.dict ≡ false) }
 {
     let text = simdutf8::compat::from_utf8(bytes).ok()?;
     let mut reader = scratch.reader(text).ok()?;
@@ -41,45 +73,6 @@ fn content_in<'a>(
     } else {
         None
     }
-}
-
-// The parts of a message, whose JSON texts were read.
-#[derive(Drop)]
-struct ReadParts<'a> {
-    header: LineValue<'a>,
-    metadata: LineValue<'a>,
-    content: Content<'a>,
-}
-
-fn read_parts<'a>(
-    alloc: Global,
-    numbers: Numbers,
-    texts: &mut KnownTexts,
-    parts: IncomingParts<'a>,
-    scratch: &'a mut PartsScratch,
-    lists: &'a Bump,
-) -> Option<ReadParts<'a>>
-    ensures header { IfSome result
-        (λ p. line_value parts.entry.header.now ≡ Some (tidy (value_view p.header))) }
-    ensures metadata { IfSome result
-        (λ p. line_value parts.entry.metadata.now ≡ Some (tidy (value_view p.metadata))) }
-    ensures content { IfSome result
-        (λ p. ReadsLine parts.entry.content.now (HasContent numbers p.content)) }
-    ensures plain { IfSome result (λ p. members_have_bytes p.content.data ≡ false) }
-{
-    let PartsScratch {
-        header: for_header,
-        metadata: for_metadata,
-        content: for_content,
-    } = scratch;
-    let header = read_among(parts.header, for_header, lists).ok()?;
-    let metadata = read_among(parts.metadata, for_metadata, lists).ok()?;
-    let content = content_in(alloc, numbers, texts, parts.content, for_content, lists)?;
-    Some(ReadParts {
-        header,
-        metadata,
-        content,
-    })
 }
 
 fn client_below(client: u32, clients: u8) -> Option<u8>
@@ -100,45 +93,42 @@ fn raw_buffers<'a>(alloc: Global, bytes: &'a [u8], sizes: &'a [usize]) -> Option
     buffers_in(alloc, BuffersRef::Raw { bytes, sizes }).ok()
 }
 
-fn type_in<'v, 'a>(header: &'v LineValue<'a>) -> Option<MessageType>
-    ensures { IfSome result (λ t. type_of (Some (tidy (value_view header.now))) ≡ Ok t) }
-{
-    type_of(Some(JsonRef::Borrowed(header))).ok()
+// What was read of the JSON texts of a message.
+#[derive(Drop)]
+struct ReadParts<'a> {
+    type_: MessageType,
+    version: Option<&'a str>,
+    content: Content<'a>,
 }
 
-fn members_in<'v, 'a>(value: &'v LineValue<'a>) -> Option<Fields<'v, 'a>>
-    ensures { option_map fields result ≡ object_or_empty (Some (tidy (value_view value.now))) }
-{
-    object_or_empty(Some(JsonRef::Borrowed(value)))
-}
-
-// The message of parts of which this was read.
-fn message_of(
+fn read_parts<'a>(
     alloc: Global,
-    clients: u8,
+    numbers: Numbers,
     texts: &mut KnownTexts,
-    parts: IncomingParts<'_>,
-    read: ReadParts<'_>,
-) -> Option<(u8, Incoming)>
-    requires { members_have_bytes read.content.data ≡ false }
-    ensures message { IfSome result (λ r. (numbers : Numbers) (ms : Members)
-        → HasContent numbers read.entry.content ms → message_from clients numbers
-        (of_parts parts.entry.client (tidy (value_view read.entry.header))
-        (tidy (value_view read.entry.metadata)) (object ms)
-        (split_buffers parts.entry.buffers.now parts.entry.sizes.now)) ≡ Ok (r.0, r.1)) }
-    ensures below { 0 < clients → IfSome result (λ r. r.0 < clients) }
+    parts: IncomingParts<'a>,
+    scratch: &'a mut PartsScratch,
+    lists: &'a Bump,
+) -> Option<ReadParts<'a>>
+    ensures header { IfSome result (λ p. ReadsLine parts.entry.header.now (IsType p.type_)) }
+    ensures metadata { IfSome result
+        (λ p. ReadsLine parts.entry.metadata.now (IsVersion p.version)) }
+    ensures content { IfSome result
+        (λ p. ReadsLine parts.entry.content.now (HasContent numbers p.content)) }
+    ensures plain { IfSome result (λ p. members_have_bytes p.content.dict ≡ false) }
 {
-    let ReadParts {
-        header,
-        metadata,
+    let PartsScratch {
+        header: for_header,
+        metadata: for_metadata,
+        content: for_content,
+    } = scratch;
+    let type_ = type_in(parts.header, for_header, lists)?;
+    let version = version_in(parts.metadata, for_metadata, lists)?;
+    let content = content_in(alloc, numbers, texts, parts.content, for_content, lists)?;
+    Some(ReadParts {
+        type_,
+        version,
         content,
-    } = read;
-    let client = client_below(parts.client, clients)?;
-    let type_ = type_in(&header)?;
-    let fields = members_in(&metadata)?;
-    let buffers = raw_buffers(alloc, parts.buffers, parts.sizes)?;
-    let incoming = incoming_of(alloc, texts, type_, content, fields, buffers)?;
-    Some((client, incoming))
+    })
 }
 
 /// Reads a message of one of `clients` clients from its parts, as [`comm_messages::message_by_parts`] does, with its
@@ -159,5 +149,13 @@ pub fn parts_at_once<'a>(
     ensures below { 0 < clients → IfSome result (λ r. r.0 < clients) }
 {
     let read = read_parts(alloc, numbers, texts, parts, scratch, lists)?;
-    message_of(alloc, clients, texts, parts, read)
+    let ReadParts {
+        type_,
+        version,
+        content,
+    } = read;
+    let client = client_below(parts.client, clients)?;
+    let buffers = raw_buffers(alloc, parts.buffers, parts.sizes)?;
+    let incoming = incoming_of(alloc, texts, type_, content, version, buffers)?;
+    Some((client, incoming))
 }

@@ -1,19 +1,45 @@
-ghost use Rattle.std.specs.Prelude.{◌≡◌, ◌<◌, ◌∷◌, length, true, IfSome, OnSome};
-ghost use Rattle.json.specs.Json.{value};
+ghost use Rattle.std.specs.Prelude.{◌≡◌, ◌<◌, ◌∷◌, length, true, Some, IfSome, OnSome};
+ghost use Rattle.std.specs.Str.{IsUtf8};
+ghost use Rattle.json.specs.Json.{string, value};
+ghost use Rattle.json.specs.Lex.{tokens};
 ghost use Rattle.json.specs.Token.{begin_object};
 ghost use Rattle.json.specs.Value.{value_view};
 ghost use Rattle.comm_json.specs.Behind.{in_range};
 
 use bumpalo::Bump;
-use comm_json::{LineValue, numbers_are_in_range};
+use comm_json::{LineValue, TextScratch, numbers_are_in_range};
 use json::{Reader, Token, Value};
 
+/// A reader of the tokens of a text in UTF-8; what of it has escapes is written to the scratch. None: it isn't UTF-8, or
+/// memory ran out.
+pub fn reader_of<'a>(bytes: &'a [u8], scratch: &'a mut TextScratch) -> Option<Reader<'a>>
+    ensures utf8 { OnSome result (IsUtf8 bytes.now) }
+    ensures tokens { IfSome result (λ r. r ≡ tokens bytes.now) }
+{
+    let text = simdutf8::compat::from_utf8(bytes).ok()?;
+    scratch.reader(text).ok()
+}
+
 /// Reads the brace that begins an object. None: another token is next.
+#[inline(always)]
 pub fn enter(reader: &mut Reader<'_>) -> Option<()>
     ensures { OnSome result (reader.old ≡ begin_object ∷ reader.new) }
 {
     match reader.next()? {
         Token::BeginObject => Some(()),
+        _ => None,
+    }
+}
+
+/// Reads a string. None: another token is next.
+#[inline(always)]
+pub fn read_string<'a>(reader: &mut Reader<'a>, depth: usize) -> Option<&'a str>
+    ensures value { IfSome result (λ s. value depth reader.old ≡ Some (string s.now, reader.new)) }
+    ensures shorter { OnSome result (length reader.new < length reader.old) }
+{
+    let _ = depth;
+    match reader.next()? {
+        Token::String(text) => Some(text),
         _ => None,
     }
 }

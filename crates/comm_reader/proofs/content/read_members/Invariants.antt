@@ -1,13 +1,12 @@
-use Rattle.std.proofs.Common.{Option, length, codes}
-use Rattle.json.specs.Json.{Json}
-use Rattle.comm_messages.specs.Fields.{read_fields}
-use Rattle.comm_reader.specs.Reader.{HasObject, IsData}
+use Rattle.std.proofs.Common.{length}
+use Rattle.json.specs.Json.{Members}
+use Rattle.comm_reader.specs.Reader.{HasContent}
 use Rattle.comm_reader.proofs.Walking.{HasSoFar}
 use Rattle.comm_reader.proofs.content.read_members.Given as goal
 
-abbrev pub invariant-loop-others : goal.invariant-loop-others
-invariant-loop-others l =
-    (o : Option Json) × HasSoFar (codes "data") l.depth l.initial.reader (read_fields l.others.items) o l.reader × HasObject o (IsData l.numbers l.data)
+abbrev pub invariant-loop-dict : goal.invariant-loop-dict
+invariant-loop-dict l =
+    (found : Members) × HasSoFar l.depth l.initial.reader found l.reader × HasContent l.numbers (record { dict = l.dict; comm_id = l.comm_id; target_name = l.target_name }) found
 
-abbrev pub decreases-loop-others : goal.decreases-loop-others
-decreases-loop-others l = length l.reader
+abbrev pub decreases-loop-dict : goal.decreases-loop-dict
+decreases-loop-dict l = length l.reader

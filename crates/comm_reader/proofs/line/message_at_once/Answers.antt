@@ -12,4 +12,4 @@ returns-clause-message c =
     let utf8 : IsUtf8 c.args.line.now = search rules in
     let r = c.in_ok-read.ensures.reads in
     let line = object_read c.args.line.now (object r.0) utf8 (subst (λ s. text_value s ≡ Some (object r.0)) same r.1) refl in
-    if_some c.message_without.result _ _ (λ m h. let is : IsMessage c.args.absent.now c.args.clients c.args.numbers c.args.line.now (m.0, m.1) = (r.0, line, h c.args.numbers r.0 r.2) in is) c.message_without.ensures.message
+    if_some c.message_of.result _ _ (λ m h. let is : IsMessage c.args.absent.now c.args.clients c.args.numbers c.args.line.now (m.0, m.1) = (r.0, line, h c.args.absent.now c.args.clients c.args.numbers r.0 r.2) in is) c.message_of.ensures.message

@@ -10,4 +10,4 @@ returns-then-is_none-clause-reads c =
     let start : c.in_ok-reader.reader ≡ tokens c.args.text.now = search rules in
     let entered : c.in_ok-reader.reader ≡ begin_object ∷ c.enter.new.reader = grind arith in
     let end : c.read_members.new.reader ≡ [] = grind arith in
-    whole_text c.args.text.now c.enter.new.reader c.read_members.new.reader (HasLine c.args.numbers c.in_ok-line.line) (sym start ∙ entered) c.in_ok-line.ensures.reads end
+    whole_text c.args.text.now c.enter.new.reader c.read_members.new.reader (HasLine c.args.absent.now c.args.clients c.args.numbers c.in_ok-line.line) (sym start ∙ entered) c.in_ok-line.ensures.reads end

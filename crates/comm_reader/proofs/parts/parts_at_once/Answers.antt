@@ -1,14 +1,19 @@
-use Rattle.std.proofs.Common.{◌≡◌, Ok, ◌∙◌}
+use Rattle.std.proofs.Common.{◌≡◌, Ok, ap, ◌∙◌, refl, rules}
 use Rattle.json.specs.Json.{object}
-use Rattle.json.specs.Value.{value_view}
-use Rattle.comm_json.specs.Behind.{tidy}
 use Rattle.comm_messages.specs.Buffers.{split_buffers}
-use Rattle.comm_value.proofs.ReadingLemmas.{if_some}
-use Rattle.comm_reader.proofs.MessageTests.{by_parts}
+use Rattle.comm_messages.specs.Envelope.{of_parts}
+use Rattle.comm_reader.specs.Reader.{HasRest}
+use Rattle.comm_reader.proofs.MessageTests.{message_is, by_parts}
 use Rattle.comm_reader.proofs.parts.parts_at_once.Goals as goal
 
 pub returns-clause-message : goal.returns-clause-message
 returns-clause-message c =
+    let h = c.in_ok-read.ensures.header in
+    let m = c.in_ok-read.ensures.metadata in
     let r = c.in_ok-read.ensures.content in
-    let all = by_parts c.args.clients c.args.numbers c.args.parts.client c.args.parts.header.now c.args.parts.metadata.now c.args.parts.content.now (split_buffers c.args.parts.buffers.now c.args.parts.sizes.now) (tidy (value_view c.in_ok-read.read.header)) (tidy (value_view c.in_ok-read.read.metadata)) (object r.0) c.in_ok-read.ensures.header c.in_ok-read.ensures.metadata r.1 in
-    if_some c.message_of.result _ _ (λ m h. all ∙ h c.args.numbers r.0 r.2) c.message_of.ensures.message
+    let all = split_buffers c.args.parts.buffers.now c.args.parts.sizes.now in
+    let buffers : all ≡ c.in_ok-buffers.buffers = search rules in
+    let from = of_parts c.args.parts.client (object h.0) (object m.0) (object r.0) all in
+    let rest : HasRest from c.in_ok-read.read.version c.in_ok-buffers.buffers = ((m.0, refl, m.2), ap Ok buffers) in
+    by_parts c.args.clients c.args.numbers c.args.parts.client c.args.parts.header.now c.args.parts.metadata.now c.args.parts.content.now all (object h.0) (object m.0) (object r.0) h.1 m.1 r.1
+    ∙ message_is c.args.clients c.args.numbers from r.0 c.in_ok-client.client c.in_ok-read.read.type_ c.in_ok-incoming.incoming c.in_ok-client.ensures.value h.2 refl (c.in_ok-incoming.ensures c.args.numbers from r.0 r.2 rest)
