@@ -29,6 +29,7 @@ impl TextScratch {
 
     /// A reader of the tokens of a text, for what reads it without a tree. Strings are slices of the text, or of the
     /// scratch where they have escapes. Err: out of memory.
+    #[inline(always)]
     pub fn reader<'a>(&'a mut self, text: &'a str) -> Result<Reader<'a>, AllocError>
         ensures { IfOk result (λ reader. reader ≡ tokens text.now) }
     {

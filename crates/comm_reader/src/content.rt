@@ -57,9 +57,9 @@ fn read_members<'a>(
         if key == "data" {
             dict = read_data(alloc, numbers, texts, reader, depth)?;
         } else if key == "comm_id" {
-            comm_id = Some(read_string(reader, depth)?);
+            comm_id = Some(read_string(reader)?);
         } else if key == "target_name" {
-            target_name = Some(read_string(reader, depth)?);
+            target_name = Some(read_string(reader)?);
         } else {
             drop(read_value(reader, lists, depth)?);
         }

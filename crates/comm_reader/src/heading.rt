@@ -15,7 +15,7 @@ fn type_in<'a>(reader: &mut Reader<'a>, lists: &'a Bump, depth: usize) -> Option
     let mut name = None;
     while let Some(key) = reader.next_key().ok()? {
         if key == "msg_type" {
-            name = Some(read_string(reader, depth)?);
+            name = Some(read_string(reader)?);
         } else {
             drop(read_value(reader, lists, depth)?);
         }
@@ -44,7 +44,7 @@ fn version_in<'a>(reader: &mut Reader<'a>, lists: &'a Bump, depth: usize) -> Opt
     let mut version = None;
     while let Some(key) = reader.next_key().ok()? {
         if key == "version" {
-            version = Some(read_string(reader, depth)?);
+            version = Some(read_string(reader)?);
         } else {
             drop(read_value(reader, lists, depth)?);
         }

@@ -132,8 +132,7 @@ fn read_parts<'a>(
 }
 
 /// Reads a message of one of `clients` clients from its parts, as [`comm_messages::message_by_parts`] does, with its
-/// content in one walk. None: a test of the message fails, an object or a list of its data has more than 64 members,
-/// or memory ran out.
+/// content in one walk. None: as of [`crate::message_at_once`].
 pub fn parts_at_once<'a>(
     alloc: Global,
     parts: IncomingParts<'a>,

@@ -1,4 +1,4 @@
-ghost use Rattle.std.specs.Prelude.{◌≡◌, ◌<◌, ◌∷◌, length, true, Some, IfSome, OnSome};
+ghost use Rattle.std.specs.Prelude.{◌≡◌, ◌<◌, ◌∷◌, ℕ, length, true, Some, IfSome, OnSome};
 ghost use Rattle.std.specs.Str.{IsUtf8};
 ghost use Rattle.json.specs.Json.{string, value};
 ghost use Rattle.json.specs.Lex.{tokens};
@@ -33,11 +33,11 @@ pub fn enter(reader: &mut Reader<'_>) -> Option<()>
 
 /// Reads a string. None: another token is next.
 #[inline(always)]
-pub fn read_string<'a>(reader: &mut Reader<'a>, depth: usize) -> Option<&'a str>
-    ensures value { IfSome result (λ s. value depth reader.old ≡ Some (string s.now, reader.new)) }
+pub fn read_string<'a>(reader: &mut Reader<'a>) -> Option<&'a str>
+    ensures value { IfSome result (λ s. (depth : ℕ)
+        → value depth reader.old ≡ Some (string s.now, reader.new)) }
     ensures shorter { OnSome result (length reader.new < length reader.old) }
 {
-    let _ = depth;
     match reader.next()? {
         Token::String(text) => Some(text),
         _ => None,

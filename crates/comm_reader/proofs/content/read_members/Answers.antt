@@ -34,7 +34,7 @@ loop-dict-preserved-then-eq-2 c =
     let begun : read_key c.loop-dict.reader ≡ Some (Some k, c.next_key.new.self) = grind arith in
     let is_key : bytes_eq k (codes "comm_id") ≡ true = search rules in
     let before : Content = record { dict = c.loop-dict.dict; comm_id = c.loop-dict.comm_id; target_name = c.loop-dict.target_name } in
-    let walked = one_more c.args.depth c.args.reader.now was.0 c.loop-dict.reader c.next_key.new.self c.read_string.new.reader k (string s.now) was.1 begun c.in_ok-read_string.ensures.value refl c.in_ok-read_string.ensures.shorter in
+    let walked = one_more c.args.depth c.args.reader.now was.0 c.loop-dict.reader c.next_key.new.self c.read_string.new.reader k (string s.now) was.1 begun (c.in_ok-read_string.ensures.value c.args.depth) refl c.in_ok-read_string.ensures.shorter in
     (put k (string s.now) was.0, walked, set_comm_id c.args.numbers was.0 before k was.2 s is_key)
 
 pub loop-dict-preserved-then-eq-3 : goal.loop-dict-preserved-then-eq-3
@@ -45,7 +45,7 @@ loop-dict-preserved-then-eq-3 c =
     let begun : read_key c.loop-dict.reader ≡ Some (Some k, c.next_key.new.self) = grind arith in
     let is_key : bytes_eq k (codes "target_name") ≡ true = search rules in
     let before : Content = record { dict = c.loop-dict.dict; comm_id = c.loop-dict.comm_id; target_name = c.loop-dict.target_name } in
-    let walked = one_more c.args.depth c.args.reader.now was.0 c.loop-dict.reader c.next_key.new.self c.read_string-then-eq-3.new.reader k (string s.now) was.1 begun c.in_ok-read_string-2.ensures.value refl c.in_ok-read_string-2.ensures.shorter in
+    let walked = one_more c.args.depth c.args.reader.now was.0 c.loop-dict.reader c.next_key.new.self c.read_string-then-eq-3.new.reader k (string s.now) was.1 begun (c.in_ok-read_string-2.ensures.value c.args.depth) refl c.in_ok-read_string-2.ensures.shorter in
     (put k (string s.now) was.0, walked, set_target_name c.args.numbers was.0 before k was.2 s is_key)
 
 pub loop-dict-preserved : goal.loop-dict-preserved

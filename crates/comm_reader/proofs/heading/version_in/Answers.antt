@@ -18,7 +18,7 @@ loop-key-preserved-then-eq c =
     let s = c.in_ok-read_string.field-0 in
     let begun : read_key c.loop-key.reader ≡ Some (Some k, c.next_key.new.self) = grind arith in
     let is_key : bytes_eq k (codes "version") ≡ true = search rules in
-    let walked = one_more c.args.depth c.args.reader.now was.0 c.loop-key.reader c.next_key.new.self c.read_string.new.reader k (string s.now) was.1 begun c.in_ok-read_string.ensures.value refl c.in_ok-read_string.ensures.shorter in
+    let walked = one_more c.args.depth c.args.reader.now was.0 c.loop-key.reader c.next_key.new.self c.read_string.new.reader k (string s.now) was.1 begun (c.in_ok-read_string.ensures.value c.args.depth) refl c.in_ok-read_string.ensures.shorter in
     (put k (string s.now) was.0, walked, put_there (codes "version") k (string s.now) was.0 is_key)
 
 pub loop-key-preserved : goal.loop-key-preserved

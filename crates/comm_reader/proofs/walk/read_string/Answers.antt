@@ -6,7 +6,7 @@ use Rattle.json.proofs.Grammar.{value_is}
 use Rattle.comm_reader.proofs.walk.read_string.Goals as goal
 
 pub returns-in-String-clause-value : goal.returns-in-String-clause-value
-returns-in-String-clause-value c =
+returns-in-String-clause-value c depth =
     let first : c.args.reader.now ≡ token_of c.in_ok-text.field-0 ∷ c.next.new.self = grind arith in
     let is : c.args.reader.now ≡ Token.string c.in-String.text.now ∷ c.next.new.self = grind (arith, first) in
-    ap (value c.args.depth) is ∙ value_is c.args.depth _
+    ap (value depth) is ∙ value_is depth _

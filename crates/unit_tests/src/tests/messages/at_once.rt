@@ -91,14 +91,14 @@ impl Subject for AtOnce {
     }
 }
 
-const ROWS: [Case; 4] = [
+const ROWS: [Case; 5] = [
     Case {
         name: "a message is read, in whatever order its members stand",
         lines: r#"line {"header":{"msg_type":"comm_open"},"content":{"comm_id":"a","target_name":"t","data":{"x":1}},"metadata":{"version":"2.1.0"},"client":3,"buffers":["AQI="]}
 line {"buffers":["AQI="],"content":{"data":{"y":[null,true,"\u0061"],"x":-1},"comm_id":"\u0061"},"header":{"msg_type":"comm_msg"}}
 line {"content":{"comm_id":"a"},"header":{"msg_type":"comm_close","x":[1.5]}}
-line {"header":{"msg_type":"comm_info_request"},"content":{"target_name":"t"},"metadata":null}
-line {"header":{"msg_type":"comm_info_request"}}"#,
+line {"header":{"msg_type":"comm_info_request"},"content":{"target_name":"t"},"metadata":{"version":"2.1.0","x":[]}}
+line {"metadata":{},"header":{"msg_type":"comm_info_request"},"content":{"x":null}}"#,
         want: r#"3 open a t 2.1.0 {"x":1} 0102
 0 msg a {"x":-1,"y":[null,true,"a"]} 0102
 0 close a
@@ -129,6 +129,16 @@ line {"header":{"msg_type":"comm_msg"},"content":{"comm_id":7}}
 line {"header":{"msg_type":"status"},"content":{"comm_id":"a"}}
 line []"#,
         want: "none\nnone\nnone\nnone\nnone\nnone\nnone\nnone\nnone\nnone\nnone\nnone\n",
+    },
+    Case {
+        name: "what is null or absent and may be, and a version that is no text, is left too",
+        lines: r#"line {"header":{"msg_type":"comm_info_request"}}
+line {"header":{"msg_type":"comm_info_request"},"content":null}
+line {"header":{"msg_type":"comm_info_request"},"content":{"target_name":null}}
+line {"header":{"msg_type":"comm_msg"},"content":{"comm_id":"a","data":null}}
+line {"header":{"msg_type":"comm_msg"},"content":{"comm_id":"a"},"metadata":null}
+line {"header":{"msg_type":"comm_msg"},"content":{"comm_id":"a"},"metadata":{"version":2}}"#,
+        want: "none\nnone\nnone\nnone\nnone\nnone\n",
     },
     Case {
         name: "at most 64 items or members are read so",

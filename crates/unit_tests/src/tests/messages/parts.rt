@@ -64,7 +64,7 @@ const READ: [Case; 1] = [Case {
     name: "each type of message is read, with its buffers as they are",
     lines: r#"3 {"msg_type":"comm_open"} {"version":"2.1.0"} {"comm_id":"\u0061","target_name":"t\n","data":{"b":"\"","a":[]}} ab c
 0 {"msg_type":"comm_msg"} {} {"comm_id":"a","data":{"y":[-0,1.50],"x":1}} abc
-0 {"msg_type":"comm_msg"} null {"comm_id":"a"}
+0 {"msg_type":"comm_msg"} {} {"comm_id":"a"}
 1 {"msg_type":"comm_close"} {} {"comm_id":"a"} a
 2 {"msg_type":"comm_info_request"} {} {}"#,
     want: r#"3 open a t
@@ -76,9 +76,15 @@ const READ: [Case; 1] = [Case {
 "#,
 }];
 
-const REFUSED: [Case; 1] = [Case {
-    name: "texts that aren't JSON, and then the first test that fails",
-    lines: r#"4 {"msg_type":"comm_msg" {} {}
+const OTHERS: [Case; 2] = [
+    Case {
+        name: "metadata may be null",
+        lines: r#"0 {"msg_type":"comm_msg"} null {"comm_id":"a"}"#,
+        want: "0 msg a {}\n",
+    },
+    Case {
+        name: "texts that aren't JSON, and then the first test that fails",
+        lines: r#"4 {"msg_type":"comm_msg" {} {}
 4 {} {}} {}
 4 {} {} {},"client":0
 4 {} {} {"x":1e400}
@@ -86,7 +92,7 @@ const REFUSED: [Case; 1] = [Case {
 0 {} [] 1
 0 {"msg_type":"comm_msg"} [] 1
 0 {"msg_type":"comm_msg"} [] {"comm_id":"a"}"#,
-    want: "the line is not a JSON object
+        want: "the line is not a JSON object
 the line is not a JSON object
 the line is not a JSON object
 the line is not a JSON object
@@ -95,13 +101,14 @@ the line is not a JSON object
 `content` is not an object
 `metadata` is not an object
 ",
-}];
+    },
+];
 
 #[test]
 fn messages_are_read_by_their_parts(rt: HostRuntime) -> Result<(), Fail> {
     let tested = MessagesByParts { at_once: false };
     run_cases(&rt, rt.alloc(), &tested, &READ)?;
-    Ok(run_cases(&rt, rt.alloc(), &tested, &REFUSED)?)
+    Ok(run_cases(&rt, rt.alloc(), &tested, &OTHERS)?)
 }
 
 #[test]
