@@ -6,7 +6,8 @@ ghost use Rattle.comm_value.specs.Places.{members_have_bytes};
 ghost use Rattle.comm_value.specs.declared.from_json.Numbers.{Numbers};
 ghost use Rattle.comm_messages.specs.Buffers.{buffers_of};
 ghost use Rattle.comm_messages.specs.Fields.{client_of};
-ghost use Rattle.comm_reader.specs.Reader.{HasLine, IsKey, IsMessage, IsMessageOf, ReadsMembers, ReadsText, ReadsValue, version_told};
+ghost use Rattle.comm_reader.specs.Reader.{HasLine, IsKey, IsMessage, IsMessageOf, ReadsMembers};
+ghost use Rattle.comm_reader.specs.Reader.{ReadsText, ReadsValue, version_told};
 
 use crate::content::{Content, read_content};
 use crate::heading::{Metadata, read_metadata, read_type};
@@ -224,8 +225,8 @@ fn message_of(alloc: Global, texts: &mut KnownTexts, line: Line<'_>) -> Option<(
 
 /// Reads a line as a message of one of `clients` clients, with these numbers as values, whose object has no member
 /// `absent`. Short texts are shared with those that were met before; what is parsed beside the message lies in the
-/// scratch and in the arena. None: there is no such message, it has null for an object, no content, or a version that is
-/// no string, an object or a list of its data has more than 64 members, or memory ran out.
+/// scratch and in the arena. None: there is no such message, it has null for an object, no content, or a version that
+/// is no string, an object or a list of its data has more than 64 members, or memory ran out.
 pub fn message_at_once<'a>(
     alloc: Global,
     line: &'a [u8],

@@ -10,8 +10,8 @@ use bumpalo::Bump;
 use comm_json::{LineValue, TextScratch, numbers_are_in_range};
 use json::{Reader, Token, Value};
 
-/// A reader of the tokens of a text in UTF-8; what of it has escapes is written to the scratch. None: it isn't UTF-8, or
-/// memory ran out.
+/// A reader of the tokens of a text in UTF-8; what of it has escapes is written to the scratch. None: it isn't UTF-8,
+/// or memory ran out.
 pub fn reader_of<'a>(bytes: &'a [u8], scratch: &'a mut TextScratch) -> Option<Reader<'a>>
     ensures utf8 { OnSome result (IsUtf8 bytes.now) }
     ensures tokens { IfSome result (λ r. r ≡ tokens bytes.now) }

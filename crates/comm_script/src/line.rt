@@ -124,8 +124,8 @@ pub fn parse_line(
     parse_line_among(alloc, line, clients, numbers, scratch, &*lists, texts)
 }
 
-// What a frontend's message asks for, if the line is one that can be read at once. A line that begins as a command isn't
-// tried.
+// What a frontend's message asks for, if the line is one that can be read at once. A line that begins as a command
+// isn't tried.
 fn asked_at_once<'a>(
     alloc: Global,
     line: &'a [u8],
@@ -149,8 +149,8 @@ fn asked_at_once<'a>(
     Some((client, asked_by_message(incoming)))
 }
 
-/// Reads a line as [`parse_line`] does. Its strings are parsed into the scratch, its lists into the arena. The line of a
-/// frontend's message is read in one walk where it can be ([`message_at_once`]), else from its parsed object.
+/// Reads a line as [`parse_line`] does. Its strings are parsed into the scratch, its lists into the arena. The line of
+/// a frontend's message is read in one walk where it can be ([`message_at_once`]), else from its parsed object.
 pub fn parse_line_among<'a>(
     alloc: Global,
     line: &'a [u8],

@@ -20,8 +20,8 @@ const MOST: usize = 64;
 
 impl Dict {
     /// Reads the members of an object that has begun, in which values nest at most so deep; short texts are shared with
-    /// those that were met before. None: the text is no JSON, a number of it is no value, it is large, or memory ran out.
-    /// [`Dict::from_ref`] says which, and reads what is large.
+    /// those that were met before. None: the text is no JSON, a number of it is no value, it is large, or memory ran
+    /// out. [`Dict::from_ref`] says which, and reads what is large.
     pub fn read(
         alloc: Global,
         numbers: Numbers,

@@ -1,5 +1,5 @@
-ghost use Rattle.std.specs.Prelude.{◌≡◌, ◌<◌, ◌≤◌, ◌++◌, [], ◌∷◌, Bool, IsTrue, OnOk, None, Some, Option, true, filter, is_some};
-ghost use Rattle.std.specs.Prelude.{slice_get};
+ghost use Rattle.std.specs.Prelude.{◌≡◌, ◌<◌, ◌≤◌, ◌++◌, [], ◌∷◌, Bool, IsTrue, OnOk, None, Some, Option};
+ghost use Rattle.std.specs.Prelude.{true, filter, is_some, slice_get};
 ghost use Rattle.std.specs.Option.{option_flatten};
 ghost use Rattle.std.specs.Map.{lookup, remove_entry, set_value};
 ghost use Rattle.ordered_table.specs.Table.{Computes, at_place, entries, there};

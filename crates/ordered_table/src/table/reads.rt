@@ -42,8 +42,8 @@ impl<K: Eq + Hash + Drop, V: Drop> Table<K, V> {
         }
     }
 
-    /// A key's place, from 0, and its value, as [`Table::get`]. An insertion, a removal or a sweep may move the place. O(1)
-    /// on average.
+    /// A key's place, from 0, and its value, as [`Table::get`]. An insertion, a removal or a sweep may move the place.
+    /// O(1) on average.
     pub fn find(&self, key: &K) -> Option<(usize, &V)>
         ensures value { option_map (λ e. e.1.now) result
             ≡ lookup (K.eq key.now) (entries self.now) }
