@@ -11,6 +11,7 @@ use test_harness::{Case, Subject, TestFault, run_cases, split_word};
 
 /// Reads a message of one of 4 clients from a line of its parts: the client, the header, the metadata and the content,
 /// which are JSON without a space, and a word of letters for each buffer. Any number is a value.
+#[derive(Drop)]
 struct MessagesByParts {
     at_once: bool,
 }
