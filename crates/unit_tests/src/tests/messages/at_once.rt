@@ -109,7 +109,7 @@ line {"metadata":{},"header":{"msg_type":"comm_info_request"},"content":{"x":nul
     Case {
         name: "of several members with one key the last stands",
         lines: r#"line {"header":{"msg_type":"comm_close"},"content":{"comm_id":"b","data":{"x":1},"comm_id":"a","data":{"y":1,"x":{"z":1},"y":2,"x":{}}},"header":{"msg_type":"comm_msg"}}
-line {"client":9,"content":{"comm_id":"b","data":{"x":1}},"header":{"msg_type":"comm_msg"},"content":{"comm_id":"a"},"client":0}"#,
+line {"client":3,"content":{"comm_id":"b","data":{"x":1}},"header":{"msg_type":"comm_msg"},"content":{"comm_id":"a"},"client":0}"#,
         want: r#"0 msg a {"x":{},"y":2}
 0 msg a {}
 "#,
