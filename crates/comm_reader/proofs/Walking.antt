@@ -11,7 +11,7 @@ use Rattle.json.specs.Lex.{lex, punctuate, tokens}
 use Rattle.json.specs.Json.{Json, object, Members, no_members, value, members, parse_map, read_key}
 use Rattle.json.proofs.Grammar.{members_end, members_more, value-begin_object, read_key-shorter}
 use Rattle.serde_json.specs.Read.{max_depth}
-use Rattle.comm_json.specs.Behind.{get_member, in_range, members_in_range, text_value, tidy, tidy_members, put}
+use Rattle.comm_json.specs.Behind.{get_member, in_range, line_value, members_in_range, text_value, tidy, tidy_members, put}
 use Rattle.comm_json.proofs.LookUp.{get_member-put, get_member-put_other}
 use Rattle.comm_value.proofs.ReadingLemmas.{members_before, none_before, one_more_member, fit_push, tidy_push}
 use Rattle.comm_reader.specs.Reader.{ReadsLine, ReadsMembers, ReadsObject, ReadsText}
@@ -80,9 +80,12 @@ whole_text text next rest Are begun r end = whole_value text rest Are (entered m
 pub whole_line : (bytes : List ℕ) (Are : Members → Type 0) → IsUtf8 bytes → ReadsText bytes Are → ReadsLine bytes Are
 whole_line bytes Are utf8 r = (r.0, rw (is_utf8-from_IsUtf8 bytes utf8) r.1, r.2)
 
-pub no_members_text : text_value (123 ∷ 125 ∷ []) ≡ Some (object no_members)
+no_members_text : text_value (123 ∷ 125 ∷ []) ≡ Some (object no_members)
 unfolding value punctuate lex
 no_members_text = refl
+
+pub no_members_line : line_value (123 ∷ 125 ∷ []) ≡ Some (object no_members)
+no_members_line = rw no_members_text refl
 
 -- ---- what a reader said
 

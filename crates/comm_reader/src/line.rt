@@ -1,4 +1,5 @@
 ghost use Rattle.std.specs.Prelude.{◌≡◌, ◌<◌, ℕ, List, false, Some, Ok, IfSome, OnSome, length};
+ghost use Rattle.std.specs.Str.{IsUtf8};
 ghost use Rattle.json.specs.Json.{Members, no_members};
 ghost use Rattle.json.specs.Value.{value_view};
 ghost use Rattle.comm_json.specs.Behind.{tidy};
@@ -12,7 +13,7 @@ ghost use Rattle.comm_reader.specs.Reader.{ReadsText, ReadsValue, version_told};
 use crate::content::{Content, read_content};
 use crate::heading::{Metadata, read_metadata, read_type};
 use crate::incoming::incoming_of;
-use crate::walk::{enter, read_value};
+use crate::walk::{end, enter, read_value, reader_of};
 use bumpalo::Bump;
 use comm_json::{JsonRef, LineValue, TextScratch};
 use comm_messages::{Incoming, MessageType, buffers_of, client_of};
@@ -158,24 +159,25 @@ fn read_members<'a>(
     })
 }
 
-fn read_text<'a>(
+fn read_line<'a>(
     alloc: Global,
+    line: &'a [u8],
     absent: &str,
     clients: u8,
     numbers: Numbers,
     texts: &mut KnownTexts,
-    text: &'a str,
     scratch: &'a mut TextScratch,
     lists: &'a Bump,
 ) -> Option<Line<'a>>
+    ensures utf8 { OnSome result (IsUtf8 line.now) }
     ensures reads { IfSome result
-        (λ l. ReadsText text.now (HasLine absent.now clients numbers l)) }
+        (λ l. ReadsText line.now (HasLine absent.now clients numbers l)) }
     ensures plain { IfSome result (λ l. IfSome l.content (λ c. members_have_bytes c.dict ≡ false)) }
     ensures below { 0 < clients → IfSome result (λ l. l.client < clients) }
 {
-    let mut reader = scratch.reader(text).ok()?;
+    let mut reader = reader_of(line, scratch)?;
     enter(&mut reader)?;
-    let line = read_members(
+    let read = read_members(
         alloc,
         absent,
         clients,
@@ -185,11 +187,8 @@ fn read_text<'a>(
         lists,
         DEPTH - 1,
     )?;
-    if reader.next().is_none() {
-        Some(line)
-    } else {
-        None
-    }
+    end(&mut reader)?;
+    Some(read)
 }
 
 fn version_in<'a>(metadata: Option<Metadata<'a>>) -> Option<&'a str>
@@ -241,7 +240,6 @@ pub fn message_at_once<'a>(
         (λ r. IsMessage absent.now clients numbers line.now (r.0, r.1)) }
     ensures below { 0 < clients → IfSome result (λ r. r.0 < clients) }
 {
-    let text = simdutf8::compat::from_utf8(line).ok()?;
-    let read = read_text(alloc, absent, clients, numbers, texts, text, scratch, lists)?;
+    let read = read_line(alloc, line, absent, clients, numbers, texts, scratch, lists)?;
     message_of(alloc, texts, read)
 }

@@ -10,7 +10,7 @@ use crate::content::{Content, read_content};
 use crate::heading::{read_type, read_version};
 use crate::incoming::incoming_of;
 use crate::line::DEPTH;
-use crate::walk::reader_of;
+use crate::walk::{end, reader_of};
 use bumpalo::Bump;
 use comm_json::TextScratch;
 use comm_messages::{BuffersRef, Incoming, IncomingParts, MessageType, PartsScratch, buffers_in};
@@ -26,11 +26,8 @@ fn type_in<'a>(
 {
     let mut reader = reader_of(bytes, scratch)?;
     let type_ = read_type(&mut reader, lists, DEPTH)?;
-    if reader.next().is_none() {
-        Some(type_)
-    } else {
-        None
-    }
+    end(&mut reader)?;
+    Some(type_)
 }
 
 fn version_in<'a>(
@@ -40,18 +37,14 @@ fn version_in<'a>(
 ) -> Option<Option<&'a str>>
     ensures { IfSome result (λ v. ReadsLine bytes.now (IsVersion v)) }
 {
-    let text = simdutf8::compat::from_utf8(bytes).ok()?;
     // Metadata are so nearly always.
-    if text == "{}" {
+    if bytes == b"{}".as_slice() {
         return Some(None);
     }
-    let mut reader = scratch.reader(text).ok()?;
+    let mut reader = reader_of(bytes, scratch)?;
     let version = read_version(&mut reader, lists, DEPTH)?;
-    if reader.next().is_none() {
-        Some(version)
-    } else {
-        None
-    }
+    end(&mut reader)?;
+    Some(version)
 }
 
 fn content_in<'a>(
@@ -65,14 +58,10 @@ fn content_in<'a>(
     ensures reads { IfSome result (λ c. ReadsLine bytes.now (HasContent numbers c)) }
     ensures plain { IfSome result (λ c. members_have_bytes c.dict ≡ false) }
 {
-    let text = simdutf8::compat::from_utf8(bytes).ok()?;
-    let mut reader = scratch.reader(text).ok()?;
+    let mut reader = reader_of(bytes, scratch)?;
     let content = read_content(alloc, numbers, texts, &mut reader, lists, DEPTH)?;
-    if reader.next().is_none() {
-        Some(content)
-    } else {
-        None
-    }
+    end(&mut reader)?;
+    Some(content)
 }
 
 fn client_below(client: u32, clients: u8) -> Option<u8>

@@ -1,4 +1,4 @@
-ghost use Rattle.std.specs.Prelude.{◌≡◌, ◌<◌, ◌∷◌, ℕ, length, true, Some, IfSome, OnSome};
+ghost use Rattle.std.specs.Prelude.{◌≡◌, ◌<◌, ◌∷◌, [], ℕ, length, true, Some, IfSome, OnSome};
 ghost use Rattle.std.specs.Str.{IsUtf8};
 ghost use Rattle.json.specs.Json.{string, value};
 ghost use Rattle.json.specs.Lex.{tokens};
@@ -28,6 +28,17 @@ pub fn enter(reader: &mut Reader<'_>) -> Option<()>
     match reader.next()? {
         Token::BeginObject => Some(()),
         _ => None,
+    }
+}
+
+/// Reads the end of the text. None: a token is next.
+#[inline(always)]
+pub fn end(reader: &mut Reader<'_>) -> Option<()>
+    ensures { OnSome result (reader.old ≡ []) }
+{
+    match reader.next() {
+        None => Some(()),
+        Some(_) => None,
     }
 }
 

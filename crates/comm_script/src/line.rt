@@ -126,6 +126,7 @@ pub fn parse_line(
 
 // What a frontend's message asks for, if the line is one that can be read at once. A line that begins as a command
 // isn't tried.
+#[inline(always)]
 fn asked_at_once<'a>(
     alloc: Global,
     line: &'a [u8],
@@ -151,6 +152,7 @@ fn asked_at_once<'a>(
 
 /// Reads a line as [`parse_line`] does. Its strings are parsed into the scratch, its lists into the arena. The line of
 /// a frontend's message is read in one walk where it can be ([`message_at_once`]), else from its parsed object.
+#[inline(always)]
 pub fn parse_line_among<'a>(
     alloc: Global,
     line: &'a [u8],

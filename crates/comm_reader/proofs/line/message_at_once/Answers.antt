@@ -1,6 +1,5 @@
-use Rattle.std.proofs.Common.{◌≡◌, Some, refl, subst, rules, IsUtf8}
+use Rattle.std.proofs.Common.{refl}
 use Rattle.json.specs.Json.{object}
-use Rattle.comm_json.specs.Behind.{text_value}
 use Rattle.comm_value.proofs.ReadingLemmas.{if_some}
 use Rattle.comm_messages.proofs.ObjectLemmas.{object_read}
 use Rattle.comm_reader.specs.Reader.{IsMessage}
@@ -8,8 +7,6 @@ use Rattle.comm_reader.proofs.line.message_at_once.Goals as goal
 
 pub returns-clause-message : goal.returns-clause-message
 returns-clause-message c =
-    let same : c.in_ok-text.text.now ≡ c.args.line.now = search rules in
-    let utf8 : IsUtf8 c.args.line.now = search rules in
     let r = c.in_ok-read.ensures.reads in
-    let line = object_read c.args.line.now (object r.0) utf8 (subst (λ s. text_value s ≡ Some (object r.0)) same r.1) refl in
+    let line = object_read c.args.line.now (object r.0) c.in_ok-read.ensures.utf8 r.1 refl in
     if_some c.message_of.result _ _ (λ m h. let is : IsMessage c.args.absent.now c.args.clients c.args.numbers c.args.line.now (m.0, m.1) = (r.0, line, h c.args.absent.now c.args.clients c.args.numbers r.0 r.2) in is) c.message_of.ensures.message
