@@ -3,7 +3,7 @@ use Rattle.std.specs.Prelude.{◌≡◌, ℕ, List, length, false, true, Option,
 use Rattle.std.specs.Borrow.{Bor}
 use Rattle.std.specs.Str.{bytes_eq}
 use Rattle.json.specs.Token.{Token}
-use Rattle.json.specs.Json.{Json, object, string, Members, no_members, value, members}
+use Rattle.json.specs.Json.{Json, object, string, Members, member, no_members, value, members}
 use Rattle.comm_json.specs.Behind.{get_member, in_range, line_value, members_in_range, text_value, tidy, tidy_members}
 use Rattle.comm_value.specs.FromJson.{members_of}
 use Rattle.comm_value.specs.Tree as tree
@@ -100,3 +100,13 @@ IsMessageOf absent clients numbers ms message = (get_member absent ms ≡ None) 
 abbrev pub IsMessage : List ℕ → ℕ → Numbers → List ℕ → ℕ × Incoming → Type 0
 IsMessage absent clients numbers line message =
     (ms : Members) × (object_in line ≡ Ok ms) × IsMessageOf absent clients numbers ms message
+
+-- the line {"call": "push", "id": id, "state": state}
+abbrev pub push_line : List ℕ → Members → Members
+push_line id state =
+    member (codes "call") (string (codes "push")) (member (codes "id") (string id) (member (codes "state") (object state) no_members))
+
+-- the line is the push of an update to the comm of an id
+abbrev pub IsPush : Numbers → List ℕ → List ℕ × tree.Members → Type 0
+IsPush numbers line push =
+    (state : Members) × (object_in line ≡ Ok (push_line push.0 state)) × (members_of numbers state ≡ Some push.1)

@@ -18,7 +18,9 @@ pub struct Content<'a> {
     pub target_name: Option<&'a str>,
 }
 
-fn read_data(
+/// Reads the next value as data, in which values nest at most so deep. None: it is no object, or none that
+/// [`Dict::read`] reads.
+pub fn read_data(
     alloc: Global,
     numbers: Numbers,
     texts: &mut KnownTexts,

@@ -13,7 +13,7 @@ use comm_messages::{
     EnvelopeRef, Fields, Incoming, client_of, envelope_of_line, fields_of, member, message_from,
     object_among,
 };
-use comm_reader::message_at_once;
+use comm_reader::{message_at_once, push_at_once};
 use comm_value::{KnownTexts, Numbers};
 use std::alloc::Global;
 
@@ -124,8 +124,8 @@ pub fn parse_line(
     parse_line_among(alloc, line, clients, numbers, scratch, &*lists, texts)
 }
 
-// What a frontend's message asks for, if the line is one that can be read at once. A line that begins as a command
-// isn't tried.
+// What the line of a frontend's message, or of a push without buffers, asks for, if it can be read at once. Another
+// command isn't tried.
 #[inline(always)]
 fn asked_at_once<'a>(
     alloc: Global,
@@ -141,6 +141,10 @@ fn asked_at_once<'a>(
     ensures below { IfSome result (λ r. r.0 < clients) }
     ensures handless { IfSome result (λ r. HandsNothing r.1) }
 {
+    if line.starts_with(b"{\"call\":\"push\"") {
+        let (id, state) = push_at_once(alloc, line, numbers, scratch, texts)?;
+        return Some((0, Request::Change(Call::Push { id, state })));
+    }
     if line.starts_with(b"{\"call\"") {
         return None;
     }
@@ -151,7 +155,8 @@ fn asked_at_once<'a>(
 }
 
 /// Reads a line as [`parse_line`] does. Its strings are parsed into the scratch, its lists into the arena. The line of
-/// a frontend's message is read in one walk where it can be ([`message_at_once`]), else from its parsed object.
+/// a frontend's message is read in one walk where it can be ([`message_at_once`]), and so is a push without buffers
+/// ([`push_at_once`]), else from its parsed object.
 #[inline(always)]
 pub fn parse_line_among<'a>(
     alloc: Global,

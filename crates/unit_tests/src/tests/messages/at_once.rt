@@ -1,10 +1,10 @@
-//! Messages that are read in one walk over their line.
+//! Messages, and the kernel's updates, that are read in one walk over their line.
 use super::append_message;
 use bumpalo::Bump;
 use comm_json::TextScratch;
 use comm_messages::Incoming;
-use comm_reader::message_at_once;
-use comm_value::{KnownTexts, Numbers};
+use comm_reader::{message_at_once, push_at_once};
+use comm_value::{KnownTexts, Numbers, Val};
 use std::alloc::Global;
 use std::test::Fail;
 use test_harness::{Case, Subject, TestFault, append_words, run_cases, split_word};
@@ -74,8 +74,25 @@ fn append_large(
     Ok(append_words(&[answer], out)?)
 }
 
+// The comm and the state of a push, or `none`.
+fn append_push(alloc: Global, line: &[u8], out: &mut Vec<u8>) -> Result<(), TestFault> {
+    let mut scratch = TextScratch::new(alloc);
+    let mut texts = KnownTexts::new(alloc);
+    match push_at_once(alloc, line, Numbers::Whole, &mut scratch, &mut texts) {
+        Some((id, state)) => {
+            append_words(&[id.as_str(), ""], out)?;
+            let state = Val::Dict(state);
+            let written = state.write_json(out);
+            drop(state);
+            written?;
+        }
+        None => append_words(&["none"], out)?,
+    }
+    Ok(append_words(&["\n"], out)?)
+}
+
 /// Reads `items N` as a message whose data has a list of so many items, `members N` as one with an object of so many
-/// members, and `line LINE` as a message.
+/// members, `line LINE` as a message, and `push LINE` as a push.
 struct AtOnce;
 
 impl Subject for AtOnce {
@@ -84,6 +101,9 @@ impl Subject for AtOnce {
         if word == "line" {
             return append_found(alloc, found_in(alloc, rest.as_bytes()), text);
         }
+        if word == "push" {
+            return append_push(alloc, rest.as_bytes(), text);
+        }
         match rest.parse::<usize>() {
             Ok(count) => append_large(alloc, word, count, text),
             Err(_) => Err(TestFault("no number")),
@@ -91,7 +111,7 @@ impl Subject for AtOnce {
     }
 }
 
-const ROWS: [Case; 5] = [
+const ROWS: [Case; 7] = [
     Case {
         name: "a message is read, in whatever order its members stand",
         lines: r#"line {"header":{"msg_type":"comm_open"},"content":{"comm_id":"a","target_name":"t","data":{"x":1}},"metadata":{"version":"2.1.0"},"client":3,"buffers":["AQI="]}
@@ -144,6 +164,30 @@ line {"header":{"msg_type":"comm_msg"},"content":{"comm_id":"a"},"metadata":{"ve
         name: "at most 64 items or members are read so",
         lines: "items 64\nitems 65\nmembers 64\nmembers 65",
         want: "read\nnone\nread\nnone\n",
+    },
+    Case {
+        name: "a push without buffers is read, whatever its state holds",
+        lines: r#"push {"call":"push","id":"a","state":{"value":1}}
+push { "call" : "push" , "id" : "\u0061" , "state" : { "y" : [ { } , "\u00e9" ] , "x" : null , "y" : -1 } }
+push {"call":"push","id":"","state":{}}"#,
+        want: "a {\"value\":1}\na {\"x\":null,\"y\":-1}\n {}\n",
+    },
+    Case {
+        name: "a push with more in it, in another order, or that is none, is left",
+        lines: r#"push {"call":"push","id":"a","state":{"value":1},"buffer_paths":[]}
+push {"call":"push","id":"a","state":{"value":1},"client":0}
+push {"call":"push","state":{"value":1},"id":"a"}
+push {"call":"push","id":"a","id":"a","state":{"value":1}}
+push {"call":"push","id":"a","state":{"value":1},"state":{"value":2}}
+push {"call":"push","id":"a","state":null}
+push {"call":"push","id":"a","state":[]}
+push {"call":"push","id":7,"state":{}}
+push {"call":"push","id":"a"}
+push {"call":"send","id":"a","state":{}}
+push {"call":"push","id":"a","state":{"value":1.5}}
+push {"call":"push","id":"a","state":{}} {}
+push {"call":"push","id":"a","state":{}"#,
+        want: "none\nnone\nnone\nnone\nnone\nnone\nnone\nnone\nnone\nnone\nnone\nnone\nnone\n",
     },
 ];
 
