@@ -9,6 +9,7 @@ use Rattle.json.specs.Reads.{token_of}
 use Rattle.json.specs.declared.token.Token.{Token as JsonToken}
 use Rattle.json.specs.Lex.{lex, punctuate, tokens}
 use Rattle.json.specs.Json.{Json, object, Members, no_members, value, members, parse_map, read_key}
+use Rattle.json.proofs.Printed.Utf8.{IsUtf8-are_ascii}
 use Rattle.json.proofs.Grammar.{members_end, members_more, value-begin_object, read_key-shorter}
 use Rattle.serde_json.specs.Read.{max_depth}
 use Rattle.comm_json.specs.Behind.{get_member, in_range, line_value, members_in_range, text_value, tidy, tidy_members, put}
@@ -85,7 +86,7 @@ unfolding value punctuate lex
 no_members_text = refl
 
 pub no_members_line : line_value (123 ∷ 125 ∷ []) ≡ Some (object no_members)
-no_members_line = rw no_members_text refl
+no_members_line = rw (is_utf8-from_IsUtf8 (123 ∷ 125 ∷ []) (IsUtf8-are_ascii (123 ∷ 125 ∷ []) refl)) no_members_text
 
 -- ---- what a reader said
 

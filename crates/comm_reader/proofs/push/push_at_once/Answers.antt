@@ -26,4 +26,5 @@ returns c =
     let found : is (line_with call.now) = ap line_with ((bytes_eq-Decides call.now (codes "push")).0 is_push) in
     let read = all_read depth t0 _ c.read_data.new.reader c.leave.new.reader is s3 c.in_ok-leave.ensures found in
     let whole = whole_text c.args.line.now t0 c.leave.new.reader is (sym c.in_ok-reader.ensures.tokens ∙ c.in_ok-enter.ensures) read c.in_ok-end.ensures in
-    (state, object_read c.args.line.now (object whole.0) c.in_ok-reader.ensures.utf8 whole.1 refl ∙ ap Ok whole.2, s.3)
+    let same : id.now ≡ c.in_ok-ok.field-0 = search rules in
+    (state, object_read c.args.line.now (object whole.0) c.in_ok-reader.ensures.utf8 whole.1 refl ∙ ap Ok whole.2 ∙ ap (λ i. Ok (push_line i state)) same, s.3)
