@@ -1,4 +1,5 @@
--- A frontend's message that is read in one walk over its line ('Messaging in Jupyter' 5.3, "Custom Messages"; RFC 8259).
+-- What is read in one walk over its line: a frontend's message ('Messaging in Jupyter' 5.3, "Custom Messages"; RFC
+-- 8259), and the kernel's update of a widget.
 use Rattle.std.specs.Prelude.{◌≡◌, ℕ, List, length, false, true, Option, Some, None, Ok, IfSome, codes, option_map}
 use Rattle.std.specs.Borrow.{Bor}
 use Rattle.std.specs.Str.{bytes_eq}
@@ -27,7 +28,8 @@ ReadsValue depth ts Is rest = (j : Json) × (value depth ts ≡ Some (j, rest)) 
 -- the next value of the tokens is an object, whose members are so
 abbrev pub ReadsObject : ℕ → List Token → (Members → Type 0) → List Token → Type 0
 ReadsObject depth ts Are rest =
-    (ms : Members) × (value depth ts ≡ Some (object ms, rest)) × (members_in_range ms ≡ true) × Are (tidy_members ms no_members)
+    (ms : Members) × (value depth ts ≡ Some (object ms, rest)) × (members_in_range ms ≡ true)
+    × Are (tidy_members ms no_members)
 
 -- the members of an object that has begun are so, to its end
 abbrev pub ReadsMembers : ℕ → List Token → (Members → Type 0) → List Token → Type 0
@@ -64,8 +66,9 @@ IsKey line_key.Metadata k = bytes_eq k (codes "metadata") ≡ true
 IsKey line_key.Buffers k = bytes_eq k (codes "buffers") ≡ true
 IsKey line_key.Client k = bytes_eq k (codes "client") ≡ true
 IsKey line_key.Other k =
-    (bytes_eq k (codes "header") ≡ false) × (bytes_eq k (codes "content") ≡ false) × (bytes_eq k (codes "metadata") ≡ false)
-    × (bytes_eq k (codes "buffers") ≡ false) × (bytes_eq k (codes "client") ≡ false)
+    (bytes_eq k (codes "header") ≡ false) × (bytes_eq k (codes "content") ≡ false)
+    × (bytes_eq k (codes "metadata") ≡ false) × (bytes_eq k (codes "buffers") ≡ false)
+    × (bytes_eq k (codes "client") ≡ false)
 
 abbrev pub version_told : Option Metadata → Option (Bor (List ℕ))
 version_told None = None
@@ -94,7 +97,8 @@ HasRest from version buffers = HasObject from.metadata (IsVersion version) × (f
 
 -- the members have no such key, and their message is this one
 abbrev pub IsMessageOf : List ℕ → ℕ → Numbers → Members → ℕ × Incoming → Type 0
-IsMessageOf absent clients numbers ms message = (get_member absent ms ≡ None) × (message_in clients numbers ms ≡ Ok message)
+IsMessageOf absent clients numbers ms message =
+    (get_member absent ms ≡ None) × (message_in clients numbers ms ≡ Ok message)
 
 -- the line is an object, without this key, and its message is this one
 abbrev pub IsMessage : List ℕ → ℕ → Numbers → List ℕ → ℕ × Incoming → Type 0
@@ -104,7 +108,8 @@ IsMessage absent clients numbers line message =
 -- the line {"call": "push", "id": id, "state": state}
 abbrev pub push_line : List ℕ → Members → Members
 push_line id state =
-    member (codes "call") (string (codes "push")) (member (codes "id") (string id) (member (codes "state") (object state) no_members))
+    member (codes "call") (string (codes "push"))
+    (member (codes "id") (string id) (member (codes "state") (object state) no_members))
 
 -- the line is the push of an update to the comm of an id
 abbrev pub IsPush : Numbers → List ℕ → List ℕ × tree.Members → Type 0
