@@ -1,6 +1,7 @@
 //! The targets that the library has, as one type without a box: what C holds can't have a `dyn` in it.
-ghost use Rattle.std.specs.Prelude.{◌≡◌, [], None};
+ghost use Rattle.std.specs.Prelude.{◌≡◌, [], None, Some};
 ghost use Rattle.comm_c.specs.BuiltinTarget.{kind_of, means_of};
+ghost use Rattle.comm_c.specs.Opaque.{is_opaque};
 
 use comm_targets::{Answer, Counter, Echo, Event, Kind, PlainTarget, Target, TargetFault};
 use comm_value::Dict;
@@ -16,6 +17,18 @@ pub enum BuiltinKind {
     WidgetEcho,
     Plain,
     Opaque,
+}
+
+impl BuiltinKind {
+    /// Whether it is the kind of a target whose comms' data nobody here reads.
+    pub fn is_opaque(&self) -> bool
+        ensures { result ≡ is_opaque (Some (kind_of self.now)) }
+    {
+        match self {
+            BuiltinKind::Opaque => true,
+            _ => false,
+        }
+    }
 }
 
 /// A target of any of the six kinds.

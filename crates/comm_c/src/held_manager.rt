@@ -30,13 +30,15 @@ use std::mem;
 pub const MAX_CALLS: u64 = 4_611_686_018_427_387_904;
 
 /// A core with its counts, how many calls were made, and the result of the last one. The memory that calls are parsed
-/// into is kept, and short texts that were met; so is the result's text, once it was asked for.
+/// into is kept, and short texts that were met; so is the result's text, once it was asked for, and whether an opaque
+/// target was registered, for a message that is read.
 pub struct HeldManager {
     counted_core: CountedCore,
     number: u64,
     call_result: CallResult,
     scratch: PartsScratch,
     texts: KnownTexts,
+    has_opaque: bool,
     text: Vec<u8>,
     is_written: bool,
 }
@@ -85,6 +87,7 @@ impl HeldManager {
             call_result: CallResult::Nothing,
             scratch: PartsScratch::new(alloc),
             texts: KnownTexts::new(alloc),
+            has_opaque: false,
             text: Vec::new(alloc),
             is_written: false,
         })
@@ -133,6 +136,7 @@ impl HeldManager {
             sizes,
             &mut self.scratch,
             &mut self.texts,
+            self.has_opaque,
         )
     }
 
@@ -278,6 +282,7 @@ impl HeldManager {
             self.new.counted_core self.new.call_result) }
         ensures same { OnErr result (self.new ≡ self.old) }
     {
+        self.has_opaque = self.has_opaque || kind.is_opaque();
         let call_result = self.counted_core.register(alloc, client, kind, name)?;
         drop(mem::replace(&mut self.call_result, call_result));
         self.number += 1;
@@ -316,6 +321,7 @@ impl Drop for HeldManager {
             call_result,
             scratch: _,
             texts: _,
+            has_opaque: _,
             text: _,
             is_written: _,
         } = self;

@@ -25,6 +25,10 @@ use comm_script::{LineFault, Request, asked_by_message};
 use comm_targets::Kind;
 use comm_value::{Buffers, Dict, KnownTexts, Text};
 use std::alloc::{AllocError, Global};
+use std::str;
+
+/// The most bytes of a content that are read although nobody here may want them: less than it takes to look first.
+const SMALL: usize = 1024;
 
 fn is_opaque(kind: Option<Kind>) -> bool
     ensures { result ≡ is_opaque kind }
@@ -58,6 +62,20 @@ fn opening_in(alloc: Global, from: &EnvelopeRef<'_, '_>) -> Result<Option<Text>,
         Err(MessageFault::Memory) => Err(AllocError),
         Err(_) => Ok(None),
     }
+}
+
+// The id with which a content begins, as frontends write it. None: another member comes first.
+fn leading_id(content: &[u8]) -> Option<&str> {
+    let from = if content.starts_with(b"{\"comm_id\":\"") {
+        12
+    } else if content.starts_with(b"{\"comm_id\": \"") {
+        13
+    } else {
+        return None;
+    };
+    let rest = content.get(from..)?;
+    let end = rest.iter().position(|byte| *byte == b'"')?;
+    str::from_utf8(rest.get(..end)?).ok()
 }
 
 // A body without data and without buffers.
@@ -244,7 +262,20 @@ impl CountedCore {
         }
     }
 
-    // What a message by its parts asks for, if it can be read in one walk over its content and is for no opaque target.
+    // Whether the content begins with the id of an opaque comm. It is a guess, which spares reading what nobody here
+    // wants: the message is read, and its id tested, in any case.
+    fn looks_opaque(&self, alloc: Global, content: &[u8], texts: &mut KnownTexts) -> bool {
+        let Some(id) = leading_id(content) else {
+            return false;
+        };
+        match texts.text(alloc, id) {
+            Ok(id) => self.is_opaque_comm(&id),
+            Err(_) => false,
+        }
+    }
+
+    // What a message by its parts asks for, if it can be read in one walk over its content and is for no opaque target,
+    // nor looks so where there may be one and much would be read in vain.
     fn asked_at_once<'a>(
         &self,
         alloc: Global,
@@ -257,6 +288,7 @@ impl CountedCore {
         scratch: &'a mut PartsScratch,
         lists: &'a Bump,
         texts: &mut KnownTexts,
+        has_opaque: bool,
     ) -> Option<(u8, Request)>
         ensures asked { IfSome result (λ r. AskedByParts (machine self.now.core) self.now.numbers
             client header.now metadata.now content.now (split_buffers buffers.now sizes.now)
@@ -264,6 +296,10 @@ impl CountedCore {
         ensures below { IfSome result (λ r. r.0 < 4) }
         ensures handless { IfSome result (λ r. HandsNothing r.1) }
     {
+        let is_large = content.len() > SMALL || !buffers.is_empty();
+        if has_opaque && is_large && self.looks_opaque(alloc, content, texts) {
+            return None;
+        }
         let parts = IncomingParts {
             client,
             header,
@@ -288,8 +324,9 @@ impl CountedCore {
         Some((client, asked_by_message(message)))
     }
 
-    /// What a message by its parts asks for. The sizes are tested first, then whether the texts are JSON. Err: the
-    /// first test that fails, or Memory.
+    /// What a message by its parts asks for. The sizes are tested first, then whether the texts are JSON. Where there
+    /// may be an opaque target, a large message for one is told by the id that its content begins with, before data and
+    /// buffers are read. Err: the first test that fails, or Memory.
     #[tactic(auto, unfolding(crate::specs::Inputs::message_input))]
     pub fn message_input<'a>(
         &self,
@@ -302,6 +339,7 @@ impl CountedCore {
         sizes: &'a [usize],
         scratch: &'a mut PartsScratch,
         texts: &mut KnownTexts,
+        has_opaque: bool,
     ) -> Result<Input, CallFault>
         ensures input { Gives (λ i. i) result
             (message_input (machine self.now.core) self.now.numbers client header.now metadata.now
@@ -312,6 +350,7 @@ impl CountedCore {
         let lists = Bump::new(alloc);
         if let Some(asked) = self.asked_at_once(
             alloc, client, header, metadata, content, buffers, sizes, scratch, &lists, texts,
+            has_opaque,
         ) {
             return Ok(Input::reading(Ok(asked)));
         }
