@@ -339,6 +339,41 @@ static void an_opaque_comm(void) {
         "a comm that is closed isn't opaque any more");
 }
 
+/* Whose a message is its content tells, wherever the id stands in it and however long it is. */
+static const struct {
+  const char *what, *content, *id, *data;
+} named[] = {
+    {"an id that comes first", "{\"comm_id\":\"p\",\"data\":{\"x\":1}}", "p", "{}"},
+    {"an id after a space", "{\"comm_id\": \"p\", \"data\": 0.5}", "p", "{}"},
+    {"an id that comes last", "{\"data\":{\"x\":1},\"comm_id\":\"p\"}", "p", "{}"},
+    {"an id with an escape", "{\"comm_id\":\"\\u0070\",\"data\":[]}", "p", "{}"},
+    {"the last of two ids, of an opaque comm", "{\"comm_id\":\"q\",\"data\":7,\"comm_id\":\"p\"}", "p", "{}"},
+    {"the last of two ids, of a plain comm", "{\"comm_id\":\"p\",\"data\":{\"x\":1},\"comm_id\":\"q\"}", "q", "{\"x\":1}"},
+    {"the id of a plain comm", "{\"comm_id\":\"q\",\"data\":{\"x\":1}}", "q", "{\"x\":1}"},
+};
+
+static void comms_are_named(void) {
+  const size_t sizes[] = {3};
+  char content[2048];
+  registered(&handle, ROLGUNAI_OPAQUE, "pictures");
+  registered(&handle, ROLGUNAI_PLAIN, "texts");
+  plainly("comm_open", "{\"comm_id\":\"p\",\"target_name\":\"pictures\"}");
+  plainly("comm_open", "{\"comm_id\":\"q\",\"target_name\":\"texts\"}");
+  for (size_t i = 0; i < sizeof named / sizeof *named; i++)
+    for (int padding = 0; padding <= 1500; padding += 1500)
+      for (size_t count = 0; count <= 1; count++) {
+        const char *what = named[i].what;
+        snprintf(content, sizeof content, "%s%*s", named[i].content, padding, "");
+        check(message(0, "{\"msg_type\":\"comm_msg\"}", "{}", content, "xyz", 3 * count, sizes, count) == ROLGUNAI_OK
+                  && reply == ROLGUNAI_REPLY_FOR_KERNEL && sent == 0,
+              what);
+        check_subject(named[i].id, strcmp(named[i].id, "p") ? "texts" : "pictures", what);
+        check_reply_part(ROLGUNAI_PART_CONTENT, named[i].data, strlen(named[i].data), what);
+        if (count && strcmp(named[i].id, "p")) check_reply_part(ROLGUNAI_PART_BUFFERS, "xyz", 3, what);
+        else check_no_reply_part(ROLGUNAI_PART_BUFFERS, what);
+      }
+}
+
 /* Parts that aren't taken, and what they are. */
 static const size_t one_each[] = {1, 1}, four[] = {1, 3}, vast[] = {SIZE_MAX, 4};
 static const struct {
@@ -391,6 +426,7 @@ int main(void) {
   a_replacement();
   reasons();
   an_opaque_comm();
+  comms_are_named();
   refusals();
   check(rolgunai_free(&handle) == ROLGUNAI_OK && rolgunai_free(&other) == ROLGUNAI_OK, "the end");
   nothing_there("after the end");
