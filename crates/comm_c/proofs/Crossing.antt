@@ -141,7 +141,7 @@ inside_send = declared_send inside.the_type (
         search (sendable, crosses, scratch_field_send) depth 40,
         (
           search (sendable, crosses, texts_field_send) depth 40,
-          (search (sendable, crosses) depth 40, (search (sendable, crosses) depth 40, tt)),
+          (search (sendable, crosses) depth 40, (search (sendable, crosses) depth 40, (search (sendable, crosses) depth 40, tt))),
         ),
       ),
     ),
