@@ -1,9 +1,11 @@
 // The members of a dict in chunks, which the dicts before and after a change share (copy-on-write).
-ghost use Rattle.std.specs.Prelude.{◌≡◌, ◌+◌, ◌<◌, ◌≤◌, ◌++◌, ◌∷◌, List, true, IfOk, OnOk, length, take, drop};
+ghost use Rattle.std.specs.Prelude.{◌≡◌, ◌+◌, ◌<◌, ◌≤◌, ◌++◌, ◌∷◌, List, true, false, IfOk, OnOk, length, take, drop};
 ghost use Rattle.comm_value.specs.Order.{members_ordered};
-ghost use Rattle.comm_value.specs.View.{members_of, tree, flat, AllFilled};
+ghost use Rattle.std.specs.Arc.{arc_value};
+ghost use Rattle.comm_value.specs.View.{members_of, tree, grouped, flat, AllFilled};
 ghost use Rattle.comm_value.specs.Search.{AllBelow, IsAbsent};
 ghost use Rattle.comm_value.specs.Put.{insert};
+ghost use Rattle.comm_value.specs.Merge.{merged};
 ghost use Rattle.comm_value.specs.declared.val.Member.{Member};
 
 use crate::search::place_of;
@@ -17,7 +19,7 @@ pub(crate) type Chunk = Arc<Group, Global>;
 
 /// The length that a chunk may have in any dict, in members. A chunk is copied whole when a member of it changes for
 /// the first time; that member then gets a chunk of its own, so that later changes copy one member.
-pub(crate) const SHORT_CHUNK: usize = 32;
+pub(crate) const SHORT_CHUNK: usize = 64;
 
 // The maximal length of a chunk beside this number of others; a longer one is split in two. An update copies the
 // chunk that it changes and the pointers to the others, and a pointer costs less than a member: a large dict has
@@ -25,7 +27,7 @@ pub(crate) const SHORT_CHUNK: usize = 32;
 fn max_length(others: usize) -> usize
     ensures { 8 ≤ result }
 {
-    let length = others / 4;
+    let length = others / 2;
     if length < SHORT_CHUNK {
         SHORT_CHUNK
     } else {
@@ -33,8 +35,8 @@ fn max_length(others: usize) -> usize
     }
 }
 
-// The maximal length of the chunks of a new dict with this number of members: half of its square root, so that the
-// chunks are about twice as many as the root. For few members the root isn't worth its time.
+// The maximal length of the chunks of a new dict with this number of members: its square root, so that a chunk has
+// about as many members as there are chunks. For few members the root isn't worth its time.
 fn max_length_of(members: usize) -> usize
     ensures { 8 ≤ result }
 {
@@ -89,7 +91,7 @@ pub(crate) fn share_chunks(alloc: Global, chunks: &[Chunk]) -> Result<Vec<Chunk>
 {
     let mut all = Vec::with_capacity(alloc, chunks.len())?;
     for chunk in chunks {
-        all.push(Arc::try_clone(chunk)?)?;
+        all.push_reserved(Arc::try_clone(chunk)?);
     }
     Ok(all)
 }
@@ -157,6 +159,35 @@ pub(crate) fn put(
     }
 }
 
+/// Puts a chunk of one member in place of one with the same key, as a merge mostly does: the chunk is shared, and no
+/// other is looked at. False: nothing was done, since no chunk has the key alone, or this one has more members.
+pub(crate) fn put_alone(all: &mut Vec<Chunk>, chunk: &Chunk) -> Result<bool, AllocError>
+    requires filled { AllFilled all.old.items }
+    requires ordered { members_ordered (members_of (flat all.old.items)) ≡ true }
+    ensures put { IfOk result (λ done. done ≡ true → members_of (flat all.new.items)
+        ≡ merged (members_of (flat all.old.items)) (members_of (grouped (arc_value chunk.now)))) }
+    ensures as_many { IfOk result
+        (λ done. length (flat all.new.items) ≡ length (flat all.old.items)) }
+    ensures filled { IfOk result (λ done. AllFilled all.new.items) }
+    ensures left { IfOk result (λ done. done ≡ false → all.new.items ≡ all.old.items) }
+{
+    if all.is_empty() {
+        return Ok(false);
+    }
+    let Some(member) = chunk.alone() else {
+        return Ok(false);
+    };
+    let place = chunk_of(all.as_slice(), member.key.as_str());
+    let Some(before) = all[place].alone() else {
+        return Ok(false);
+    };
+    if !before.key.is(member.key.as_str()) {
+        return Ok(false);
+    }
+    all[place] = Arc::try_clone(chunk)?;
+    Ok(true)
+}
+
 // The chunks with copies of these shared members inserted at an index, the new member among them.
 fn put_shared(
     alloc: Global,
@@ -197,7 +228,7 @@ fn put_shared(
 // own. What changed once is likely to change again, as a slider's value does, and is then copied alone. Where there are
 // many chunks already, their pointers would cost more.
 fn gets_own_chunk(length: usize, others: usize) -> bool {
-    3 < length && others / 6 < length
+    3 < length && others / 2 < length
 }
 
 // The chunks with copies of these members inserted at an index, the new member in place of member i and in its own
@@ -312,6 +343,7 @@ fn push_copies(members: &[Member], all: &mut Vec<Member>) -> Result<(), AllocErr
 }
 
 /// The members with the new one inserted in the order of keys, or in place of the one with its key.
+#[inline]
 pub(crate) fn put_member(members: Vec<Member>, member: Member) -> Result<Vec<Member>, AllocError>
     requires { members_ordered (members_of members.items) ≡ true }
     ensures put { IfOk result (λ all. members_of all.items

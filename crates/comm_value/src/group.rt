@@ -1,5 +1,5 @@
 // The members of a chunk: one alone stands inline, several stand in a list.
-ghost use Rattle.std.specs.Prelude.{◌≡◌};
+ghost use Rattle.std.specs.Prelude.{◌≡◌, ◌∷◌, [], IfSome};
 ghost use Rattle.comm_value.specs.View.{grouped};
 
 use crate::val::{Group, Member};
@@ -26,6 +26,16 @@ impl Group {
         match self {
             Group::One(member) => slice::from_ref(member),
             Group::Many(members) => members.as_slice(),
+        }
+    }
+
+    /// The member, where it is one.
+    pub(crate) fn alone(&self) -> Option<&Member>
+        ensures { IfSome result (λ m. grouped self.now ≡ m.now ∷ []) }
+    {
+        match self {
+            Group::One(member) => Some(member),
+            Group::Many(_) => None,
         }
     }
 }

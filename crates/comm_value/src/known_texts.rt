@@ -4,10 +4,10 @@ ghost use Rattle.std.specs.Prelude.{◌≡◌, IfOk};
 use crate::text::Text;
 use std::alloc::{AllocError, Global};
 
-/// How many short texts are kept at most, and how many longer ones; powers of two.
-const SHORT_PLACES: usize = 128;
+/// How many short texts are kept at most, and as many longer ones; two to the power of [`PLACE_BITS`].
+const PLACES: usize = 1024;
 
-const LONG_PLACES: usize = 1024;
+const PLACE_BITS: u32 = 10;
 
 /// The longest of the short texts, as keys and the words of a protocol are.
 const LONGEST_SHORT: usize = 24;
@@ -17,8 +17,8 @@ const LONGEST: usize = 40;
 
 /// Texts that were met before, so that the keys and the id of one message are shared with those of the last.
 ///
-/// It is memory alone: [`KnownTexts::text`] gives what it is asked for, whatever is kept. At most 128 texts of up to 24
-/// bytes are kept, and 1,024 of up to 40, until the owner goes.
+/// It is memory alone: [`KnownTexts::text`] gives what it is asked for, whatever is kept. At most 1,024 texts of up to
+/// 24 bytes are kept, and 1,024 of up to 40, until the owner goes.
 #[derive(Drop)]
 pub struct KnownTexts {
     places: Vec<Option<Text>>,
@@ -64,8 +64,8 @@ impl KnownTexts {
     // Keeps a text at a place, in that of the one that is there. Err: out of memory.
     fn keep(&mut self, place: usize, text: Text) -> Result<(), AllocError> {
         if self.places.is_empty() {
-            self.places.reserve(SHORT_PLACES + LONG_PLACES)?;
-            for _ in 0..SHORT_PLACES + LONG_PLACES {
+            self.places.reserve(2 * PLACES)?;
+            for _ in 0..2 * PLACES {
                 self.places.push(None)?;
             }
         }
@@ -76,35 +76,25 @@ impl KnownTexts {
     }
 }
 
-// Where a text is kept: a short one by its length and its first and last byte, a longer one by its last four bytes, in
-// which ids differ.
+// Where a text is kept, by its last four bytes, in which ids differ and numbered keys too, and by its length. The short
+// ones, such as keys and the words of a protocol, have places of their own, which no ids take from them.
 fn place_of(bytes: &[u8]) -> usize {
+    let end = match bytes.last_chunk::<4>() {
+        Some(end) => spread(u32::from_be_bytes(*end)),
+        None => match bytes.last() {
+            Some(byte) => *byte as usize,
+            None => 0,
+        },
+    };
+    let place = end.wrapping_add(bytes.len().wrapping_mul(7)) % PLACES;
     if bytes.len() <= LONGEST_SHORT {
-        short_place_of(bytes) % SHORT_PLACES
+        place
     } else {
-        SHORT_PLACES + long_place_of(bytes) % LONG_PLACES
+        PLACES + place
     }
 }
 
-fn short_place_of(bytes: &[u8]) -> usize {
-    let first = match bytes.first() {
-        Some(byte) => *byte as usize,
-        None => 0,
-    };
-    let last = match bytes.last() {
-        Some(byte) => *byte as usize,
-        None => 0,
-    };
-    bytes
-        .len()
-        .wrapping_mul(31)
-        .wrapping_add(7 * first)
-        .wrapping_add(last)
-}
-
-fn long_place_of(bytes: &[u8]) -> usize {
-    match bytes.last_chunk::<4>() {
-        Some(end) => (u32::from_le_bytes(*end).wrapping_mul(0x9E37_79B1) >> 16) as usize,
-        None => 0,
-    }
+// The highest bits of the product with the golden ratio: numbers that follow each other get places far apart.
+fn spread(number: u32) -> usize {
+    (number.wrapping_mul(0x9E37_79B1) >> (32 - PLACE_BITS)) as usize
 }

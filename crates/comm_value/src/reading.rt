@@ -107,6 +107,7 @@ fn read_items(
 
 // The next member of an object; Some(None) is its end.
 #[cycle(read)]
+#[inline(always)]
 fn read_member(
     alloc: Global,
     numbers: Numbers,

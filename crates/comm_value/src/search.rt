@@ -1,10 +1,41 @@
-ghost use Rattle.std.specs.Prelude.{◌≡◌, ◌<◌, ◌≤◌, true, IfOk, IfErr, length, take, drop};
+ghost use Rattle.std.specs.Prelude.{◌≡◌, ◌<◌, ◌≤◌, true, IfOk, IfErr, length, take, drop, option_map};
 ghost use Rattle.comm_value.specs.Order.{members_ordered};
-ghost use Rattle.comm_value.specs.View.{members_of};
+ghost use Rattle.comm_value.specs.View.{tree, members_of};
+ghost use Rattle.comm_value.specs.Node.{get};
 ghost use Rattle.comm_value.specs.Search.{AllBelow, IsFound, IsAbsent};
 
-use crate::val::Member;
+use crate::val::{Member, Val};
 use std::cmp::Ordering;
+
+// So many members are looked through one by one for a key: most texts that differ from it do so in their length, so
+// that this is quicker than a search by their order.
+const FEW: usize = 4;
+
+/// The value of the member with the key. None: no member has it.
+pub(crate) fn value_of<'a>(members: &'a [Member], key: &str) -> Option<&'a Val>
+    requires { members_ordered (members_of members.now) ≡ true }
+    ensures { option_map (λ v. tree v.now) result ≡ get key.now (members_of members.now) }
+{
+    if members.len() <= FEW {
+        return value_among(members, key);
+    }
+    match place_of(members, key) {
+        Ok(i) => Some(&members[i].value),
+        Err(_) => None,
+    }
+}
+
+// The same, one member after another.
+fn value_among<'a>(members: &'a [Member], key: &str) -> Option<&'a Val>
+    ensures { option_map (λ v. tree v.now) result ≡ get key.now (members_of members.now) }
+{
+    for member in members {
+        if member.key.is(key) {
+            return Some(&member.value);
+        }
+    }
+    None
+}
 
 /// Binary search. Ok: the index of the member with the key. Err: the index at which it would be inserted.
 pub(crate) fn place_of(members: &[Member], key: &str) -> Result<usize, usize>
