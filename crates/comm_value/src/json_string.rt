@@ -1,10 +1,9 @@
 // Strings as JSON text.
-ghost use Rattle.std.specs.Prelude.{◌≡◌, ◌+◌, ◌<◌, ◌≤◌, [], ◌∷◌, ◌++◌, length, OnOk};
+ghost use Rattle.std.specs.Prelude.{◌≡◌, ◌+◌, ◌-◌, ◌<◌, ◌≤◌, [], ◌∷◌, ◌++◌, length, take, drop, OnOk};
 ghost use Rattle.std.specs.Bool.{OnTrue, OnFalse};
 ghost use Rattle.std.specs.Char.{digit_char};
 ghost use Rattle.json.specs.Print.{escape_letter, escape_byte, escape, quoted};
 ghost use Rattle.json.specs.Written.{PlainBetween};
-ghost use Rattle.serde_json.specs.Written.{comma_if};
 
 use std::alloc::AllocError;
 use std::simd::Simd;
@@ -14,37 +13,46 @@ use std::simd::Simd;
 pub fn write_text(text: &str, out: &mut Vec<u8>) -> Result<(), AllocError>
     ensures { OnOk result (out.new.items ≡ out.old.items ++ quoted text.now) }
 {
+    let bytes = text.as_bytes();
+    if !is_plain(bytes) {
+        return write_quoted_escapes(bytes, out);
+    }
+    out.reserve(bytes.len() + 2)?;
+    out.push_reserved(b'"');
+    out.extend_from_slice(bytes)?;
+    out.push_reserved(b'"');
+    Ok(())
+}
+
+#[inline(never)]
+fn write_quoted_escapes(bytes: &[u8], out: &mut Vec<u8>) -> Result<(), AllocError>
+    ensures { OnOk result (out.new.items ≡ out.old.items ++ 34 ∷ (escape bytes.now ++ 34 ∷ [])) }
+{
     out.push(b'"')?;
-    write_content(text.as_bytes(), out)?;
+    write_escaped(bytes, out)?;
     Ok(out.push(b'"')?)
 }
 
-/// Appends a member's key with its colon, and a comma before it where another member stands there. Err: out of memory;
+/// Appends a member's key with its colon, and before it the comma or the bracket that stands there. Err: out of memory;
 /// `out` may hold a part of it.
 #[inline(always)]
-pub fn write_key(later: bool, key: &str, out: &mut Vec<u8>) -> Result<(), AllocError>
+pub fn write_key(first: u8, key: &str, out: &mut Vec<u8>) -> Result<(), AllocError>
     ensures { OnOk result (out.new.items
-        ≡ out.old.items ++ (comma_if later ++ (quoted key.now ++ 58 ∷ []))) }
+        ≡ out.old.items ++ first ∷ (quoted key.now ++ 58 ∷ [])) }
 {
-    if later {
-        out.extend_from_slice(b",\"")?;
-    } else {
-        out.push(b'"')?;
+    let bytes = key.as_bytes();
+    if !is_plain(bytes) {
+        out.push(first)?;
+        write_quoted_escapes(bytes, out)?;
+        return Ok(out.push(b':')?);
     }
-    write_content(key.as_bytes(), out)?;
-    out.extend_from_slice(b"\":")
-}
-
-// Appends the bytes with their escapes. Most have none, so that way alone is inlined.
-#[inline(always)]
-fn write_content(bytes: &[u8], out: &mut Vec<u8>) -> Result<(), AllocError>
-    ensures { OnOk result (out.new.items ≡ out.old.items ++ escape bytes.now) }
-{
-    if is_plain(bytes) {
-        out.extend_from_slice(bytes)
-    } else {
-        write_escaped(bytes, out)
-    }
+    out.reserve(bytes.len() + 4)?;
+    out.push_reserved(first);
+    out.push_reserved(b'"');
+    out.extend_from_slice(bytes)?;
+    out.push_reserved(b'"');
+    out.push_reserved(b':');
+    Ok(())
 }
 
 // Whether no byte needs an escape, as in most strings. Two vectors that overlap cover one of up to 64 bytes.
@@ -116,20 +124,38 @@ fn plain_at<const N: usize>(bytes: &[u8], at: usize) -> bool
 }
 
 // Bytes between two escapes are appended at once.
-#[inline(never)]
 fn write_escaped(bytes: &[u8], out: &mut Vec<u8>) -> Result<(), AllocError>
     ensures { OnOk result (out.new.items ≡ out.old.items ++ escape bytes.now) }
 {
-    let mut start = 0;
-    for i in 0..bytes.len() {
-        let byte = bytes[i];
-        if needs_escape(byte) {
-            out.extend_from_slice(&bytes[start..i])?;
-            write_escape(byte, out)?;
-            start = i + 1;
+    let mut at = 0;
+    while at < bytes.len() {
+        let end = plain_end(bytes, at);
+        out.extend_from_slice(&bytes[at..end])?;
+        at = end;
+        if at < bytes.len() {
+            write_escape(bytes[at], out)?;
+            at += 1;
         }
     }
-    out.extend_from_slice(&bytes[start..])
+    Ok(())
+}
+
+// An end of bytes from `from` on that need no escape, eight at a time where there are as many.
+#[inline(always)]
+fn plain_end(bytes: &[u8], from: usize) -> usize
+    requires { from ≤ length bytes.now }
+    ensures within { (from ≤ result) × (result ≤ length bytes.now) }
+    ensures plain { escape (drop from bytes.now)
+        ≡ take (result - from) (drop from bytes.now) ++ escape (drop result bytes.now) }
+{
+    let mut at = from;
+    while bytes.len() - at >= 8 && plain_at::<8>(bytes, at) {
+        at += 8;
+    }
+    while at < bytes.len() && !needs_escape(bytes[at]) {
+        at += 1;
+    }
+    at
 }
 
 #[tactic(auto, unfolding(json::specs::Print::escape_byte))]

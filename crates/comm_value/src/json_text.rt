@@ -1,8 +1,8 @@
 // Values as JSON text.
-ghost use Rattle.std.specs.Prelude.{◌≡◌, [], ◌∷◌, ◌++◌, false, OnOk};
+ghost use Rattle.std.specs.Prelude.{◌≡◌, [], ◌∷◌, ◌++◌, false, if◌then◌else◌, OnOk, decimal};
 ghost use Rattle.json.specs.Json.{object};
 ghost use Rattle.serde_json.specs.Find.{of_integer};
-ghost use Rattle.serde_json.specs.Written.{comma_if, number_text};
+ghost use Rattle.serde_json.specs.Written.{number_text};
 ghost use Rattle.comm_json.specs.Text.{compact_text, items_text, members_text};
 ghost use Rattle.comm_value.specs.ToJson.{json_of, json_items, json_members};
 ghost use Rattle.comm_value.specs.View.{tree};
@@ -39,21 +39,31 @@ fn write_whole(whole: Whole, out: &mut Vec<u8>) -> Result<(), AllocError>
     ensures { OnOk result (out.new.items ≡ out.old.items ++ number_text (of_integer whole)) }
 {
     let number = whole.get();
-    let mut buffer = Buffer::new();
     if number >= 0 {
-        out.extend_from_slice(buffer.format(number as u64).as_bytes())
-    } else {
-        out.extend_from_slice(buffer.format(number as i64).as_bytes())
+        return write_number(number as u64, out);
     }
+    let mut buffer = Buffer::new();
+    out.extend_from_slice(buffer.format(number as i64).as_bytes())
 }
 
-fn write_comma(later: bool, out: &mut Vec<u8>) -> Result<(), AllocError>
-    ensures { OnOk result (out.new.items ≡ out.old.items ++ comma_if later) }
+// A single digit needs no buffer.
+#[inline(always)]
+fn write_number(number: u64, out: &mut Vec<u8>) -> Result<(), AllocError>
+    ensures { OnOk result (out.new.items ≡ out.old.items ++ decimal number) }
 {
-    if later {
-        out.push(b',')?;
+    if number < 10 {
+        return Ok(out.push(b'0' + number as u8)?);
     }
-    Ok(())
+    let mut buffer = Buffer::new();
+    out.extend_from_slice(buffer.format(number).as_bytes())
+}
+
+// What stands before an item or a member: the bracket that opens the whole, or a comma.
+#[inline(always)]
+fn first_byte(later: bool, bracket: u8) -> u8
+    ensures { result ≡ (if later then 44 else bracket) }
+{
+    if later { b',' } else { bracket }
 }
 
 #[cycle(json_text)]
@@ -79,12 +89,14 @@ fn write_items(items: &Items, out: &mut Vec<u8>) -> Result<(), AllocError>
     ensures { OnOk result
         (out.new.items ≡ out.old.items ++ 91 ∷ items_text false (json_items items.now)) }
 {
-    out.push(b'[')?;
     let mut later = false;
     for item in items.as_slice() {
-        write_comma(later, out)?;
+        out.push(first_byte(later, b'['))?;
         write_value(item, out)?;
         later = true;
+    }
+    if !later {
+        return out.extend_from_slice(b"[]");
     }
     Ok(out.push(b']')?)
 }
@@ -94,14 +106,16 @@ fn write_members(dict: &Dict, out: &mut Vec<u8>) -> Result<(), AllocError>
     ensures { OnOk result
         (out.new.items ≡ out.old.items ++ 123 ∷ members_text false (json_members dict.now)) }
 {
-    out.push(b'{')?;
     let mut later = false;
     for chunk in dict.chunks() {
         for member in chunk.as_slice() {
-            write_key(later, member.key.as_str(), out)?;
+            write_key(first_byte(later, b'{'), member.key.as_str(), out)?;
             write_value(&member.value, out)?;
             later = true;
         }
+    }
+    if !later {
+        return out.extend_from_slice(b"{}");
     }
     Ok(out.push(b'}')?)
 }
