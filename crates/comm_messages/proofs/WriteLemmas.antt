@@ -1,7 +1,8 @@
 -- Texts that are written one after the other.
-use Rattle.std.proofs.Common.{◌≡◌, ◌+◌, ◌<◌, ℕ, suc, Bool, true, false, nat_lt, List, ◌∷◌, ◌++◌, length, get_or, drop, refl, sym, ap, ◌∙◌, arith, append_assoc, codes}
+use Rattle.std.proofs.Common.{◌≡◌, ◌+◌, ◌<◌, ℕ, suc, Bool, true, false, nat_lt, List, [], ◌∷◌, ◌++◌, length, get_or, drop, refl, sym, ap, ◌∙◌, arith, append_assoc, codes, decimal}
 use Rattle.std.proofs.lemmas.Bool.{lt-ltb}
 use Rattle.std.proofs.Math.Seq.{drop-cons}
+use Rattle.std.proofs.lemmas.Fmt.{decimal_digit}
 use Rattle.base64.specs.GeneralPurpose.{encode_of}
 use Rattle.base64.specs.Engines.{standard}
 use Rattle.json.specs.Print.{quoted}
@@ -51,6 +52,15 @@ pub text_in_parts : (message : Outgoing) (parent : Parent) →
 unfolding text serde_json_on_literals
 text_in_parts message (Call client number) = simp append_assoc
 text_in_parts message (Read client front) = simp append_assoc
+
+pub bare_msg : (id : List ℕ) (body : Content) (client number : ℕ) → body.buffers ≡ [] → text (Msg id body) (Call client number)
+    ≡ codes "{\"buffers\":[],\"call\":" ++ (decimal number ++ ((codes ",\"client\":" ++ decimal client) ++ (codes ",\"content\":{\"comm_id\":" ++ (quoted id
+    ++ ((codes ",\"data\":" ++ compact_text (object (json_members body.content))) ++ codes "},\"header\":{\"msg_type\":\"comm_msg\"},\"metadata\":{}}")))))
+unfolding text serde_json_on_literals
+bare_msg id body client number none = rw none (simp append_assoc)
+
+pub digit_written : (old new : List ℕ) (n : ℕ) → n < 10 → new ≡ old ++ (48 + n) ∷ [] → GrowsBy old (decimal n) new
+digit_written old new n small is = record { is = is ∙ ap (λ l. old ++ l) (sym (decimal_digit n small)) }
 
 pub same_part : {old part other new : List ℕ} → part ≡ other → GrowsBy old other new → GrowsBy old part new
 same_part {old} {part} {other} {new} e h = record { is = h.is ∙ ap (λ l. old ++ l) (sym e) }

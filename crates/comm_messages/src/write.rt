@@ -6,6 +6,8 @@ ghost use Rattle.serde_json.specs.Written.{comma_if};
 ghost use Rattle.comm_json.specs.Text.{items_text, members_text, compact_text};
 ghost use Rattle.json.specs.Json.{object};
 ghost use Rattle.comm_value.specs.ToJson.{json_members};
+ghost use Rattle.comm_messages.specs.declared.outgoing.Outgoing.TheVariants as outgoing;
+ghost use Rattle.comm_messages.specs.declared.outgoing.Parent.TheVariants as parents;
 ghost use Rattle.comm_messages.specs.Text.{text, buffer_texts, comm_members, goes_with};
 ghost use Rattle.comm_messages.specs.Parts.{GrowsBy, buffers_text, parent_text, front_text};
 ghost use Rattle.comm_messages.specs.Parts.{content_text, info_text, metadata_text, end_text, ids_text};
@@ -41,6 +43,13 @@ pub fn append_message(
 ) -> Result<(), AllocError>
     ensures { OnOk result (out.new.items ≡ out.old.items ++ text message.now parent.now) }
 {
+    if let Outgoing::Msg { id, body } = message
+        && let Parent::Call { client, number } = parent
+        && body.buffers().as_slice().is_empty()
+    {
+        append_bare_msg(*client, *number, id, body, out)?;
+        return Ok(());
+    }
     append(b"{\"buffers\":[", out)?;
     append_buffers_of(alloc, message, out)?;
     append_parent(parent, out)?;
@@ -48,6 +57,31 @@ pub fn append_message(
     append_content(message, out)?;
     append_front(parent, out)?;
     append_end(message, out)?;
+    Ok(())
+}
+
+// A call's message without buffers, as most are: its text in fewer pieces.
+fn append_bare_msg(
+    client: u8,
+    number: u64,
+    id: &Text,
+    body: &OutgoingBody,
+    out: &mut Vec<u8>,
+) -> Result<(), AllocError>
+    requires { body.now.buffers ≡ [] }
+    ensures { OnOk result (GrowsBy out.old.items
+        (text (outgoing.Msg id.now body.now) (parents.Call client number)) out.new.items) }
+{
+    append(b"{\"buffers\":[],\"call\":", out)?;
+    append_number(number, out)?;
+    append_client(client, out)?;
+    append(b",\"content\":{\"comm_id\":", out)?;
+    append_text(id, out)?;
+    append_data(body, out)?;
+    append(
+        b"},\"header\":{\"msg_type\":\"comm_msg\"},\"metadata\":{}}",
+        out,
+    )?;
     Ok(())
 }
 
@@ -225,6 +259,7 @@ fn append_end(message: &Outgoing, out: &mut Vec<u8>) -> Result<(), AllocError>
     Ok(())
 }
 
+#[inline(always)]
 fn append(bytes: &[u8], out: &mut Vec<u8>) -> Result<(), AllocError>
     ensures { OnOk result (GrowsBy out.old.items bytes.now out.new.items) }
 {
@@ -250,6 +285,9 @@ fn append_comma(number: usize, out: &mut Vec<u8>) -> Result<(), AllocError>
 fn append_number(number: u64, out: &mut Vec<u8>) -> Result<(), AllocError>
     ensures { OnOk result (GrowsBy out.old.items (decimal number) out.new.items) }
 {
+    if number < 10 {
+        return Ok(out.push(b'0' + number as u8)?); // Such as a client's.
+    }
     let mut buffer = itoa::Buffer::new();
     out.extend_from_slice(buffer.format(number).as_bytes())
 }
