@@ -343,7 +343,7 @@ fn push_copies(members: &[Member], all: &mut Vec<Member>) -> Result<(), AllocErr
 }
 
 /// The members with the new one inserted in the order of keys, or in place of the one with its key.
-#[inline]
+#[inline(always)]
 pub(crate) fn put_member(members: Vec<Member>, member: Member) -> Result<Vec<Member>, AllocError>
     requires { members_ordered (members_of members.items) ≡ true }
     ensures put { IfOk result (λ all. members_of all.items

@@ -44,6 +44,7 @@ fn read_number(alloc: Global, numbers: Numbers, text: &str) -> Option<Val>
 }
 
 #[cycle(read)]
+#[inline(always)]
 fn read_val(
     alloc: Global,
     numbers: Numbers,
@@ -164,6 +165,7 @@ fn both(alloc: Global, first: Member, second: Member) -> Result<Vec<Member>, All
 
 // The dict of these members and of those that follow them.
 #[cycle(read)]
+#[inline(always)]
 fn read_rest(
     alloc: Global,
     numbers: Numbers,
