@@ -1,5 +1,5 @@
 -- A key sought among a few members, one after another.
-use Rattle.std.proofs.Common.{◌≡◌, ◌↔◌, ℕ, ◌<◌, ◌≤◌, ◌+◌, List, length, get_or, take, drop, ◌∷◌, Option, Some, None, Bool, IsTrue, true, false, is_eq, bytes_eq, refl, sym, ap, ◌∙◌, Bor}
+use Rattle.std.proofs.Common.{◌≡◌, ◌↔◌, ℕ, ◌<◌, ◌≤◌, ◌+◌, List, length, get_or, drop, ◌∷◌, Option, Some, None, Bool, IsTrue, true, false, is_eq, bytes_eq, refl, sym, ap, ◌∙◌, Bor}
 use Rattle.std.specs.Prelude.{if◌then◌else◌, IfSome, option_map}
 use Rattle.std.proofs.lemmas.Cmp.{nat_list_cmp_total, tied_itself}
 use Rattle.std.proofs.lemmas.List.{drop_all}
