@@ -1,6 +1,6 @@
 //! How a row changes the comms in chunks: it changes the one chunk that it concerns, or a copy of that chunk where it
 //! is shared.
-ghost use Rattle.std.specs.Prelude.{◌≡◌, ◌+◌, ◌<◌, ◌++◌, IfOk, Ok, OnOk, length, take, drop};
+ghost use Rattle.std.specs.Prelude.{◌≡◌, ◌+◌, ◌<◌, ◌++◌, Ok, OnOk, length, take, drop};
 ghost use Rattle.std.specs.Arc.{arc_value};
 ghost use Rattle.comm_core.specs.Machine.{without};
 ghost use Rattle.comm_core.specs.Row.{with_row, without_all};
@@ -51,48 +51,56 @@ fn put_into(
     }
 }
 
+// Whether a comm may be put at this position as the chunks are: it replaces another, or its chunk has room.
+fn fits(chunks: &[CommChunk], position: Position) -> bool
+    requires { position.chunk < length chunks.now }
+{
+    position.at.is_ok() || chunks[position.chunk].len() < longest(chunks.len())
+}
+
 // Inserts the comm at its position, or replaces the one of its id.
 fn put_at(
     alloc: Global,
-    chunks: Vec<CommChunk>,
+    chunks: &mut Vec<CommChunk>,
     position: Position,
     comm: PrefixedComm,
-) -> Result<Vec<CommChunk>, AllocError>
-    requires filled { AllChunksFilled chunks.items }
-    requires position { IsPosition chunks.items comm.0 position }
-    ensures upsert { IfOk result (λ all. comms_in all.items ≡ upsert (comms_in chunks.items) comm) }
-    ensures filled { IfOk result (λ all. AllChunksFilled all.items) }
+) -> Result<(), AllocError>
+    requires filled { AllChunksFilled chunks.old.items }
+    requires position { IsPosition chunks.old.items comm.0 position }
+    ensures upsert { OnOk result
+        (comms_in chunks.new.items ≡ upsert (comms_in chunks.old.items) comm) }
+    ensures filled { OnOk result (AllChunksFilled chunks.new.items) }
 {
-    let mut all = chunks;
-    let comms = all[position.chunk].as_slice();
-    if comms.len() < longest(all.len()) {
-        put_into(alloc, &mut all[position.chunk], position.at, comm)?;
-        return Ok(all);
+    if fits(chunks.as_slice(), position) {
+        put_into(alloc, &mut chunks[position.chunk], position.at, comm)?;
+        return Ok(());
     }
+    let comms = chunks[position.chunk].as_slice();
     let changed = with_comm(alloc, comms, position.at, comm)?;
-    set_chunk(alloc, all, position.chunk, changed)
+    set_chunk(alloc, chunks, position.chunk, changed)?;
+    Ok(())
 }
 
 // Inserts the comm where the byte order wants it, or replaces the one of its id.
 fn put_in(
     alloc: Global,
-    chunks: Vec<CommChunk>,
+    chunks: &mut Vec<CommChunk>,
     comm: PrefixedComm,
     hint: Option<Position>,
-) -> Result<Vec<CommChunk>, AllocError>
-    requires filled { AllChunksFilled chunks.items }
-    requires ordered { IsInOrder (comms_in chunks.items) }
-    ensures upsert { IfOk result (λ all. comms_in all.items ≡ upsert (comms_in chunks.items) comm) }
-    ensures filled { IfOk result (λ all. AllChunksFilled all.items) }
+) -> Result<(), AllocError>
+    requires filled { AllChunksFilled chunks.old.items }
+    requires ordered { IsInOrder (comms_in chunks.old.items) }
+    ensures upsert { OnOk result
+        (comms_in chunks.new.items ≡ upsert (comms_in chunks.old.items) comm) }
+    ensures filled { OnOk result (AllChunksFilled chunks.new.items) }
 {
-    let mut all = chunks;
-    match position_of(all.as_slice(), comm.comm().id(), hint) {
-        Some(position) => put_at(alloc, all, position, comm),
+    match position_of(chunks.as_slice(), comm.comm().id(), hint) {
+        Some(position) => put_at(alloc, chunks, position, comm),
         None => {
             let mut first = Vec::with_capacity(alloc, 1)?;
             first.push(comm)?;
-            all.push(Arc::new(alloc, first)?)?;
-            Ok(all)
+            chunks.push(Arc::new(alloc, first)?)?;
+            Ok(())
         }
     }
 }
@@ -120,89 +128,92 @@ fn take_from(alloc: Global, chunk: &mut CommChunk, i: usize) -> Result<(), Alloc
 // Removes the comm of this id, which stands at index i of the chunk at `place`.
 fn take_at(
     alloc: Global,
-    chunks: Vec<CommChunk>,
+    chunks: &mut Vec<CommChunk>,
     id: &Text,
     place: usize,
     i: usize,
-) -> Result<Vec<CommChunk>, AllocError>
-    requires filled { AllChunksFilled chunks.items }
-    requires ordered { IsInOrder (comms_in chunks.items) }
-    requires position { IsPosition chunks.items id.now (record { chunk = place; at = Ok i }) }
-    ensures out { IfOk result (λ all. comms_in all.items ≡ without (comms_in chunks.items) id.now) }
-    ensures filled { IfOk result (λ all. AllChunksFilled all.items) }
+) -> Result<(), AllocError>
+    requires filled { AllChunksFilled chunks.old.items }
+    requires ordered { IsInOrder (comms_in chunks.old.items) }
+    requires position { IsPosition chunks.old.items id.now (record { chunk = place; at = Ok i }) }
+    ensures out { OnOk result
+        (comms_in chunks.new.items ≡ without (comms_in chunks.old.items) id.now) }
+    ensures filled { OnOk result (AllChunksFilled chunks.new.items) }
 {
-    let mut all = chunks;
-    if all[place].len() == 1 {
-        all.remove(place);
-        return Ok(all);
+    if chunks[place].len() == 1 {
+        chunks.remove(place);
+        return Ok(());
     }
-    take_from(alloc, &mut all[place], i)?;
-    Ok(all)
+    take_from(alloc, &mut chunks[place], i)?;
+    Ok(())
 }
 
 // Removes the comm of this id, if there is one, and joins its chunk to a neighbour where both are short.
 fn take_out(
     alloc: Global,
-    chunks: Vec<CommChunk>,
+    chunks: &mut Vec<CommChunk>,
     id: &Text,
     hint: Option<Position>,
-) -> Result<Vec<CommChunk>, AllocError>
-    requires filled { AllChunksFilled chunks.items }
-    requires ordered { IsInOrder (comms_in chunks.items) }
-    ensures out { IfOk result (λ all. comms_in all.items ≡ without (comms_in chunks.items) id.now) }
-    ensures filled { IfOk result (λ all. AllChunksFilled all.items) }
+) -> Result<(), AllocError>
+    requires filled { AllChunksFilled chunks.old.items }
+    requires ordered { IsInOrder (comms_in chunks.old.items) }
+    ensures out { OnOk result
+        (comms_in chunks.new.items ≡ without (comms_in chunks.old.items) id.now) }
+    ensures filled { OnOk result (AllChunksFilled chunks.new.items) }
 {
     let Some(position) = position_of(chunks.as_slice(), id, hint) else {
-        return Ok(chunks);
+        return Ok(());
     };
     match position.at {
         Ok(i) => {
-            let all = take_at(alloc, chunks, id, position.chunk, i)?;
-            let all = join_chunks(alloc, all, position.chunk)?;
-            join_chunks(alloc, all, position.chunk.saturating_sub(1))
+            take_at(alloc, chunks, id, position.chunk, i)?;
+            join_chunks(alloc, chunks, position.chunk)?;
+            Ok(())
         }
-        Err(_) => Ok(chunks),
+        Err(_) => Ok(()),
     }
 }
 
 // Removes the comms of these ids.
 fn take_all(
     alloc: Global,
-    chunks: Vec<CommChunk>,
+    chunks: &mut Vec<CommChunk>,
     ids: &[Text],
     hint: Option<Position>,
-) -> Result<Vec<CommChunk>, AllocError>
-    requires filled { AllChunksFilled chunks.items }
-    requires ordered { IsInOrder (comms_in chunks.items) }
-    ensures out { IfOk result (λ all.
-        comms_in all.items ≡ without_all ids.now (comms_in chunks.items)) }
-    ensures filled { IfOk result (λ all. AllChunksFilled all.items) }
+) -> Result<(), AllocError>
+    requires filled { AllChunksFilled chunks.old.items }
+    requires ordered { IsInOrder (comms_in chunks.old.items) }
+    ensures out { OnOk result
+        (comms_in chunks.new.items ≡ without_all ids.now (comms_in chunks.old.items)) }
+    ensures filled { OnOk result (AllChunksFilled chunks.new.items) }
 {
-    let mut all = chunks;
     for id in ids {
-        all = take_out(alloc, all, id, hint)?;
+        take_out(alloc, chunks, id, hint)?;
     }
-    Ok(all)
+    Ok(())
 }
 
-/// The chunks after this row. The hint is where the first comm of the row may stand, or would; a wrong hint costs a
-/// search. Err: memory.
-pub fn after_row(
+/// Applies the row to the chunks. The hint is where the first comm of the row may stand, or would; a wrong hint costs a
+/// search. After an Err (memory) the chunks are of no use.
+pub fn apply_row(
     alloc: Global,
-    chunks: Vec<CommChunk>,
+    chunks: &mut Vec<CommChunk>,
     row: &Row,
     hint: Option<Position>,
-) -> Result<Vec<CommChunk>, AllocError>
-    requires filled { AllChunksFilled chunks.items }
-    requires ordered { IsInOrder (comms_in chunks.items) }
-    ensures comms_in { IfOk result (λ all.
-        comms_in all.items ≡ with_row row.now (comms_in chunks.items)) }
-    ensures filled { IfOk result (λ all. AllChunksFilled all.items) }
+) -> Result<(), AllocError>
+    requires filled { AllChunksFilled chunks.old.items }
+    requires ordered { IsInOrder (comms_in chunks.old.items) }
+    ensures comms_in { OnOk result
+        (comms_in chunks.new.items ≡ with_row row.now (comms_in chunks.old.items)) }
+    ensures filled { OnOk result (AllChunksFilled chunks.new.items) }
 {
     match row {
-        Row::Same => Ok(chunks),
+        Row::Same => Ok(()),
         Row::Put(comm) => put_in(alloc, chunks, PrefixedComm::new(comm.copy()?), hint),
         Row::Out(ids) => take_all(alloc, chunks, ids.as_slice(), hint),
-        Row::Clear => Ok(Vec::new(alloc)),
+        Row::Clear => {
+            *chunks = Vec::new(alloc);
+            Ok(())
+        }
     }
 }

@@ -1,5 +1,5 @@
 //! Comms in chunks of a bounded length.
-ghost use Rattle.std.specs.Prelude.{◌≡◌, ◌+◌, ◌<◌, ◌≤◌, ◌++◌, ◌∷◌, [], IfOk, OnOk, length, take, drop};
+ghost use Rattle.std.specs.Prelude.{◌≡◌, ◌+◌, ◌<◌, ◌≤◌, ◌++◌, ◌∷◌, [], IfOk, OnOk, length, take, drop, true};
 ghost use Rattle.comm_versions.specs.Chunks.{AllChunksFilled, StandsAt, comms_in, upsert};
 
 use crate::prefixed_comm::PrefixedComm;
@@ -98,58 +98,76 @@ pub fn without_at(
 /// Puts these comms, if there are any, in place of the chunk there, as two chunks if they are too many. Err: memory.
 pub fn set_chunk(
     alloc: Global,
-    chunks: Vec<CommChunk>,
+    chunks: &mut Vec<CommChunk>,
     place: usize,
     comms: Vec<PrefixedComm>,
-) -> Result<Vec<CommChunk>, AllocError>
-    requires within { place < length chunks.items }
-    requires filled { AllChunksFilled chunks.items }
-    ensures comms_in { IfOk result (λ all.
-        comms_in all.items
-        ≡ comms_in (take place chunks.items)
-        ++ (comms.items ++ comms_in (drop (place + 1) chunks.items))) }
-    ensures filled { IfOk result (λ all. AllChunksFilled all.items) }
+) -> Result<(), AllocError>
+    requires within { place < length chunks.old.items }
+    requires filled { AllChunksFilled chunks.old.items }
+    ensures comms_in { OnOk result
+        (comms_in chunks.new.items
+        ≡ comms_in (take place chunks.old.items)
+        ++ (comms.items ++ comms_in (drop (place + 1) chunks.old.items))) }
+    ensures filled { OnOk result (AllChunksFilled chunks.new.items) }
 {
-    let mut all = chunks;
     let mut head = comms;
-    all.remove(place);
+    chunks.remove(place);
     if head.is_empty() {
-        return Ok(all);
+        return Ok(());
     }
-    let most = longest(all.len());
+    let most = longest(chunks.len());
     if head.len() > most {
         let tail = head.split_off(head.len() / 2)?;
-        all.insert(place, Arc::new(alloc, tail)?)?;
+        chunks.insert(place, Arc::new(alloc, tail)?)?;
     }
-    all.insert(place, Arc::new(alloc, head)?)?;
-    Ok(all)
+    chunks.insert(place, Arc::new(alloc, head)?)?;
+    Ok(())
 }
 
-/// Makes one chunk of the one at this place and the next, where both together are half a chunk at most. So there
-/// aren't many more chunks than the comms need, whatever was closed. Err: memory.
-pub fn join_chunks(
-    alloc: Global,
-    chunks: Vec<CommChunk>,
-    place: usize,
-) -> Result<Vec<CommChunk>, AllocError>
-    requires { AllChunksFilled chunks.items }
-    ensures comms_in { IfOk result (λ all. comms_in all.items ≡ comms_in chunks.items) }
-    ensures filled { IfOk result (λ all. AllChunksFilled all.items) }
+// Whether there is a chunk at this place, and one behind it, which are half a chunk at most together.
+fn are_short(chunks: &[CommChunk], place: usize) -> bool
+    ensures { result ≡ true → place + 1 < length chunks.now }
 {
-    let all = chunks.as_slice();
-    if all.len() < 2 || all.len() - 2 < place {
-        return Ok(chunks);
+    if chunks.len() < 2 || chunks.len() - 2 < place {
+        return false;
     }
-    let first = all[place].as_slice();
-    let second = all[place + 1].as_slice();
-    let short = longest(all.len()) / 2;
-    if short < first.len() + second.len() {
-        return Ok(chunks);
-    }
-    let mut both = Vec::with_capacity(alloc, short)?;
+    chunks[place].len() + chunks[place + 1].len() <= longest(chunks.len()) / 2
+}
+
+// Makes one chunk of the one at this place and the next.
+fn join_two(alloc: Global, chunks: &mut Vec<CommChunk>, place: usize) -> Result<(), AllocError>
+    requires within { place + 1 < length chunks.old.items }
+    requires filled { AllChunksFilled chunks.old.items }
+    ensures comms_in { OnOk result (comms_in chunks.new.items ≡ comms_in chunks.old.items) }
+    ensures filled { OnOk result (AllChunksFilled chunks.new.items) }
+{
+    let first = chunks[place].as_slice();
+    let second = chunks[place + 1].as_slice();
+    let mut both = Vec::with_capacity(alloc, first.len() + second.len())?;
     copy_all(first, &mut both)?;
     copy_all(second, &mut both)?;
-    let mut rest = chunks;
-    rest.remove(place);
-    set_chunk(alloc, rest, place, both)
+    chunks.remove(place);
+    set_chunk(alloc, chunks, place, both)?;
+    Ok(())
+}
+
+/// Joins the chunk at this place to the next, or to the one before, where both together are half a chunk at most. So
+/// there aren't many more chunks than the comms need, whatever was closed. Err: memory.
+pub fn join_chunks(
+    alloc: Global,
+    chunks: &mut Vec<CommChunk>,
+    place: usize,
+) -> Result<(), AllocError>
+    requires { AllChunksFilled chunks.old.items }
+    ensures comms_in { OnOk result (comms_in chunks.new.items ≡ comms_in chunks.old.items) }
+    ensures filled { OnOk result (AllChunksFilled chunks.new.items) }
+{
+    if are_short(chunks.as_slice(), place) {
+        join_two(alloc, chunks, place)?;
+    }
+    let before = place.saturating_sub(1);
+    if are_short(chunks.as_slice(), before) {
+        join_two(alloc, chunks, before)?;
+    }
+    Ok(())
 }

@@ -6,16 +6,15 @@ ghost use Rattle.comm_core.specs.Row.{with_row};
 ghost use Rattle.comm_versions.specs.Listing.{ListAlike};
 ghost use Rattle.comm_versions.specs.Chunks.{comms_in};
 
-use crate::changing::after_row;
+use crate::changing::apply_row;
 use crate::chunks::share_chunks;
-use crate::position::{Position, position_of};
+use crate::position::{Position, find_position};
 use crate::prefixed_comm::PrefixedComm;
 use crate::row_effect::{RowEffect, first_position, put_effect};
 use crate::search::CommChunk;
 use comm_core::{OpenComm, Row, StateAnswer};
 use comm_messages::{Info, Infos};
 use comm_value::{Dict, Text};
-use core::mem;
 use std::alloc::{AllocError, Global};
 use std::marker::Model;
 
@@ -118,9 +117,13 @@ impl CommTable {
     ) -> Result<(), AllocError>
         ensures { OnOk result (self.new ≡ with_row row.now self.old) }
     {
-        let chunks = mem::replace(&mut self.chunks, Vec::new(alloc));
-        self.chunks = after_row(alloc, chunks, row, hint)?;
-        Ok(())
+        match apply_row(alloc, &mut self.chunks, row, hint) {
+            Ok(()) => Ok(()),
+            Err(fault) => {
+                self.chunks = Vec::new(alloc);
+                Err(fault)
+            }
+        }
     }
 
     /// A copy that shares the chunks: it costs a pointer for each. Err: memory.
@@ -135,7 +138,7 @@ impl CommTable {
     fn get(&self, id: &Text) -> Option<&OpenComm>
         ensures { option_map (λ c. c.now.1) result ≡ at self.now id.now }
     {
-        let position = position_of(self.chunks.as_slice(), id, None)?;
+        let position = find_position(self.chunks.as_slice(), id)?;
         match position.at {
             Ok(i) => Some(self.chunks[position.chunk][i].comm()),
             Err(_) => None,

@@ -24,7 +24,7 @@ fn is_found(chunks: &[CommChunk], id: &Text, chunk: usize, i: usize) -> bool
         return false;
     }
     let comms = chunks[chunk].as_slice();
-    i < comms.len() && comms[i].order(&id_prefix(id), id).is_eq()
+    i < comms.len() && id == comms[i].comm().id()
 }
 
 // Whether the id is below those of the chunks from this one on.
@@ -61,6 +61,7 @@ fn is_gap(chunks: &[CommChunk], id: &Text, chunk: usize, i: usize) -> bool
 }
 
 // Whether this is the position of the id.
+#[inline(always)]
 fn is_position(chunks: &[CommChunk], id: &Text, position: Position) -> bool
     requires filled { AllChunksFilled chunks.now }
     requires ordered { IsInOrder (comms_in chunks.now) }
@@ -72,21 +73,8 @@ fn is_position(chunks: &[CommChunk], id: &Text, position: Position) -> bool
     }
 }
 
-// The position of the id, by two binary searches.
-fn find_position(chunks: &[CommChunk], id: &Text) -> Position
-    requires some { 0 < length chunks.now }
-    requires filled { AllChunksFilled chunks.now }
-    requires ordered { IsInOrder (comms_in chunks.now) }
-    ensures { IsPosition chunks.now id.now result }
-{
-    let chunk = chunk_of(chunks, id);
-    let at = place_of(chunks[chunk].as_slice(), id);
-    Position { chunk, at }
-}
-
-/// The position of the id, None where there is no chunk. The hint is tested first; where it is wrong, two binary
-/// searches follow.
-pub fn position_of(chunks: &[CommChunk], id: &Text, hint: Option<Position>) -> Option<Position>
+/// The position of the id, by two binary searches; None where there is no chunk.
+pub fn find_position(chunks: &[CommChunk], id: &Text) -> Option<Position>
     requires filled { AllChunksFilled chunks.now }
     requires ordered { IsInOrder (comms_in chunks.now) }
     ensures some { IfSome result (λ s. IsPosition chunks.now id.now s) }
@@ -95,8 +83,22 @@ pub fn position_of(chunks: &[CommChunk], id: &Text, hint: Option<Position>) -> O
     if chunks.is_empty() {
         return None;
     }
+    let chunk = chunk_of(chunks, id);
+    let at = place_of(chunks[chunk].as_slice(), id);
+    Some(Position { chunk, at })
+}
+
+/// The position of the id, None where there is no chunk. The hint is tested first; where it is wrong, a search
+/// follows.
+#[inline(always)]
+pub fn position_of(chunks: &[CommChunk], id: &Text, hint: Option<Position>) -> Option<Position>
+    requires filled { AllChunksFilled chunks.now }
+    requires ordered { IsInOrder (comms_in chunks.now) }
+    ensures some { IfSome result (λ s. IsPosition chunks.now id.now s) }
+    ensures none { IfNone result (chunks.now ≡ []) }
+{
     match hint {
         Some(position) if is_position(chunks, id, position) => Some(position),
-        _ => Some(find_position(chunks, id)),
+        _ => find_position(chunks, id),
     }
 }

@@ -4,7 +4,7 @@ ghost use Rattle.comm_core.specs.Machine.{at};
 ghost use Rattle.comm_versions.specs.Listing.{ListAlike};
 ghost use Rattle.comm_versions.specs.Chunks.{AllChunksFilled, IsInOrder, IsPosition, comms_in, upsert};
 
-use crate::position::{Position, position_of};
+use crate::position::{Position, find_position};
 use crate::search::CommChunk;
 use comm_core::OpenComm;
 use comm_value::Text;
@@ -48,7 +48,7 @@ pub fn put_effect(chunks: &[CommChunk], comm: &OpenComm) -> RowEffect
     ensures { result.changes_listing ≡ false
         → ListAlike (comms_in chunks.now) (upsert (comms_in chunks.now) comm.now) }
 {
-    match position_of(chunks, comm.id(), None) {
+    match find_position(chunks, comm.id()) {
         Some(position) => RowEffect {
             position: Some(position),
             changes_listing: !has(chunks, comm.id(), position, comm.target()),
@@ -64,7 +64,7 @@ pub fn first_position(chunks: &[CommChunk], ids: &[Text]) -> Option<Position>
     ensures { IfSome result (λ s. IfSome (slice_get ids.now 0) (λ id. IsPosition chunks.now id s)) }
 {
     match ids.first() {
-        Some(id) => position_of(chunks, id, None),
+        Some(id) => find_position(chunks, id),
         None => None,
     }
 }

@@ -7,7 +7,7 @@ use Rattle.comm_versions.proofs.changing.take_at.Goals as goal
 
 pub returns-then-len-eq1-clause-out : goal.returns-then-len-eq1-clause-out
 returns-then-len-eq1-clause-out c =
-    let ps = c.args.chunks.items in
+    let ps = c.args.chunks.now.items in
     let n = c.args.place in
     let h = c.requires.position in
     let one = position_one ps c.args.id.now _ h c.index.result.now c.index.ensures in
@@ -15,11 +15,11 @@ returns-then-len-eq1-clause-out c =
     (none_set ps c.remove.new.self.items n [] (position_within ps c.args.id.now _ h) c.remove.ensures.items refl)
 
 pub returns-then-len-eq1-clause-filled : goal.returns-then-len-eq1-clause-filled
-returns-then-len-eq1-clause-filled c = filled_rest c.args.chunks.items _ c.args.place c.remove.ensures.items c.requires.filled
+returns-then-len-eq1-clause-filled c = filled_rest c.args.chunks.now.items _ c.args.place c.remove.ensures.items c.requires.filled
 
 pub returns-clause-out : goal.returns-clause-out
 returns-clause-out c =
-    let ps = c.args.chunks.items in
+    let ps = c.args.chunks.now.items in
     let n = c.args.place in
     let i = c.args.i in
     let h = c.requires.position in
@@ -29,7 +29,7 @@ returns-clause-out c =
 
 pub returns-clause-filled : goal.returns-clause-filled
 returns-clause-filled c =
-    let ps = c.args.chunks.items in
+    let ps = c.args.chunks.now.items in
     let i = c.args.i in
     let h = c.requires.position in
     let q = c.take_from.new.chunk in

@@ -15,7 +15,7 @@ take_at-requires-clause-position c =
 
 pub returns-in-Err-clause-out : goal.returns-in-Err-clause-out
 returns-in-Err-clause-out c =
-    let ps = c.args.chunks.items in
+    let ps = c.args.chunks.now.items in
     let k = c.args.id.now in
     let s = c.in-Some.position in
     let h : IsPosition ps k s = subst (λ qs. IsPosition qs k s) c.as_slice.ensures.value c.in-Some.ensures.some in

@@ -13,9 +13,12 @@ place_of-at-requires c =
 pub returns : goal.returns
 returns c =
     record {
-      one = c.index-chunks-chunk.result;
-      here = first_is c.args.chunks.now c.chunk_of-chunk.result c.index-chunks-chunk.result c.chunk_of-chunk.ensures.within c.index-chunks-chunk.is;
-      below = c.chunk_of-chunk.ensures.below;
-      above = c.chunk_of-chunk.ensures.above;
-      there = subst (λ es. StandsAt c.args.id.now es c.place_of-at.result) (c.as_slice.ensures.value ∙ ap (λ v. v.items) c.deref.ensures) (searched_there c.args.id.now c.as_slice.result.now c.place_of-at.result c.place_of-at.ensures.found c.place_of-at.ensures.absent);
+      some = record {
+        one = c.index-chunks-chunk.result;
+        here = first_is c.args.chunks.now c.chunk_of-chunk.result c.index-chunks-chunk.result c.chunk_of-chunk.ensures.within c.index-chunks-chunk.is;
+        below = c.chunk_of-chunk.ensures.below;
+        above = c.chunk_of-chunk.ensures.above;
+        there = subst (λ es. StandsAt c.args.id.now es c.place_of-at.result) (c.as_slice.ensures.value ∙ ap (λ v. v.items) c.deref.ensures) (searched_there c.args.id.now c.as_slice.result.now c.place_of-at.result c.place_of-at.ensures.found c.place_of-at.ensures.absent);
+      };
+      none = tt;
     }
