@@ -1,6 +1,6 @@
 //! Triple buffering: the table that is shown last, and the two before it, which are brought up to date in place once
 //! nobody else has them.
-ghost use Rattle.std.specs.Prelude.{◌≡◌, IfOk, OnErr, OnOk, IfSome, MatchOption};
+ghost use Rattle.std.specs.Prelude.{◌≡◌, IfOk, OnErr, OnOk, MatchOption};
 ghost use Rattle.std.specs.Arc.{arc_value};
 ghost use Rattle.comm_core.specs.Row.{with_row};
 ghost use Rattle.comm_versions.specs.TableBuffers.{StaleLeadsTo, LeadsTo};
@@ -46,34 +46,67 @@ impl Model for TableBuffers {
     ghost invariant = { λ t. LeadsTo t.before (arc_value t.last) × StaleLeadsTo t.free t.before };
 }
 
-// Brings the free table up to date, unless it is shared: it lacks its own row, the row of the table `before`, and
-// this one.
-fn catch_up(
+// Makes the free table the one after this row, and shares it: it lacks its own row, the row of the table `before`, and
+// this one. Where a reader still looks at it, or there is none, a copy of the last table takes its place. After an Err
+// the free table is of no use.
+fn renew(
     alloc: Global,
-    free: Option<StaleTable>,
+    last: &CommTable,
     before: &Option<StaleTable>,
+    free: &mut Option<StaleTable>,
     row: &Row,
     position: Option<Position>,
-) -> Result<Option<Arc<CommTable, Global>>, AllocError>
-    requires { StaleLeadsTo free before.now }
-    ensures { IfOk result (λ o.
-        IfSome o (λ r.
-        MatchOption before.now ⊥ (λ b.
-        arc_value r ≡ with_row row.now (with_row b.row (arc_value b.root))))) }
+) -> Result<Arc<CommTable, Global>, AllocError>
+    requires last { LeadsTo before.now last.now }
+    requires before { StaleLeadsTo free.old before.now }
+    ensures given { IfOk result (λ r. arc_value r ≡ with_row row.now last.now) }
+    ensures free { OnOk result
+        (MatchOption free.new ⊥ (λ f. arc_value f.root ≡ with_row row.now last.now)) }
 {
-    let Some(mut free) = free else {
-        return Ok(None);
+    if let Some(before) = before {
+        if let Some(free) = free {
+            if let Some(rows) = Arc::get_mut(&mut free.root) {
+                rows.change(alloc, &free.row, free.position)?;
+                rows.change(alloc, &before.row, before.position)?;
+                rows.change(alloc, row, position)?;
+                return Arc::try_clone(&free.root);
+            }
+        }
+    }
+    let mut copy = last.copy(alloc)?;
+    copy.change(alloc, row, position)?;
+    let root = Arc::new(alloc, copy)?;
+    let given = Arc::try_clone(&root)?;
+    *free = Some(StaleTable {
+        root,
+        row: Row::Same,
+        position: None,
+    });
+    Ok(given)
+}
+
+// Makes the free table the last, which this row led to, the last the one before, and the one before the free one.
+fn rotate(
+    last: &mut Arc<CommTable, Global>,
+    before: &mut Option<StaleTable>,
+    free: &mut Option<StaleTable>,
+    row: Row,
+    position: Option<Position>,
+)
+    requires next { MatchOption free.old ⊥ (λ f.
+        arc_value f.root ≡ with_row row (arc_value last.old)) }
+    requires before { LeadsTo before.old (arc_value last.old) }
+    ensures last { arc_value last.new ≡ with_row row (arc_value last.old) }
+    ensures before { LeadsTo before.new (arc_value last.new) }
+    ensures free { StaleLeadsTo free.new before.new }
+{
+    let Some(next) = free else {
+        return;
     };
-    let Some(before) = before else {
-        return Ok(None);
-    };
-    let Some(rows) = Arc::get_mut(&mut free.root) else {
-        return Ok(None);
-    };
-    rows.change(alloc, &free.row, free.position)?;
-    rows.change(alloc, &before.row, before.position)?;
-    rows.change(alloc, row, position)?;
-    Ok(Some(free.root))
+    mem::swap(last, &mut next.root);
+    next.row = row;
+    next.position = position;
+    mem::swap(before, free);
 }
 
 impl TableBuffers {
@@ -95,24 +128,6 @@ impl TableBuffers {
         &self.last
     }
 
-    // The table after this row: the free one, or a copy of the last.
-    fn next(
-        &mut self,
-        alloc: Global,
-        row: &Row,
-        position: Option<Position>,
-    ) -> Result<Arc<CommTable, Global>, AllocError>
-        ensures same { self.new ≡ self.old }
-        ensures next { IfOk result (λ r. arc_value r ≡ with_row row.now self.old) }
-    {
-        if let Some(root) = catch_up(alloc, self.free.take(), &self.before, row, position)? {
-            return Ok(root);
-        }
-        let mut copy = self.last.copy(alloc)?;
-        copy.change(alloc, row, position)?;
-        Ok(Arc::new(alloc, copy)?)
-    }
-
     /// Makes the table after this row the last, and gives it too. The position is where the row changes the last
     /// table, if that is known. Err: memory; the last table stays.
     pub fn follow(
@@ -128,15 +143,28 @@ impl TableBuffers {
         if let Row::Same = row {
             return Arc::try_clone(&self.last);
         }
-        let root = self.next(alloc, &row, position)?;
-        let given = Arc::try_clone(&root)?;
-        let stale = mem::replace(&mut self.last, root);
-        self.free = self.before.take();
-        self.before = Some(StaleTable {
-            root: stale,
-            row,
+        match renew(
+            alloc,
+            &self.last,
+            &self.before,
+            &mut self.free,
+            &row,
             position,
-        });
-        Ok(given)
+        ) {
+            Ok(given) => {
+                rotate(
+                    &mut self.last,
+                    &mut self.before,
+                    &mut self.free,
+                    row,
+                    position,
+                );
+                Ok(given)
+            }
+            Err(fault) => {
+                self.free = None;
+                Err(fault)
+            }
+        }
     }
 }
