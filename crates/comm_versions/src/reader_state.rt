@@ -1,5 +1,5 @@
 //! What a reader has seen, with the version and the listing that it read last.
-ghost use Rattle.std.specs.Prelude.{◌≡◌, option_map, true, IfSome};
+ghost use Rattle.std.specs.Prelude.{◌≡◌, None, option_map, true, IfSome};
 ghost use mathlib.Core.List.{IsPrefix};
 ghost use Rattle.std.specs.Arc.{arc_value};
 ghost use Rattle.comm_core.specs.History.{replay};
@@ -72,6 +72,14 @@ fn is_same(one: &Option<Text>, other: Option<&Text>) -> bool
     }
 }
 
+// Forgets what was read. It stands apart, for a reader that hears many stamps and reads seldom.
+#[inline(never)]
+fn forget(shown: &mut Option<Shown>)
+    ensures { shown.new ≡ None }
+{
+    *shown = None;
+}
+
 impl<M: History> ReaderState<M> {
     /// The state of a reader that has seen this front and read nothing.
     pub fn new(front: Stamp<M>) -> ReaderState<M>
@@ -113,7 +121,9 @@ impl<M: History> ReaderState<M> {
         requires { IsPrefix self.old front }
         ensures { self.new ≡ front }
     {
-        self.shown = None;
+        if self.shown.is_some() {
+            forget(&mut self.shown);
+        }
         self.front = front;
     }
 
