@@ -1,11 +1,12 @@
 -- Ids that are told apart by their first bytes.
 use Rattle.std.proofs.Common.{◌≡◌, ℕ, zero, suc, ◌+◌, ◌*◌, ◌<◌, true, false, cond, List, [], ◌∷◌, length, get_or, take, set, Ordering, Less, Equal, Greater, refl, sym, ap, ◌∙◌, arith}
-use Rattle.std.specs.Prelude.{◌==◌, nat_lt}
+use Rattle.std.specs.Prelude.{◌^◌, ◌==◌, nat_lt}
 use Rattle.core.specs.Cmp.{ranks}
-use Rattle.std.specs.Int.{from_be_bytes, w64}
+use Rattle.std.specs.Int.{byte_at, bytes_high_first, from_be_bytes, to_be_bytes, w64}
 use Rattle.std.specs.Ordering.{MatchOrdering, nat_cmp, ordering_then}
 use Rattle.std.specs.Slice.Scan.{big_endian}
 use Rattle.std.proofs.lemmas.Bool.Decides.{nat_tests}
+use Rattle.std.proofs.lemmas.Nat.{from_be_bytes-to_be_bytes_8}
 use Rattle.comm_core.specs.Machine.{Name}
 use Rattle.comm_versions.specs.Chunks.{id_cmp}
 use Rattle.comm_versions.specs.IdPrefixes.{padded}
@@ -128,5 +129,21 @@ spelt (a ∷ b ∷ c ∷ d ∷ e ∷ f ∷ g ∷ []) l = absurd (omega arith)
 spelt (a ∷ b ∷ c ∷ d ∷ e ∷ f ∷ g ∷ h ∷ []) l = omega arith
 spelt (a ∷ b ∷ c ∷ d ∷ e ∷ f ∷ g ∷ h ∷ x ∷ bs) l = absurd (omega arith)
 
-pub compared : (xs ys : List ℕ) → length xs ≡ 8 → length ys ≡ 8 → Bytes xs → Bytes ys → nat_cmp (from_be_bytes w64 xs) (from_be_bytes w64 ys) ≡ id_cmp xs ys
+compared : (xs ys : List ℕ) → length xs ≡ 8 → length ys ≡ 8 → Bytes xs → Bytes ys → nat_cmp (from_be_bytes w64 xs) (from_be_bytes w64 ys) ≡ id_cmp xs ys
 compared xs ys l m a b = ap (λ n. nat_cmp n (from_be_bytes w64 ys)) (spelt xs l) ∙ ap (nat_cmp (big_endian 0 xs)) (spelt ys m) ∙ sym (numbered 0 xs ys (l ∙ sym m) a b)
+
+byte_small : (i n : ℕ) → byte_at i n < 256
+byte_small zero n = omega arith
+byte_small (suc i) n = omega arith
+
+bytes_small : (k n : ℕ) → Bytes (bytes_high_first k n)
+bytes_small zero n zero = omega arith
+bytes_small zero n (suc i) = omega arith
+bytes_small (suc k) n zero = byte_small k n
+bytes_small (suc k) n (suc i) = bytes_small k n i
+
+-- the bytes are in the order of the numbers
+pub numbers_ordered : (m n : ℕ) → m < 2 ^ 64 → n < 2 ^ 64 → nat_cmp m n ≡ id_cmp (to_be_bytes w64 m) (to_be_bytes w64 n)
+numbers_ordered m n h k =
+    ap (λ x. nat_cmp x n) (sym (from_be_bytes-to_be_bytes_8 m h)) ∙ ap (nat_cmp (from_be_bytes w64 (to_be_bytes w64 m))) (sym (from_be_bytes-to_be_bytes_8 n k))
+    ∙ compared (to_be_bytes w64 m) (to_be_bytes w64 n) refl refl (bytes_small 8 m) (bytes_small 8 n)

@@ -36,7 +36,7 @@ fn is_below(chunks: &[CommChunk], id: &Text, from: usize) -> bool
         return true;
     }
     let comms = chunks[from].as_slice();
-    comms[0].order(&id_prefix(id), id).is_lt()
+    comms[0].order(id_prefix(id), id).is_lt()
 }
 
 // Whether a comm of the id would be inserted at this index of this chunk, behind another.
@@ -50,11 +50,11 @@ fn is_gap(chunks: &[CommChunk], id: &Text, chunk: usize, i: usize) -> bool
     }
     let comms = chunks[chunk].as_slice();
     let prefix = id_prefix(id);
-    if i == 0 || comms.len() < i || !comms[i - 1].order(&prefix, id).is_gt() {
+    if i == 0 || comms.len() < i || !comms[i - 1].order(prefix, id).is_gt() {
         return false;
     }
     if i < comms.len() {
-        comms[i].order(&prefix, id).is_lt()
+        comms[i].order(prefix, id).is_lt()
     } else {
         is_below(chunks, id, chunk + 1)
     }
@@ -83,8 +83,9 @@ pub fn find_position(chunks: &[CommChunk], id: &Text) -> Option<Position>
     if chunks.is_empty() {
         return None;
     }
-    let chunk = chunk_of(chunks, id);
-    let at = place_of(chunks[chunk].as_slice(), id);
+    let prefix = id_prefix(id);
+    let chunk = chunk_of(chunks, prefix, id);
+    let at = place_of(chunks[chunk].as_slice(), prefix, id);
     Some(Position { chunk, at })
 }
 

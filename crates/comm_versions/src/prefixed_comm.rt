@@ -1,5 +1,6 @@
 //! Open comms beside the first bytes of their ids, which tell most of them apart.
 ghost use Rattle.std.specs.Prelude.{◌≡◌, IfOk};
+ghost use Rattle.std.specs.Int.{to_be_bytes, w64};
 ghost use Rattle.comm_versions.specs.Chunks.{id_cmp};
 ghost use Rattle.comm_versions.specs.IdPrefixes.{padded};
 
@@ -9,8 +10,9 @@ use std::alloc::AllocError;
 use std::cmp::Ordering;
 use std::marker::Model;
 
-/// The first eight bytes of an id, and zeros where it has fewer.
-pub type IdPrefix = [u8; 8];
+/// The first eight bytes of an id, and zeros where it has fewer, as a number whose first digit is the first byte. So
+/// numbers compare as the bytes do.
+pub type IdPrefix = u64;
 
 /// An open comm with its id, as contracts see it. The prefix of the id stands beside the pointer to the comm, so that
 /// a search follows few pointers.
@@ -22,6 +24,7 @@ pub struct PrefixedComm {
 
 impl Model for PrefixedComm {
     ghost use Rattle.std.specs.Prelude.{◌≡◌};
+    ghost use Rattle.std.specs.Int.{to_be_bytes, w64};
     ghost use Rattle.comm_core.specs.Code.{open_code};
     ghost use Rattle.comm_core.specs.Machine.{Name};
     ghost use Rattle.comm_core.specs.declared.comm.Comm.{Comm};
@@ -33,11 +36,11 @@ impl Model for PrefixedComm {
 
     ghost view = { λ k. k.comm };
 
-    ghost invariant = { λ k. k.prefix ≡ padded 8 k.comm.0 };
+    ghost invariant = { λ k. to_be_bytes w64 k.prefix ≡ padded 8 k.comm.0 };
 }
 
-/// The first eight bytes of this id.
-pub fn id_prefix(id: &Text) -> IdPrefix
+// The first eight bytes of this id, and zeros where it has fewer.
+fn first_bytes(id: &Text) -> [u8; 8]
     ensures { result ≡ padded 8 id.now }
 {
     let bytes = id.as_str().as_bytes();
@@ -51,11 +54,25 @@ pub fn id_prefix(id: &Text) -> IdPrefix
     prefix
 }
 
-// The byte order of two prefixes: they are compared as numbers whose first digit is the first byte.
-fn order_of(one: &IdPrefix, other: &IdPrefix) -> Ordering
-    ensures { result ≡ id_cmp one.now other.now }
+// The bytes as a number.
+fn number_of(bytes: &[u8; 8]) -> IdPrefix
+    ensures { to_be_bytes w64 result ≡ bytes.now }
 {
-    u64::from_be_bytes(*one).cmp(&u64::from_be_bytes(*other))
+    u64::from_be_bytes(*bytes)
+}
+
+/// The prefix of this id.
+pub fn id_prefix(id: &Text) -> IdPrefix
+    ensures { to_be_bytes w64 result ≡ padded 8 id.now }
+{
+    number_of(&first_bytes(id))
+}
+
+// The byte order of two prefixes.
+fn order_of(one: IdPrefix, other: IdPrefix) -> Ordering
+    ensures { result ≡ id_cmp (to_be_bytes w64 one) (to_be_bytes w64 other) }
+{
+    one.cmp(&other)
 }
 
 impl PrefixedComm {
@@ -85,11 +102,11 @@ impl PrefixedComm {
     }
 
     /// The byte order of the id, which has this prefix, and the id of this comm.
-    pub fn order(&self, prefix: &IdPrefix, id: &Text) -> Ordering
-        requires { prefix.now ≡ padded 8 id.now }
+    pub fn order(&self, prefix: IdPrefix, id: &Text) -> Ordering
+        requires { to_be_bytes w64 prefix ≡ padded 8 id.now }
         ensures { result ≡ id_cmp id.now self.now.0 }
     {
-        match order_of(prefix, &self.prefix) {
+        match order_of(prefix, self.prefix) {
             Ordering::Equal => id.as_str().cmp(self.comm.id().as_str()),
             apart => apart,
         }

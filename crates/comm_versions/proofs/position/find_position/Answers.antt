@@ -6,8 +6,8 @@ use Rattle.comm_versions.specs.Chunks.{StandsAt}
 use Rattle.comm_versions.proofs.Positions.{searched_there}
 use Rattle.comm_versions.proofs.position.find_position.Goals as goal
 
-pub place_of-at-requires : goal.place_of-at-requires
-place_of-at-requires c =
+pub place_of-at-requires-clause-ordered : goal.place_of-at-requires-clause-ordered
+place_of-at-requires-clause-ordered c =
     ordered_chunk _ _ _ _ (around c.args.chunks.now c.chunk_of-chunk.result c.index-chunks-chunk.result c.deref.result.now c.as_slice.result.now c.chunk_of-chunk.ensures.within c.index-chunks-chunk.is c.deref.ensures c.as_slice.ensures.value) c.requires.ordered
 
 pub returns : goal.returns

@@ -7,11 +7,11 @@ returns-in-Equal-clause-found c =
     let i : ℕ = c.loop-low.low + (c.loop-low.high - c.loop-low.low) / 2 in
     let within : i < length c.args.comms.now = omega arith in
     let same = seen c.args.id.now c.args.comms.now i c.index-comms-middle.result Equal c.in-Equal.ensures c.index-comms-middle.is in
-    (within, below_found _ _ i _ c.requires within same, found_at _ _ i _ within same)
+    (within, below_found _ _ i _ c.requires.ordered within same, found_at _ _ i _ within same)
 
 pub loop-low-preserved : goal.loop-low-preserved
 loop-low-preserved c =
     let i : ℕ = c.loop-low.low + (c.loop-low.high - c.loop-low.low) / 2 in
     let within : i < length c.args.comms.now = omega arith in
     let same = seen c.args.id.now c.args.comms.now i c.index-comms-middle.result Greater c.in-Greater.ensures c.index-comms-middle.is in
-    (omega arith, omega arith, rw add-one (below_at _ _ i _ c.requires within same), c.loop-low.invariant.3)
+    (omega arith, omega arith, rw add-one (below_at _ _ i _ c.requires.ordered within same), c.loop-low.invariant.3)

@@ -1,6 +1,6 @@
 use Rattle.std.proofs.Common.{ap, get_or, set, ◌∙◌, arith, add-one}
 use Rattle.comm_versions.proofs.IdPrefixes.{set_padded}
-use Rattle.comm_versions.proofs.prefixed_comm.id_prefix.Goals as goal
+use Rattle.comm_versions.proofs.prefixed_comm.first_bytes.Goals as goal
 
 pub loop-i-preserved : goal.loop-i-preserved
 loop-i-preserved c =
