@@ -1,5 +1,5 @@
 //! Open comms beside the first bytes of their ids, which tell most of them apart.
-ghost use Rattle.std.specs.Prelude.{◌≡◌, IfOk};
+ghost use Rattle.std.specs.Prelude.{◌≡◌, ◌<◌, IfOk, length};
 ghost use Rattle.std.specs.Int.{to_be_bytes, w64};
 ghost use Rattle.comm_versions.specs.Chunks.{id_cmp};
 ghost use Rattle.comm_versions.specs.IdPrefixes.{padded};
@@ -39,14 +39,11 @@ impl Model for PrefixedComm {
     ghost invariant = { λ k. to_be_bytes w64 k.prefix ≡ padded 8 k.comm.0 };
 }
 
-// The first eight bytes of this id, and zeros where it has fewer.
-fn first_bytes(id: &Text) -> [u8; 8]
-    ensures { result ≡ padded 8 id.now }
+// These bytes, which are less than eight, and zeros behind them.
+fn padded_bytes(bytes: &[u8]) -> [u8; 8]
+    requires { length bytes.now < 8 }
+    ensures { result ≡ padded 8 bytes.now }
 {
-    let bytes = id.as_str().as_bytes();
-    if let Some(prefix) = bytes.first_chunk() {
-        return *prefix;
-    }
     let mut prefix = [0; 8];
     for i in 0..bytes.len() {
         prefix[i] = bytes[i];
@@ -65,7 +62,11 @@ fn number_of(bytes: &[u8; 8]) -> IdPrefix
 pub fn id_prefix(id: &Text) -> IdPrefix
     ensures { to_be_bytes w64 result ≡ padded 8 id.now }
 {
-    number_of(&first_bytes(id))
+    let bytes = id.as_str().as_bytes();
+    if let Some(prefix) = bytes.first_chunk() {
+        return number_of(prefix);
+    }
+    number_of(&padded_bytes(bytes))
 }
 
 // The byte order of two prefixes.
