@@ -10,7 +10,7 @@ use crate::chunks::{join_chunks, longest, set_chunk, with_comm, without_at};
 use crate::position::{Position, position_of};
 use crate::prefixed_comm::PrefixedComm;
 use crate::search::CommChunk;
-use comm_core::Row;
+use comm_core::{OpenComm, Row};
 use comm_value::Text;
 use std::alloc::{AllocError, Global};
 use std::sync::Arc;
@@ -19,14 +19,14 @@ use std::sync::Arc;
 fn put_among(
     comms: &mut Vec<PrefixedComm>,
     at: Result<usize, usize>,
-    comm: PrefixedComm,
+    comm: OpenComm,
 ) -> Result<(), AllocError>
     requires { StandsAt comm.0 comms.old.items at }
     ensures { OnOk result (comms.new.items ≡ upsert comms.old.items comm) }
 {
     match at {
-        Ok(i) => comms[i] = comm,
-        Err(i) => comms.insert(i, comm)?,
+        Ok(i) => comms[i].replace(comm),
+        Err(i) => comms.insert(i, PrefixedComm::new(comm))?,
     }
     Ok(())
 }
@@ -36,7 +36,7 @@ fn put_into(
     alloc: Global,
     chunk: &mut CommChunk,
     at: Result<usize, usize>,
-    comm: PrefixedComm,
+    comm: OpenComm,
 ) -> Result<(), AllocError>
     requires { StandsAt comm.0 (arc_value chunk.old).items at }
     ensures { OnOk result ((arc_value chunk.new).items ≡ upsert (arc_value chunk.old).items comm) }
@@ -44,7 +44,7 @@ fn put_into(
     match Arc::get_mut(chunk) {
         Some(comms) => put_among(comms, at, comm),
         None => {
-            let comms = with_comm(alloc, chunk.as_slice(), at, comm)?;
+            let comms = with_comm(alloc, chunk.as_slice(), at, PrefixedComm::new(comm))?;
             *chunk = Arc::new(alloc, comms)?;
             Ok(())
         }
@@ -63,7 +63,7 @@ fn put_at(
     alloc: Global,
     chunks: &mut Vec<CommChunk>,
     position: Position,
-    comm: PrefixedComm,
+    comm: OpenComm,
 ) -> Result<(), AllocError>
     requires filled { AllChunksFilled chunks.old.items }
     requires position { IsPosition chunks.old.items comm.0 position }
@@ -76,7 +76,7 @@ fn put_at(
         return Ok(());
     }
     let comms = chunks[position.chunk].as_slice();
-    let changed = with_comm(alloc, comms, position.at, comm)?;
+    let changed = with_comm(alloc, comms, position.at, PrefixedComm::new(comm))?;
     set_chunk(alloc, chunks, position.chunk, changed)?;
     Ok(())
 }
@@ -85,7 +85,7 @@ fn put_at(
 fn put_in(
     alloc: Global,
     chunks: &mut Vec<CommChunk>,
-    comm: PrefixedComm,
+    comm: OpenComm,
     hint: Option<Position>,
 ) -> Result<(), AllocError>
     requires filled { AllChunksFilled chunks.old.items }
@@ -94,11 +94,11 @@ fn put_in(
         (comms_in chunks.new.items ≡ upsert (comms_in chunks.old.items) comm) }
     ensures filled { OnOk result (AllChunksFilled chunks.new.items) }
 {
-    match position_of(chunks.as_slice(), comm.comm().id(), hint) {
+    match position_of(chunks.as_slice(), comm.id(), hint) {
         Some(position) => put_at(alloc, chunks, position, comm),
         None => {
             let mut first = Vec::with_capacity(alloc, 1)?;
-            first.push(comm)?;
+            first.push(PrefixedComm::new(comm))?;
             chunks.push(Arc::new(alloc, first)?)?;
             Ok(())
         }
@@ -209,7 +209,7 @@ pub fn apply_row(
 {
     match row {
         Row::Same => Ok(()),
-        Row::Put(comm) => put_in(alloc, chunks, PrefixedComm::new(comm.copy()?), hint),
+        Row::Put(comm) => put_in(alloc, chunks, comm.copy()?, hint),
         Row::Out(ids) => take_all(alloc, chunks, ids.as_slice(), hint),
         Row::Clear => {
             *chunks = Vec::new(alloc);

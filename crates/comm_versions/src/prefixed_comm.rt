@@ -85,6 +85,14 @@ impl PrefixedComm {
         PrefixedComm { prefix, comm }
     }
 
+    /// Replaces the comm by one of its id.
+    pub fn replace(&mut self, comm: OpenComm)
+        requires { comm.0 ≡ self.old.0 }
+        ensures { self.new ≡ comm }
+    {
+        self.comm = comm;
+    }
+
     /// A copy that shares the comm. Err: its count can't be raised.
     pub fn copy(&self) -> Result<PrefixedComm, AllocError>
         ensures { IfOk result (λ k. k ≡ self.now) }

@@ -22,4 +22,4 @@ returns-clause-upsert c =
     let h = c.requires.position in
     let i = s.chunk in
     let here = c.as_slice-comms.ensures.value ∙ ap (λ v. v.items) (c.deref.ensures ∙ ap arc_value (position_one ps k.0 s h c.index.result.now c.index.ensures)) in
-    put_set ps i (arc_value h.one).items c.in_ok-changed.changed.items (comms_in c.set_chunk.new.chunks.items) k (position_stands ps k.0 s h) (c.in_ok-changed.ensures.upsert ∙ ap (λ es. upsert es k) here) c.in_ok-set_chunk.ensures.comms_in
+    put_set ps i (arc_value h.one).items c.in_ok-changed.changed.items (comms_in c.set_chunk.new.chunks.items) k (position_stands ps k.0 s h) (c.in_ok-changed.ensures.upsert ∙ ap (upsert c.as_slice-comms.result.now) c.new.ensures ∙ ap (λ es. upsert es k) here) c.in_ok-set_chunk.ensures.comms_in
