@@ -22,6 +22,7 @@ use comm_value::{Buffers, Dict, Path, Separated, Text, Val, paths_val, separate,
 use std::alloc::{AllocError, Global};
 
 /// Appends these bytes. Err: memory; this is true of each function here, and a part may have been appended then.
+#[inline(always)]
 pub fn append(words: &[u8], out: &mut Vec<u8>) -> Result<(), AllocError>
     ensures { OnOk result (out.new.items ≡ out.old.items ++ words.now) }
 {
@@ -37,6 +38,7 @@ pub fn append_number(number: u64, out: &mut Vec<u8>) -> Result<(), AllocError>
 }
 
 /// Appends these bytes and a number in decimal.
+#[inline(always)]
 pub fn append_counted(words: &[u8], number: u64, out: &mut Vec<u8>) -> Result<(), AllocError>
     ensures { OnOk result (out.new.items ≡ out.old.items ++ (words.now ++ decimal number)) }
 {
@@ -252,6 +254,10 @@ pub fn append_reply(
     ensures { OnOk result (out.new.items ≡ out.old.items ++ reply_line number reply.now) }
 {
     append_counted(b"reply ", number, out)?;
+    if let Reply::Delivered(None) = reply {
+        append(b" delivered\n", out)?; // As most replies are.
+        return Ok(());
+    }
     append(b" ", out)?;
     append_reply_words(alloc, reply, out)?;
     append(b"\n", out)?;
