@@ -30,6 +30,7 @@ pub fn append(words: &[u8], out: &mut Vec<u8>) -> Result<(), AllocError>
 }
 
 /// Appends a number in decimal.
+#[inline(always)]
 pub fn append_number(number: u64, out: &mut Vec<u8>) -> Result<(), AllocError>
     ensures { OnOk result (out.new.items ≡ out.old.items ++ decimal number) }
 {
