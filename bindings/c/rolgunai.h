@@ -78,9 +78,10 @@ enum {
   ROLGUNAI_WIDGET_ECHO = 4, /* as ROLGUNAI_WIDGET, and repeats to the frontends what a frontend's update brought
                                (`echo_update`) */
   ROLGUNAI_OPAQUE = 5       /* as ROLGUNAI_PLAIN, for what nobody here reads: of an open or a message by its parts the
-                               type, the id and the target's name are read, and neither `data`, metadata nor buffers,
-                               which may be anything that is JSON and needn't be handed in. The reply's content is `{}`:
-                               the kernel has the message in hand. A line for one is read whole, as any line */
+                               type, the id and the target's name count, and neither `data`, metadata nor buffers,
+                               which may be anything that is JSON and needn't be handed in; small ones may be read, in
+                               vain. The reply's content is `{}`: the kernel has the message in hand. A line for one is
+                               read whole, as any line */
 };
 
 /* Makes a manager. At most `comms` comms, 1 to 4096, are open at a time; any number of targets may be registered.

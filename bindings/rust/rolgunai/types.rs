@@ -58,7 +58,7 @@ pub enum Kind {
     Plain = 3,
     /// As `Widget`, and repeats to the frontends what a frontend's update brought.
     WidgetEcho = 4,
-    /// As `Plain`, for what nobody here reads: neither `data` nor buffers of a message are looked at.
+    /// As `Plain`, for what nobody here reads: neither `data` nor buffers of a message count.
     Opaque = 5,
 }
 

@@ -1,4 +1,4 @@
-//! What a frontend's message asks for. Of one for an opaque target neither data nor buffers are read.
+//! What a frontend's message asks for. Of one for an opaque target neither data nor buffers count, whatever they are.
 ghost use Rattle.std.specs.Prelude.{◌≡◌, ◌<◌, IfOk, IfSome, option_map};
 ghost use Rattle.comm_messages.specs.Buffers.{split_buffers};
 ghost use Rattle.comm_messages.specs.Envelope.{envelope};

@@ -27,7 +27,7 @@ class Status(enum.IntEnum):
 class Kind(enum.IntEnum):
     """The kinds of targets. WIDGET keeps the state of Jupyter widgets, and WIDGET_ECHO repeats to the frontends what a
     frontend's update brought. PLAIN takes every open and message, and hands a message to the kernel in its outcome.
-    OPAQUE does so too, and reads neither data nor buffers, which needn't be handed in."""
+    OPAQUE does so too; neither data nor buffers count there, and they needn't be handed in."""
 
     WIDGET = 2
     PLAIN = 3
