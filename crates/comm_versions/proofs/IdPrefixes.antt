@@ -1,9 +1,9 @@
 -- Ids that are told apart by their first bytes.
 use Rattle.std.proofs.Common.{◌≡◌, ℕ, zero, suc, ◌+◌, ◌*◌, ◌<◌, true, false, cond, List, [], ◌∷◌, length, get_or, take, set, Ordering, Less, Equal, Greater, refl, sym, ap, ◌∙◌, arith}
-use Rattle.std.specs.Prelude.{◌^◌, ◌==◌, nat_lt}
+use Rattle.std.specs.Prelude.{Bool, ◌^◌, ◌==◌, nat_lt}
 use Rattle.core.specs.Cmp.{ranks}
 use Rattle.std.specs.Int.{byte_at, bytes_high_first, from_be_bytes, to_be_bytes, w64}
-use Rattle.std.specs.Ordering.{MatchOrdering, nat_cmp, ordering_then}
+use Rattle.std.specs.Ordering.{MatchOrdering, is_lt, nat_cmp, ordering_then}
 use Rattle.std.specs.Slice.Scan.{big_endian}
 use Rattle.std.proofs.lemmas.Bool.Decides.{nat_tests}
 use Rattle.std.proofs.lemmas.Nat.{from_be_bytes-to_be_bytes_8}
@@ -143,7 +143,15 @@ bytes_small (suc k) n zero = byte_small k n
 bytes_small (suc k) n (suc i) = bytes_small k n i
 
 -- the bytes are in the order of the numbers
-pub numbers_ordered : (m n : ℕ) → m < 2 ^ 64 → n < 2 ^ 64 → nat_cmp m n ≡ id_cmp (to_be_bytes w64 m) (to_be_bytes w64 n)
+numbers_ordered : (m n : ℕ) → m < 2 ^ 64 → n < 2 ^ 64 → nat_cmp m n ≡ id_cmp (to_be_bytes w64 m) (to_be_bytes w64 n)
 numbers_ordered m n h k =
     ap (λ x. nat_cmp x n) (sym (from_be_bytes-to_be_bytes_8 m h)) ∙ ap (nat_cmp (from_be_bytes w64 (to_be_bytes w64 m))) (sym (from_be_bytes-to_be_bytes_8 n k))
     ∙ compared (to_be_bytes w64 m) (to_be_bytes w64 n) refl refl (bytes_small 8 m) (bytes_small 8 n)
+
+lesser : (below same : Bool) → below ≡ is_lt (cond below Less (cond same Equal Greater))
+lesser true same = refl
+lesser false true = refl
+lesser false false = refl
+
+pub numbers_below : (m n : ℕ) → m < 2 ^ 64 → n < 2 ^ 64 → nat_lt m n ≡ is_lt (id_cmp (to_be_bytes w64 m) (to_be_bytes w64 n))
+numbers_below m n h k = lesser (nat_lt m n) (m == n) ∙ ap is_lt (numbers_ordered m n h k)

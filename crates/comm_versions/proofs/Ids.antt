@@ -18,7 +18,7 @@ use Rattle.comm_versions.specs.Chunks.{AllIdsBelow, IsBelowFirst, StartsWithId, 
 
 -- ---- ids
 
-flip : (x y : Name) (o : Ordering) → id_cmp x y ≡ o → id_cmp y x ≡ ordering_reverse o
+pub flip : (x y : Name) (o : Ordering) → id_cmp x y ≡ o → id_cmp y x ≡ ordering_reverse o
 flip x y o h = nat_list_cmp_total.antisymm y x ∙ ap ordering_reverse h
 
 pub differs : (x y : Name) (o : Ordering) → id_cmp x y ≡ o → is_eq o ≡ false → bytes_eq x y ≡ false

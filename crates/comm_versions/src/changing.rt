@@ -7,10 +7,10 @@ ghost use Rattle.comm_core.specs.Row.{with_row, without_all};
 ghost use Rattle.comm_versions.specs.Chunks.{AllChunksFilled, IsInOrder, IsPosition, StandsAt, comms_in, upsert};
 
 use crate::chunks::{join_chunks, longest, set_chunk, with_comm, without_at};
-use crate::position::{Position, position_of};
+use crate::position::{Position, find_position, is_found, is_position};
 use crate::prefixed_comm::PrefixedComm;
 use crate::search::CommChunk;
-use comm_core::{OpenComm, Row};
+use comm_core::Row;
 use comm_value::Text;
 use std::alloc::{AllocError, Global};
 use std::sync::Arc;
@@ -19,14 +19,14 @@ use std::sync::Arc;
 fn put_among(
     comms: &mut Vec<PrefixedComm>,
     at: Result<usize, usize>,
-    comm: OpenComm,
+    comm: PrefixedComm,
 ) -> Result<(), AllocError>
     requires { StandsAt comm.0 comms.old.items at }
     ensures { OnOk result (comms.new.items ≡ upsert comms.old.items comm) }
 {
     match at {
         Ok(i) => comms[i].replace(comm),
-        Err(i) => comms.insert(i, PrefixedComm::new(comm))?,
+        Err(i) => comms.insert(i, comm)?,
     }
     Ok(())
 }
@@ -36,7 +36,7 @@ fn put_into(
     alloc: Global,
     chunk: &mut CommChunk,
     at: Result<usize, usize>,
-    comm: OpenComm,
+    comm: PrefixedComm,
 ) -> Result<(), AllocError>
     requires { StandsAt comm.0 (arc_value chunk.old).items at }
     ensures { OnOk result ((arc_value chunk.new).items ≡ upsert (arc_value chunk.old).items comm) }
@@ -44,7 +44,7 @@ fn put_into(
     match Arc::get_mut(chunk) {
         Some(comms) => put_among(comms, at, comm),
         None => {
-            let comms = with_comm(alloc, chunk.as_slice(), at, PrefixedComm::new(comm))?;
+            let comms = with_comm(alloc, chunk.as_slice(), at, comm)?;
             *chunk = Arc::new(alloc, comms)?;
             Ok(())
         }
@@ -52,21 +52,22 @@ fn put_into(
 }
 
 // Whether a comm may be put at this position as the chunks are: it replaces another, or its chunk has room.
-fn fits(chunks: &[CommChunk], position: Position) -> bool
-    requires { position.chunk < length chunks.now }
+fn fits(chunks: &[CommChunk], position: &Position) -> bool
+    requires { position.now.chunk < length chunks.now }
 {
     position.at.is_ok() || chunks[position.chunk].len() < longest(chunks.len())
 }
 
 // Inserts the comm at its position, or replaces the one of its id.
+#[inline(always)]
 fn put_at(
     alloc: Global,
     chunks: &mut Vec<CommChunk>,
-    position: Position,
-    comm: OpenComm,
+    position: &Position,
+    comm: PrefixedComm,
 ) -> Result<(), AllocError>
     requires filled { AllChunksFilled chunks.old.items }
-    requires position { IsPosition chunks.old.items comm.0 position }
+    requires position { IsPosition chunks.old.items comm.0 position.now }
     ensures upsert { OnOk result
         (comms_in chunks.new.items ≡ upsert (comms_in chunks.old.items) comm) }
     ensures filled { OnOk result (AllChunksFilled chunks.new.items) }
@@ -76,17 +77,17 @@ fn put_at(
         return Ok(());
     }
     let comms = chunks[position.chunk].as_slice();
-    let changed = with_comm(alloc, comms, position.at, PrefixedComm::new(comm))?;
+    let changed = with_comm(alloc, comms, position.at, comm)?;
     set_chunk(alloc, chunks, position.chunk, changed)?;
     Ok(())
 }
 
-// Inserts the comm where the byte order wants it, or replaces the one of its id.
-fn put_in(
+// Inserts the comm where a search finds its place, or replaces the one of its id.
+#[inline(never)]
+fn put_searched(
     alloc: Global,
     chunks: &mut Vec<CommChunk>,
-    comm: OpenComm,
-    hint: Option<Position>,
+    comm: PrefixedComm,
 ) -> Result<(), AllocError>
     requires filled { AllChunksFilled chunks.old.items }
     requires ordered { IsInOrder (comms_in chunks.old.items) }
@@ -94,15 +95,37 @@ fn put_in(
         (comms_in chunks.new.items ≡ upsert (comms_in chunks.old.items) comm) }
     ensures filled { OnOk result (AllChunksFilled chunks.new.items) }
 {
-    match position_of(chunks.as_slice(), comm.id(), hint) {
-        Some(position) => put_at(alloc, chunks, position, comm),
+    match find_position(chunks.as_slice(), comm.comm().id()) {
+        Some(position) => put_at(alloc, chunks, &position, comm),
         None => {
             let mut first = Vec::with_capacity(alloc, 1)?;
-            first.push(PrefixedComm::new(comm))?;
+            first.push(comm)?;
             chunks.push(Arc::new(alloc, first)?)?;
             Ok(())
         }
     }
+}
+
+// Inserts the comm where the byte order wants it, or replaces the one of its id. The hint is tested first; where it is
+// wrong, a search follows.
+fn put_in(
+    alloc: Global,
+    chunks: &mut Vec<CommChunk>,
+    comm: PrefixedComm,
+    hint: &Option<Position>,
+) -> Result<(), AllocError>
+    requires filled { AllChunksFilled chunks.old.items }
+    requires ordered { IsInOrder (comms_in chunks.old.items) }
+    ensures upsert { OnOk result
+        (comms_in chunks.new.items ≡ upsert (comms_in chunks.old.items) comm) }
+    ensures filled { OnOk result (AllChunksFilled chunks.new.items) }
+{
+    if let Some(position) = hint {
+        if is_position(chunks.as_slice(), comm.prefix(), comm.comm().id(), position) {
+            return put_at(alloc, chunks, position, comm);
+        }
+    }
+    put_searched(alloc, chunks, comm)
 }
 
 // Removes the comm at index i of this chunk; a shared chunk is copied.
@@ -126,6 +149,7 @@ fn take_from(alloc: Global, chunk: &mut CommChunk, i: usize) -> Result<(), Alloc
 }
 
 // Removes the comm of this id, which stands at index i of the chunk at `place`.
+#[inline]
 fn take_at(
     alloc: Global,
     chunks: &mut Vec<CommChunk>,
@@ -148,12 +172,52 @@ fn take_at(
     Ok(())
 }
 
-// Removes the comm of this id, if there is one, and joins its chunk to a neighbour where both are short.
+// Removes the comm of this id, which stands at index i of the chunk at `place`, and joins that to a neighbour where
+// both are short.
+#[inline(always)]
+fn take_found(
+    alloc: Global,
+    chunks: &mut Vec<CommChunk>,
+    id: &Text,
+    place: usize,
+    i: usize,
+) -> Result<(), AllocError>
+    requires filled { AllChunksFilled chunks.old.items }
+    requires ordered { IsInOrder (comms_in chunks.old.items) }
+    requires position { IsPosition chunks.old.items id.now (record { chunk = place; at = Ok i }) }
+    ensures out { OnOk result
+        (comms_in chunks.new.items ≡ without (comms_in chunks.old.items) id.now) }
+    ensures filled { OnOk result (AllChunksFilled chunks.new.items) }
+{
+    take_at(alloc, chunks, id, place, i)?;
+    join_chunks(alloc, chunks, place)?;
+    Ok(())
+}
+
+// Removes the comm of this id, if a search finds one.
+#[inline(never)]
+fn take_searched(alloc: Global, chunks: &mut Vec<CommChunk>, id: &Text) -> Result<(), AllocError>
+    requires filled { AllChunksFilled chunks.old.items }
+    requires ordered { IsInOrder (comms_in chunks.old.items) }
+    ensures out { OnOk result
+        (comms_in chunks.new.items ≡ without (comms_in chunks.old.items) id.now) }
+    ensures filled { OnOk result (AllChunksFilled chunks.new.items) }
+{
+    let Some(position) = find_position(chunks.as_slice(), id) else {
+        return Ok(());
+    };
+    match position.at {
+        Ok(i) => take_found(alloc, chunks, id, position.chunk, i),
+        Err(_) => Ok(()),
+    }
+}
+
+// Removes the comm of this id, if there is one. The hint is tested first; where it is wrong, a search follows.
 fn take_out(
     alloc: Global,
     chunks: &mut Vec<CommChunk>,
     id: &Text,
-    hint: Option<Position>,
+    hint: &Option<Position>,
 ) -> Result<(), AllocError>
     requires filled { AllChunksFilled chunks.old.items }
     requires ordered { IsInOrder (comms_in chunks.old.items) }
@@ -161,17 +225,14 @@ fn take_out(
         (comms_in chunks.new.items ≡ without (comms_in chunks.old.items) id.now) }
     ensures filled { OnOk result (AllChunksFilled chunks.new.items) }
 {
-    let Some(position) = position_of(chunks.as_slice(), id, hint) else {
-        return Ok(());
-    };
-    match position.at {
-        Ok(i) => {
-            take_at(alloc, chunks, id, position.chunk, i)?;
-            join_chunks(alloc, chunks, position.chunk)?;
-            Ok(())
+    if let Some(position) = hint {
+        if let Ok(i) = position.at {
+            if is_found(chunks.as_slice(), id, position.chunk, i) {
+                return take_found(alloc, chunks, id, position.chunk, i);
+            }
         }
-        Err(_) => Ok(()),
     }
+    take_searched(alloc, chunks, id)
 }
 
 // Removes the comms of these ids.
@@ -179,7 +240,7 @@ fn take_all(
     alloc: Global,
     chunks: &mut Vec<CommChunk>,
     ids: &[Text],
-    hint: Option<Position>,
+    hint: &Option<Position>,
 ) -> Result<(), AllocError>
     requires filled { AllChunksFilled chunks.old.items }
     requires ordered { IsInOrder (comms_in chunks.old.items) }
@@ -199,7 +260,7 @@ pub fn apply_row(
     alloc: Global,
     chunks: &mut Vec<CommChunk>,
     row: &Row,
-    hint: Option<Position>,
+    hint: &Option<Position>,
 ) -> Result<(), AllocError>
     requires filled { AllChunksFilled chunks.old.items }
     requires ordered { IsInOrder (comms_in chunks.old.items) }
@@ -209,7 +270,7 @@ pub fn apply_row(
 {
     match row {
         Row::Same => Ok(()),
-        Row::Put(comm) => put_in(alloc, chunks, comm.copy()?, hint),
+        Row::Put(comm) => put_in(alloc, chunks, PrefixedComm::new(comm.copy()?), hint),
         Row::Out(ids) => take_all(alloc, chunks, ids.as_slice(), hint),
         Row::Clear => {
             *chunks = Vec::new(alloc);

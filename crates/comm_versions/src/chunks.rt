@@ -124,6 +124,11 @@ pub fn set_chunk(
     Ok(())
 }
 
+// Whether the chunk at this place is too long to be joined to a neighbour.
+fn is_long(chunks: &[CommChunk], place: usize) -> bool {
+    place < chunks.len() && longest(chunks.len()) / 2 < chunks[place].len()
+}
+
 // Whether there is a chunk at this place, and one behind it, which are half a chunk at most together.
 fn are_short(chunks: &[CommChunk], place: usize) -> bool
     ensures { result ≡ true → place + 1 < length chunks.now }
@@ -162,6 +167,9 @@ pub fn join_chunks(
     ensures comms_in { OnOk result (comms_in chunks.new.items ≡ comms_in chunks.old.items) }
     ensures filled { OnOk result (AllChunksFilled chunks.new.items) }
 {
+    if is_long(chunks.as_slice(), place) {
+        return Ok(());
+    }
     if are_short(chunks.as_slice(), place) {
         join_two(alloc, chunks, place)?;
     }

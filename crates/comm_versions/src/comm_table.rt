@@ -113,7 +113,7 @@ impl CommTable {
         &mut self,
         alloc: Global,
         row: &Row,
-        hint: Option<Position>,
+        hint: &Option<Position>,
     ) -> Result<(), AllocError>
         ensures { OnOk result (self.new ≡ with_row row.now self.old) }
     {

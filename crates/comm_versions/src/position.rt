@@ -1,8 +1,10 @@
 //! Where the comm of an id stands among comms in chunks.
 ghost use Rattle.std.specs.Prelude.{◌≡◌, ◌<◌, [], IfNone, IfSome, Err, Ok, drop, length, true};
+ghost use Rattle.std.specs.Int.{to_be_bytes, w64};
 ghost use Rattle.comm_versions.specs.Chunks.{AllChunksFilled, IsBelowFirst, IsInOrder, IsPosition, comms_in};
+ghost use Rattle.comm_versions.specs.IdPrefixes.{padded};
 
-use crate::prefixed_comm::id_prefix;
+use crate::prefixed_comm::{IdPrefix, id_prefix};
 use crate::search::{CommChunk, chunk_of, place_of};
 use comm_value::Text;
 
@@ -14,8 +16,9 @@ pub struct Position {
     pub at: Result<usize, usize>,
 }
 
-// Whether the comm at this index of this chunk has the id.
-fn is_found(chunks: &[CommChunk], id: &Text, chunk: usize, i: usize) -> bool
+/// Whether the comm at this index of this chunk has the id.
+#[inline]
+pub fn is_found(chunks: &[CommChunk], id: &Text, chunk: usize, i: usize) -> bool
     requires filled { AllChunksFilled chunks.now }
     requires ordered { IsInOrder (comms_in chunks.now) }
     ensures { result ≡ true → IsPosition chunks.now id.now (record { chunk = chunk; at = Ok i }) }
@@ -27,20 +30,22 @@ fn is_found(chunks: &[CommChunk], id: &Text, chunk: usize, i: usize) -> bool
     i < comms.len() && id == comms[i].comm().id()
 }
 
-// Whether the id is below those of the chunks from this one on.
-fn is_below(chunks: &[CommChunk], id: &Text, from: usize) -> bool
-    requires { AllChunksFilled chunks.now }
+// Whether the id, which has this prefix, is below those of the chunks from this one on.
+fn is_below(chunks: &[CommChunk], prefix: IdPrefix, id: &Text, from: usize) -> bool
+    requires prefix { to_be_bytes w64 prefix ≡ padded 8 id.now }
+    requires filled { AllChunksFilled chunks.now }
     ensures { result ≡ true → IsBelowFirst id.now (comms_in (drop from chunks.now)) }
 {
     if chunks.len() <= from {
         return true;
     }
     let comms = chunks[from].as_slice();
-    comms[0].order(id_prefix(id), id).is_lt()
+    comms[0].is_above(prefix, id)
 }
 
-// Whether a comm of the id would be inserted at this index of this chunk, behind another.
-fn is_gap(chunks: &[CommChunk], id: &Text, chunk: usize, i: usize) -> bool
+// Whether a comm of the id, which has this prefix, would be inserted at this index of this chunk, behind another.
+fn is_gap(chunks: &[CommChunk], prefix: IdPrefix, id: &Text, chunk: usize, i: usize) -> bool
+    requires prefix { to_be_bytes w64 prefix ≡ padded 8 id.now }
     requires filled { AllChunksFilled chunks.now }
     requires ordered { IsInOrder (comms_in chunks.now) }
     ensures { result ≡ true → IsPosition chunks.now id.now (record { chunk = chunk; at = Err i }) }
@@ -49,27 +54,27 @@ fn is_gap(chunks: &[CommChunk], id: &Text, chunk: usize, i: usize) -> bool
         return false;
     }
     let comms = chunks[chunk].as_slice();
-    let prefix = id_prefix(id);
-    if i == 0 || comms.len() < i || !comms[i - 1].order(prefix, id).is_gt() {
+    if i == 0 || comms.len() < i || !comms[i - 1].is_below(prefix, id) {
         return false;
     }
     if i < comms.len() {
-        comms[i].order(prefix, id).is_lt()
+        comms[i].is_above(prefix, id)
     } else {
-        is_below(chunks, id, chunk + 1)
+        is_below(chunks, prefix, id, chunk + 1)
     }
 }
 
-// Whether this is the position of the id.
+/// Whether this is the position of the id, which has this prefix. It is false of a position before all comms.
 #[inline(always)]
-fn is_position(chunks: &[CommChunk], id: &Text, position: Position) -> bool
+pub fn is_position(chunks: &[CommChunk], prefix: IdPrefix, id: &Text, position: &Position) -> bool
+    requires prefix { to_be_bytes w64 prefix ≡ padded 8 id.now }
     requires filled { AllChunksFilled chunks.now }
     requires ordered { IsInOrder (comms_in chunks.now) }
-    ensures { result ≡ true → IsPosition chunks.now id.now position }
+    ensures { result ≡ true → IsPosition chunks.now id.now position.now }
 {
     match position.at {
         Ok(i) => is_found(chunks, id, position.chunk, i),
-        Err(i) => is_gap(chunks, id, position.chunk, i),
+        Err(i) => is_gap(chunks, prefix, id, position.chunk, i),
     }
 }
 
@@ -87,19 +92,4 @@ pub fn find_position(chunks: &[CommChunk], id: &Text) -> Option<Position>
     let chunk = chunk_of(chunks, prefix, id);
     let at = place_of(chunks[chunk].as_slice(), prefix, id);
     Some(Position { chunk, at })
-}
-
-/// The position of the id, None where there is no chunk. The hint is tested first; where it is wrong, a search
-/// follows.
-#[inline(always)]
-pub fn position_of(chunks: &[CommChunk], id: &Text, hint: Option<Position>) -> Option<Position>
-    requires filled { AllChunksFilled chunks.now }
-    requires ordered { IsInOrder (comms_in chunks.now) }
-    ensures some { IfSome result (λ s. IsPosition chunks.now id.now s) }
-    ensures none { IfNone result (chunks.now ≡ []) }
-{
-    match hint {
-        Some(position) if is_position(chunks, id, position) => Some(position),
-        _ => find_position(chunks, id),
-    }
 }

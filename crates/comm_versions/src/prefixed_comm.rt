@@ -1,6 +1,8 @@
 //! Open comms beside the first bytes of their ids, which tell most of them apart.
-ghost use Rattle.std.specs.Prelude.{◌≡◌, ◌<◌, IfOk, length};
+ghost use Rattle.std.specs.Prelude.{◌≡◌, ◌<◌, IfOk, length, true};
 ghost use Rattle.std.specs.Int.{to_be_bytes, w64};
+ghost use Rattle.std.specs.Ordering.{is_gt, is_lt};
+ghost use Rattle.std.specs.declared.cmp.Ordering.TheVariants.{Greater, Less};
 ghost use Rattle.comm_versions.specs.Chunks.{id_cmp};
 ghost use Rattle.comm_versions.specs.IdPrefixes.{padded};
 
@@ -69,11 +71,12 @@ pub fn id_prefix(id: &Text) -> IdPrefix
     number_of(&padded_bytes(bytes))
 }
 
-// The byte order of two prefixes.
-fn order_of(one: IdPrefix, other: IdPrefix) -> Ordering
-    ensures { result ≡ id_cmp (to_be_bytes w64 one) (to_be_bytes w64 other) }
+// Whether one prefix is below the other in the byte order.
+#[inline(always)]
+fn is_prefix_below(one: IdPrefix, other: IdPrefix) -> bool
+    ensures { result ≡ is_lt (id_cmp (to_be_bytes w64 one) (to_be_bytes w64 other)) }
 {
-    one.cmp(&other)
+    one < other
 }
 
 impl PrefixedComm {
@@ -85,12 +88,12 @@ impl PrefixedComm {
         PrefixedComm { prefix, comm }
     }
 
-    /// Replaces the comm by one of its id.
-    pub fn replace(&mut self, comm: OpenComm)
-        requires { comm.0 ≡ self.old.0 }
+    /// Replaces the comm by another.
+    #[inline]
+    pub fn replace(&mut self, comm: PrefixedComm)
         ensures { self.new ≡ comm }
     {
-        self.comm = comm;
+        *self = comm;
     }
 
     /// A copy that shares the comm. Err: its count can't be raised.
@@ -110,14 +113,68 @@ impl PrefixedComm {
         &self.comm
     }
 
-    /// The byte order of the id, which has this prefix, and the id of this comm.
-    pub fn order(&self, prefix: IdPrefix, id: &Text) -> Ordering
+    /// The prefix of its id.
+    #[inline]
+    pub fn prefix(&self) -> IdPrefix
+        ensures { to_be_bytes w64 result ≡ padded 8 self.now.0 }
+    {
+        self.prefix
+    }
+
+    /// Whether the prefixes tell that the id, which has this prefix, is below that of this comm.
+    #[inline(always)]
+    pub fn starts_above(&self, prefix: IdPrefix, id: &Text) -> bool
         requires { to_be_bytes w64 prefix ≡ padded 8 id.now }
+        ensures { result ≡ true → id_cmp id.now self.now.0 ≡ Less }
+    {
+        let _ = id;
+        is_prefix_below(prefix, self.prefix)
+    }
+
+    /// Whether the prefixes tell that the id, which has this prefix, is above that of this comm.
+    #[inline(always)]
+    pub fn starts_below(&self, prefix: IdPrefix, id: &Text) -> bool
+        requires { to_be_bytes w64 prefix ≡ padded 8 id.now }
+        ensures { result ≡ true → id_cmp id.now self.now.0 ≡ Greater }
+    {
+        let _ = id;
+        is_prefix_below(self.prefix, prefix)
+    }
+
+    /// The byte order of the id and the id of this comm. Where their prefixes differ, those tell it faster.
+    pub fn order(&self, id: &Text) -> Ordering
         ensures { result ≡ id_cmp id.now self.now.0 }
     {
-        match order_of(prefix, self.prefix) {
-            Ordering::Equal => id.as_str().cmp(self.comm.id().as_str()),
-            apart => apart,
+        id.as_str().cmp(self.comm.id().as_str())
+    }
+
+    /// Whether the id, which has this prefix, is below that of this comm.
+    #[inline(always)]
+    pub fn is_above(&self, prefix: IdPrefix, id: &Text) -> bool
+        requires { to_be_bytes w64 prefix ≡ padded 8 id.now }
+        ensures { result ≡ is_lt (id_cmp id.now self.now.0) }
+    {
+        if self.starts_above(prefix, id) {
+            return true;
         }
+        if self.starts_below(prefix, id) {
+            return false;
+        }
+        self.order(id).is_lt()
+    }
+
+    /// Whether the id, which has this prefix, is above that of this comm.
+    #[inline(always)]
+    pub fn is_below(&self, prefix: IdPrefix, id: &Text) -> bool
+        requires { to_be_bytes w64 prefix ≡ padded 8 id.now }
+        ensures { result ≡ is_gt (id_cmp id.now self.now.0) }
+    {
+        if self.starts_below(prefix, id) {
+            return true;
+        }
+        if self.starts_above(prefix, id) {
+            return false;
+        }
+        self.order(id).is_gt()
     }
 }

@@ -17,7 +17,7 @@ use std::sync::Arc;
 #[derive(Drop)]
 pub struct RawFront {
     count: u64,
-    clients: u8,
+    clients: usize,
     comms: usize,
     seen: Seen<Entry, u64, HistoryRule>,
 }
@@ -45,7 +45,7 @@ impl RawFront {
     {
         RawFront {
             count: 0,
-            clients,
+            clients: clients as usize,
             comms,
             seen,
         }

@@ -220,6 +220,7 @@ impl<M: History> VersionReader<M> {
     }
 
     /// From now on this reader sees no less than the stamp's front. It takes no memory.
+    #[inline]
     pub fn hear(&mut self, stamp: &Stamp<M>)
         ensures one { (self.new ≡ self.old) ⊎ (self.new ≡ stamp.now) }
         ensures own { IsPrefix self.old self.new }

@@ -117,6 +117,7 @@ impl<M: History> ReaderState<M> {
     }
 
     /// Sees a front that includes what was seen.
+    #[inline]
     pub fn advance(&mut self, front: Stamp<M>)
         requires { IsPrefix self.old front }
         ensures { self.new ≡ front }

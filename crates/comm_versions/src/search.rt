@@ -29,10 +29,17 @@ pub fn place_of(comms: &[PrefixedComm], prefix: IdPrefix, id: &Text) -> Result<u
     let mut high = comms.len();
     while low < high {
         let middle = low + (high - low) / 2;
-        match comms[middle].order(prefix, id) {
-            Ordering::Less => high = middle,
-            Ordering::Equal => return Ok(middle),
-            Ordering::Greater => low = middle + 1,
+        let comm = &comms[middle];
+        if comm.starts_above(prefix, id) {
+            high = middle;
+        } else if comm.starts_below(prefix, id) {
+            low = middle + 1;
+        } else {
+            match comm.order(id) {
+                Ordering::Less => high = middle,
+                Ordering::Equal => return Ok(middle),
+                Ordering::Greater => low = middle + 1,
+            }
         }
     }
     Err(low)
@@ -53,9 +60,10 @@ pub fn chunk_of(chunks: &[CommChunk], prefix: IdPrefix, id: &Text) -> usize
     while low + 1 < high {
         let middle = low + (high - low) / 2;
         let comms = chunks[middle].as_slice();
-        match comms[0].order(prefix, id) {
-            Ordering::Less => high = middle,
-            _ => low = middle,
+        if comms[0].is_above(prefix, id) {
+            high = middle;
+        } else {
+            low = middle;
         }
     }
     low

@@ -55,7 +55,7 @@ fn renew(
     before: &Option<StaleTable>,
     free: &mut Option<StaleTable>,
     row: &Row,
-    position: Option<Position>,
+    position: &Option<Position>,
 ) -> Result<Arc<CommTable, Global>, AllocError>
     requires last { LeadsTo before.now last.now }
     requires before { StaleLeadsTo free.old before.now }
@@ -66,8 +66,8 @@ fn renew(
     if let Some(before) = before {
         if let Some(free) = free {
             if let Some(rows) = Arc::get_mut(&mut free.root) {
-                rows.change(alloc, &free.row, free.position)?;
-                rows.change(alloc, &before.row, before.position)?;
+                rows.change(alloc, &free.row, &free.position)?;
+                rows.change(alloc, &before.row, &before.position)?;
                 rows.change(alloc, row, position)?;
                 return Arc::try_clone(&free.root);
             }
@@ -149,7 +149,7 @@ impl TableBuffers {
             &self.before,
             &mut self.free,
             &row,
-            position,
+            &position,
         ) {
             Ok(given) => {
                 rotate(

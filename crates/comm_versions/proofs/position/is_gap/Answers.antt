@@ -1,5 +1,4 @@
-use Rattle.std.proofs.Common.{◌<◌, ap, sym, ◌∙◌, length, arith}
-use Rattle.std.specs.Ordering.{is_gt, is_lt}
+use Rattle.std.proofs.Common.{◌<◌, sym, ◌∙◌, length, arith}
 use Rattle.comm_versions.proofs.Positions.{absent_end, gap_before, gap_position}
 use Rattle.comm_versions.proofs.position.is_gap.Goals as goal
 
@@ -10,9 +9,9 @@ returns-then-i-comms c holds =
     let n = c.args.chunk in
     let within : n < length ps = omega arith in
     let next = gap_before k ps n c.index-chunks-chunk.result c.deref.result.now c.as_slice-comms.result.now within c.index-chunks-chunk.is c.deref.ensures c.as_slice-comms.ensures.value c.requires.ordered
-    c.args.i c.index-comms-i-then-i-comms.result (omega arith) c.index-comms-i-then-i-comms.is (ap is_lt (sym c.order-then-i-comms.ensures) ∙ (sym c.is_lt.ensures ∙ holds)) in
+    c.args.i c.index-comms-i-then-i-comms.result (omega arith) c.index-comms-i-then-i-comms.is (sym c.is_above.ensures ∙ holds) in
     gap_position k ps n c.index-chunks-chunk.result c.deref.result.now c.as_slice-comms.result.now within c.index-chunks-chunk.is c.deref.ensures c.as_slice-comms.ensures.value c.requires.ordered
-    c.args.i c.index-comms-i.result (omega arith) (omega arith) c.index-comms-i.is (ap is_gt (sym c.order.ensures) ∙ (sym c.is_gt.ensures ∙ c.if-not-is_gt.false)) next.0 next.1
+    c.args.i c.index-comms-i.result (omega arith) (omega arith) c.index-comms-i.is (sym c.is_below.ensures ∙ c.if-not-is_below.false) next.0 next.1
 
 pub returns-else-i-comms : goal.returns-else-i-comms
 returns-else-i-comms c holds =
@@ -21,4 +20,4 @@ returns-else-i-comms c holds =
     let n = c.args.chunk in
     let within : n < length ps = omega arith in
     gap_position k ps n c.index-chunks-chunk.result c.deref.result.now c.as_slice-comms.result.now within c.index-chunks-chunk.is c.deref.ensures c.as_slice-comms.ensures.value c.requires.ordered
-    c.args.i c.index-comms-i.result (omega arith) (omega arith) c.index-comms-i.is (ap is_gt (sym c.order.ensures) ∙ (sym c.is_gt.ensures ∙ c.if-not-is_gt.false)) (absent_end k c.as_slice-comms.result.now c.args.i (omega arith)) (c.is_below.ensures holds)
+    c.args.i c.index-comms-i.result (omega arith) (omega arith) c.index-comms-i.is (sym c.is_below.ensures ∙ c.if-not-is_below.false) (absent_end k c.as_slice-comms.result.now c.args.i (omega arith)) (c.is_below-else-i-comms.ensures holds)

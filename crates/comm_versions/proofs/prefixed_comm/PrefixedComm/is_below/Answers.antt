@@ -1,0 +1,9 @@
+use Rattle.std.proofs.Common.{ap, sym}
+use Rattle.std.specs.Ordering.{is_gt}
+use Rattle.comm_versions.proofs.prefixed_comm.PrefixedComm.is_below.Goals as goal
+
+pub returns-then-starts_below : goal.returns-then-starts_below
+returns-then-starts_below c = sym (ap is_gt (c.starts_below.ensures c.if-starts_below.true))
+
+pub returns-then-starts_above : goal.returns-then-starts_above
+returns-then-starts_above c = sym (ap is_gt (c.starts_above.ensures c.if-starts_above.true))
