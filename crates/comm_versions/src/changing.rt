@@ -16,6 +16,7 @@ use std::alloc::{AllocError, Global};
 use std::sync::Arc;
 
 // Inserts the comm at its index, or replaces the one of its id.
+#[inline(always)]
 fn put_among(
     comms: &mut Vec<PrefixedComm>,
     at: Result<usize, usize>,
@@ -31,7 +32,24 @@ fn put_among(
     Ok(())
 }
 
+// Puts a copy of this chunk in its place, with the comm inserted, or in place of the one of its id.
+#[inline(never)]
+fn put_copied(
+    alloc: Global,
+    chunk: &mut CommChunk,
+    at: Result<usize, usize>,
+    comm: PrefixedComm,
+) -> Result<(), AllocError>
+    requires { StandsAt comm.0 (arc_value chunk.old).items at }
+    ensures { OnOk result ((arc_value chunk.new).items ≡ upsert (arc_value chunk.old).items comm) }
+{
+    let comms = with_comm(alloc, chunk.as_slice(), at, comm)?;
+    *chunk = Arc::new(alloc, comms)?;
+    Ok(())
+}
+
 // Inserts the comm into this chunk, or replaces the one of its id there; a shared chunk is copied.
+#[inline(always)]
 fn put_into(
     alloc: Global,
     chunk: &mut CommChunk,
@@ -43,11 +61,7 @@ fn put_into(
 {
     match Arc::get_mut(chunk) {
         Some(comms) => put_among(comms, at, comm),
-        None => {
-            let comms = with_comm(alloc, chunk.as_slice(), at, comm)?;
-            *chunk = Arc::new(alloc, comms)?;
-            Ok(())
-        }
+        None => put_copied(alloc, chunk, at, comm),
     }
 }
 
@@ -56,6 +70,27 @@ fn fits(chunks: &[CommChunk], position: &Position) -> bool
     requires { position.now.chunk < length chunks.now }
 {
     position.at.is_ok() || chunks[position.chunk].len() < longest(chunks.len())
+}
+
+// Inserts the comm at its position, or replaces the one of its id, in a copy of its chunk, which is cut in two where it
+// is too long.
+#[inline(never)]
+fn put_cut(
+    alloc: Global,
+    chunks: &mut Vec<CommChunk>,
+    position: &Position,
+    comm: PrefixedComm,
+) -> Result<(), AllocError>
+    requires filled { AllChunksFilled chunks.old.items }
+    requires position { IsPosition chunks.old.items comm.0 position.now }
+    ensures upsert { OnOk result
+        (comms_in chunks.new.items ≡ upsert (comms_in chunks.old.items) comm) }
+    ensures filled { OnOk result (AllChunksFilled chunks.new.items) }
+{
+    let comms = chunks[position.chunk].as_slice();
+    let changed = with_comm(alloc, comms, position.at, comm)?;
+    set_chunk(alloc, chunks, position.chunk, changed)?;
+    Ok(())
 }
 
 // Inserts the comm at its position, or replaces the one of its id.
@@ -76,10 +111,7 @@ fn put_at(
         put_into(alloc, &mut chunks[position.chunk], position.at, comm)?;
         return Ok(());
     }
-    let comms = chunks[position.chunk].as_slice();
-    let changed = with_comm(alloc, comms, position.at, comm)?;
-    set_chunk(alloc, chunks, position.chunk, changed)?;
-    Ok(())
+    put_cut(alloc, chunks, position, comm)
 }
 
 // Inserts the comm where a search finds its place, or replaces the one of its id.
@@ -108,6 +140,7 @@ fn put_searched(
 
 // Inserts the comm where the byte order wants it, or replaces the one of its id. The hint is tested first; where it is
 // wrong, a search follows.
+#[inline(always)]
 fn put_in(
     alloc: Global,
     chunks: &mut Vec<CommChunk>,
@@ -128,7 +161,21 @@ fn put_in(
     put_searched(alloc, chunks, comm)
 }
 
+// Puts a copy of this chunk in its place, without the comm at index i.
+#[inline(never)]
+fn take_copied(alloc: Global, chunk: &mut CommChunk, i: usize) -> Result<(), AllocError>
+    requires { i < length (arc_value chunk.old).items }
+    ensures { OnOk result
+        ((arc_value chunk.new).items
+        ≡ take i (arc_value chunk.old).items ++ drop (i + 1) (arc_value chunk.old).items) }
+{
+    let left = without_at(alloc, chunk.as_slice(), i)?;
+    *chunk = Arc::new(alloc, left)?;
+    Ok(())
+}
+
 // Removes the comm at index i of this chunk; a shared chunk is copied.
+#[inline(always)]
 fn take_from(alloc: Global, chunk: &mut CommChunk, i: usize) -> Result<(), AllocError>
     requires { i < length (arc_value chunk.old).items }
     ensures { OnOk result
@@ -140,16 +187,12 @@ fn take_from(alloc: Global, chunk: &mut CommChunk, i: usize) -> Result<(), Alloc
             comms.remove(i);
             Ok(())
         }
-        None => {
-            let left = without_at(alloc, chunk.as_slice(), i)?;
-            *chunk = Arc::new(alloc, left)?;
-            Ok(())
-        }
+        None => take_copied(alloc, chunk, i),
     }
 }
 
 // Removes the comm of this id, which stands at index i of the chunk at `place`.
-#[inline]
+#[inline(always)]
 fn take_at(
     alloc: Global,
     chunks: &mut Vec<CommChunk>,
@@ -213,6 +256,7 @@ fn take_searched(alloc: Global, chunks: &mut Vec<CommChunk>, id: &Text) -> Resul
 }
 
 // Removes the comm of this id, if there is one. The hint is tested first; where it is wrong, a search follows.
+#[inline(always)]
 fn take_out(
     alloc: Global,
     chunks: &mut Vec<CommChunk>,
@@ -236,6 +280,7 @@ fn take_out(
 }
 
 // Removes the comms of these ids.
+#[inline(always)]
 fn take_all(
     alloc: Global,
     chunks: &mut Vec<CommChunk>,
@@ -256,6 +301,7 @@ fn take_all(
 
 /// Applies the row to the chunks. The hint is where the first comm of the row may stand, or would; a wrong hint costs a
 /// search. After an Err (memory) the chunks are of no use.
+#[inline(always)]
 pub fn apply_row(
     alloc: Global,
     chunks: &mut Vec<CommChunk>,

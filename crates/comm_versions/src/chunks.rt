@@ -156,8 +156,26 @@ fn join_two(alloc: Global, chunks: &mut Vec<CommChunk>, place: usize) -> Result<
     Ok(())
 }
 
+// Joins the chunk at this place to the next, or to the one before, where both together are half a chunk at most.
+#[inline(never)]
+fn join_short(alloc: Global, chunks: &mut Vec<CommChunk>, place: usize) -> Result<(), AllocError>
+    requires { AllChunksFilled chunks.old.items }
+    ensures comms_in { OnOk result (comms_in chunks.new.items ≡ comms_in chunks.old.items) }
+    ensures filled { OnOk result (AllChunksFilled chunks.new.items) }
+{
+    if are_short(chunks.as_slice(), place) {
+        join_two(alloc, chunks, place)?;
+    }
+    let before = place.saturating_sub(1);
+    if are_short(chunks.as_slice(), before) {
+        join_two(alloc, chunks, before)?;
+    }
+    Ok(())
+}
+
 /// Joins the chunk at this place to the next, or to the one before, where both together are half a chunk at most. So
 /// there aren't many more chunks than the comms need, whatever was closed. Err: memory.
+#[inline(always)]
 pub fn join_chunks(
     alloc: Global,
     chunks: &mut Vec<CommChunk>,
@@ -170,12 +188,5 @@ pub fn join_chunks(
     if is_long(chunks.as_slice(), place) {
         return Ok(());
     }
-    if are_short(chunks.as_slice(), place) {
-        join_two(alloc, chunks, place)?;
-    }
-    let before = place.saturating_sub(1);
-    if are_short(chunks.as_slice(), before) {
-        join_two(alloc, chunks, before)?;
-    }
-    Ok(())
+    join_short(alloc, chunks, place)
 }

@@ -109,6 +109,7 @@ impl CommTable {
 
     /// Applies the row. Chunks that aren't shared are changed in place. The hint says where the row changes the
     /// table, if it holds. After an Err (memory) the table is of no use.
+    #[inline(always)]
     pub fn change(
         &mut self,
         alloc: Global,

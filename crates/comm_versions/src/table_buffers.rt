@@ -46,9 +46,35 @@ impl Model for TableBuffers {
     ghost invariant = { λ t. LeadsTo t.before (arc_value t.last) × StaleLeadsTo t.free t.before };
 }
 
+// Puts a copy of the last table, changed by this row, in place of the free one, and shares it.
+#[inline(never)]
+fn renew_copied(
+    alloc: Global,
+    last: &CommTable,
+    free: &mut Option<StaleTable>,
+    row: &Row,
+    position: &Option<Position>,
+) -> Result<Arc<CommTable, Global>, AllocError>
+    ensures given { IfOk result (λ r. arc_value r ≡ with_row row.now last.now) }
+    ensures free { OnOk result
+        (MatchOption free.new ⊥ (λ f. arc_value f.root ≡ with_row row.now last.now)) }
+{
+    let mut copy = last.copy(alloc)?;
+    copy.change(alloc, row, position)?;
+    let root = Arc::new(alloc, copy)?;
+    let given = Arc::try_clone(&root)?;
+    *free = Some(StaleTable {
+        root,
+        row: Row::Same,
+        position: None,
+    });
+    Ok(given)
+}
+
 // Makes the free table the one after this row, and shares it: it lacks its own row, the row of the table `before`, and
 // this one. Where a reader still looks at it, or there is none, a copy of the last table takes its place. After an Err
 // the free table is of no use.
+#[inline(never)]
 fn renew(
     alloc: Global,
     last: &CommTable,
@@ -73,16 +99,7 @@ fn renew(
             }
         }
     }
-    let mut copy = last.copy(alloc)?;
-    copy.change(alloc, row, position)?;
-    let root = Arc::new(alloc, copy)?;
-    let given = Arc::try_clone(&root)?;
-    *free = Some(StaleTable {
-        root,
-        row: Row::Same,
-        position: None,
-    });
-    Ok(given)
+    renew_copied(alloc, last, free, row, position)
 }
 
 // Makes the free table the last, which this row led to, the last the one before, and the one before the free one.
