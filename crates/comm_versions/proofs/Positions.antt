@@ -1,7 +1,6 @@
 -- Where an id stands among comms in chunks.
 use Rattle.std.proofs.Common.{◌≡◌, ℕ, zero, suc, ◌<◌, ◌≤◌, ◌+◌, ◌-◌, true, List, [], ◌∷◌, ◌++◌, length, get_or, take, drop, set, Global, Vec, Ordering, Less, Equal, Greater, refl, sym, ap, ◌∙◌, arith, subst, append_assoc, take-append-drop, length-append, length-drop, length-take-le}
 use Rattle.std.proofs.lemmas.List.{take-set, drop-set}
-use Rattle.std.proofs.lemmas.Map.Lookups.{exact_bytes}
 use Rattle.std.specs.Prelude.{Result, Ok, Err, IfOk, IfErr}
 use Rattle.std.specs.Arc.{arc_value}
 use Rattle.std.specs.Ordering.{is_eq, is_gt, is_lt, match_ordering}
@@ -43,16 +42,6 @@ set_cut es i c h = sym (take-append-drop i (set es i c)) ∙ ap (λ l. l ++ drop
 pub set_there : (es : Opens) (at : Result ℕ ℕ) (i : ℕ) (c : Name × Comm) → StandsAt c.0 es at → at ≡ Ok i → set es i c ≡ upsert es c
 set_there es at i c h is =
     let f : StandsAt c.0 es (Ok i) = subst (StandsAt c.0 es) is h in found_put es i c.0 c (set es i c) refl f (set_cut es i c f.0)
-
-starts_at : (es : Opens) (i : ℕ) (k : Name) (d : Name × Comm) → i < length es → StartsWithId k (drop i es) → id_cmp k (get_or es i d).0 ≡ Equal
-starts_at [] i k d h f = absurd (omega arith)
-starts_at (e ∷ es) zero k d h f = f
-starts_at (e ∷ es) (suc i) k d h f = starts_at es i k d (omega arith) f
-
--- the comm that stands there has the id
-pub stands_id : (es : Opens) (at : Result ℕ ℕ) (i : ℕ) (k : Name) (x : Name × Comm) → StandsAt k es at → at ≡ Ok i → x ≡ get_or es i x → k ≡ x.0
-stands_id es at i k x h is here =
-    let f : StandsAt k es (Ok i) = subst (StandsAt k es) is h in exact_bytes k x.0 (ap (λ (e : Name × Comm). id_cmp k e.0) here ∙ starts_at es i k x f.0 f.2)
 
 -- where the id would stand
 pub insert_there : (es new : Opens) (at : Result ℕ ℕ) (i : ℕ) (c : Name × Comm) → StandsAt c.0 es at → at ≡ Err i → new ≡ take i es ++ c ∷ drop i es → new ≡ upsert es c

@@ -17,7 +17,7 @@ pub struct Position {
 }
 
 /// Whether the comm at this index of this chunk has the id.
-#[inline]
+#[inline(always)]
 pub fn is_found(chunks: &[CommChunk], id: &Text, chunk: usize, i: usize) -> bool
     requires filled { AllChunksFilled chunks.now }
     requires ordered { IsInOrder (comms_in chunks.now) }
@@ -44,6 +44,7 @@ fn is_below(chunks: &[CommChunk], prefix: IdPrefix, id: &Text, from: usize) -> b
 }
 
 // Whether a comm of the id, which has this prefix, would be inserted at this index of this chunk, behind another.
+#[inline(always)]
 fn is_gap(chunks: &[CommChunk], prefix: IdPrefix, id: &Text, chunk: usize, i: usize) -> bool
     requires prefix { to_be_bytes w64 prefix ≡ padded 8 id.now }
     requires filled { AllChunksFilled chunks.now }

@@ -81,6 +81,7 @@ fn is_prefix_below(one: IdPrefix, other: IdPrefix) -> bool
 
 impl PrefixedComm {
     /// Puts the prefix of its id beside the comm.
+    #[inline]
     pub fn new(comm: OpenComm) -> PrefixedComm
         ensures { result ≡ comm }
     {
@@ -127,6 +128,7 @@ impl PrefixedComm {
         requires { to_be_bytes w64 prefix ≡ padded 8 id.now }
         ensures { result ≡ true → id_cmp id.now self.now.0 ≡ Less }
     {
+        // The id stands for the contract.
         let _ = id;
         is_prefix_below(prefix, self.prefix)
     }
@@ -137,6 +139,7 @@ impl PrefixedComm {
         requires { to_be_bytes w64 prefix ≡ padded 8 id.now }
         ensures { result ≡ true → id_cmp id.now self.now.0 ≡ Greater }
     {
+        // The id stands for the contract.
         let _ = id;
         is_prefix_below(self.prefix, prefix)
     }
