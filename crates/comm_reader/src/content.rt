@@ -20,6 +20,7 @@ pub struct Content<'a> {
 
 /// Reads the next value as data, in which values nest at most so deep. None: it is no object, or none that
 /// [`Dict::read`] reads.
+#[inline(always)]
 pub fn read_data(
     alloc: Global,
     numbers: Numbers,
@@ -75,6 +76,7 @@ fn read_members<'a>(
 
 /// Reads the next value as a content, in which values nest at most so deep. None: it is no object, its `data` is none
 /// that [`Dict::read`] reads, its `comm_id` or `target_name` is no string, or another member is no value.
+#[inline(always)]
 pub fn read_content<'a>(
     alloc: Global,
     numbers: Numbers,

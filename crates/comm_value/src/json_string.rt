@@ -1,5 +1,5 @@
 // Strings as JSON text.
-ghost use Rattle.std.specs.Prelude.{◌≡◌, ◌+◌, ◌-◌, ◌<◌, ◌≤◌, [], ◌∷◌, ◌++◌, length, take, drop, OnOk};
+ghost use Rattle.std.specs.Prelude.{◌≡◌, ◌+◌, ◌-◌, ◌<◌, ◌≤◌, [], ◌∷◌, ◌++◌, length, take, drop, OnOk, vec_len, vec_capacity};
 ghost use Rattle.std.specs.Bool.{OnTrue, OnFalse};
 ghost use Rattle.std.specs.Char.{digit_char};
 ghost use Rattle.json.specs.Print.{escape_letter, escape_byte, escape, quoted};
@@ -7,6 +7,30 @@ ghost use Rattle.json.specs.Written.{PlainBetween};
 
 use std::alloc::AllocError;
 use std::simd::Simd;
+
+/// Appends a byte. Where there is room for it no function is called. Err: out of memory.
+#[inline(always)]
+pub fn push_byte(byte: u8, out: &mut Vec<u8>) -> Result<(), AllocError>
+    ensures { OnOk result (out.new.items ≡ out.old.items ++ byte ∷ []) }
+{
+    if out.len() < out.capacity() {
+        out.push_reserved(byte);
+        return Ok(());
+    }
+    Ok(out.push(byte)?)
+}
+
+// Makes room for so many bytes more, in the same way.
+#[inline(always)]
+fn make_room(more: usize, out: &mut Vec<u8>) -> Result<(), AllocError>
+    ensures items { out.new.items ≡ out.old.items }
+    ensures room { OnOk result (vec_len out.new + more ≤ vec_capacity out.new) }
+{
+    if more <= out.capacity() - out.len() {
+        return Ok(());
+    }
+    out.reserve(more)
+}
 
 /// Appends a string as JSON text with the shortest escapes (RFC 8259, 7). Err: out of memory; `out` may hold a part
 /// of it.
@@ -17,7 +41,7 @@ pub fn write_text(text: &str, out: &mut Vec<u8>) -> Result<(), AllocError>
     if !is_plain(bytes) {
         return write_quoted_escapes(bytes, out);
     }
-    out.reserve(bytes.len() + 2)?;
+    make_room(bytes.len() + 2, out)?;
     out.push_reserved(b'"');
     out.extend_from_slice(bytes)?;
     out.push_reserved(b'"');
@@ -28,9 +52,9 @@ pub fn write_text(text: &str, out: &mut Vec<u8>) -> Result<(), AllocError>
 fn write_quoted_escapes(bytes: &[u8], out: &mut Vec<u8>) -> Result<(), AllocError>
     ensures { OnOk result (out.new.items ≡ out.old.items ++ 34 ∷ (escape bytes.now ++ 34 ∷ [])) }
 {
-    out.push(b'"')?;
+    push_byte(b'"', out)?;
     write_escaped(bytes, out)?;
-    Ok(out.push(b'"')?)
+    push_byte(b'"', out)
 }
 
 /// Appends a member's key with its colon, and before it the comma or the bracket that stands there. Err: out of memory;
@@ -46,7 +70,7 @@ pub fn write_key(first: u8, key: &str, out: &mut Vec<u8>) -> Result<(), AllocErr
         write_quoted_escapes(bytes, out)?;
         return Ok(out.push(b':')?);
     }
-    out.reserve(bytes.len() + 4)?;
+    make_room(bytes.len() + 4, out)?;
     out.push_reserved(first);
     out.push_reserved(b'"');
     out.extend_from_slice(bytes)?;

@@ -7,7 +7,7 @@ ghost use Rattle.comm_json.specs.Text.{compact_text, items_text, members_text};
 ghost use Rattle.comm_value.specs.ToJson.{json_of, json_items, json_members};
 ghost use Rattle.comm_value.specs.View.{tree};
 
-use crate::json_string::{write_key, write_text};
+use crate::json_string::{push_byte, write_key, write_text};
 use crate::val::{Dict, Items, Val};
 use crate::whole::Whole;
 use itoa::Buffer;
@@ -52,7 +52,8 @@ fn write_number(number: u64, out: &mut Vec<u8>) -> Result<(), AllocError>
     ensures { OnOk result (out.new.items ≡ out.old.items ++ decimal number) }
 {
     if number < 10 {
-        return Ok(out.push(b'0' + number as u8)?);
+        push_byte(b'0' + number as u8, out)?;
+        return Ok(());
     }
     let mut buffer = Buffer::new();
     out.extend_from_slice(buffer.format(number).as_bytes())
@@ -91,14 +92,14 @@ fn write_items(items: &Items, out: &mut Vec<u8>) -> Result<(), AllocError>
 {
     let mut later = false;
     for item in items.as_slice() {
-        out.push(first_byte(later, b'['))?;
+        push_byte(first_byte(later, b'['), out)?;
         write_value(item, out)?;
         later = true;
     }
     if !later {
         return out.extend_from_slice(b"[]");
     }
-    Ok(out.push(b']')?)
+    push_byte(b']', out)
 }
 
 #[cycle(json_text)]
@@ -117,5 +118,5 @@ fn write_members(dict: &Dict, out: &mut Vec<u8>) -> Result<(), AllocError>
     if !later {
         return out.extend_from_slice(b"{}");
     }
-    Ok(out.push(b'}')?)
+    push_byte(b'}', out)
 }

@@ -44,17 +44,27 @@ impl KnownTexts {
 
     /// A text of these characters: the one that was met before, or else a copy, which is kept where it is no longer than
     /// 40 bytes. Err: out of memory, or a reference count at its maximum.
+    // A text that is known is found where this is called; any other is dear anyway.
+    #[inline(always)]
     pub fn text(&mut self, alloc: Global, text: &str) -> Result<Text, AllocError>
         ensures { IfOk result (λ t. t ≡ text.now) }
     {
-        if text.len() > LONGEST || !self.keeps {
-            return Text::copy_of(alloc, text);
-        }
         let place = place_of(text.as_bytes());
         if let Some(Some(known)) = self.places.get(place) {
             if known.is(text) {
                 return known.copy();
             }
+        }
+        self.unknown(alloc, text, place)
+    }
+
+    // A text that isn't at its place, where it is kept if it is short. Err: out of memory.
+    #[inline(never)]
+    fn unknown(&mut self, alloc: Global, text: &str, place: usize) -> Result<Text, AllocError>
+        ensures { IfOk result (λ t. t ≡ text.now) }
+    {
+        if text.len() > LONGEST || !self.keeps {
+            return Text::copy_of(alloc, text);
         }
         let made = Text::copy_of(alloc, text)?;
         self.keep(place, made.copy()?)?;
@@ -78,6 +88,7 @@ impl KnownTexts {
 
 // Where a text is kept, by its last four bytes, in which ids differ and numbered keys too, and by its length. The short
 // ones, such as keys and the words of a protocol, have places of their own, which no ids take from them.
+#[inline(always)]
 fn place_of(bytes: &[u8]) -> usize {
     let end = match bytes.last_chunk::<4>() {
         Some(end) => spread(u32::from_be_bytes(*end)),

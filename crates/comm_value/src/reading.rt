@@ -1,5 +1,5 @@
 //! Dicts that are read straight from the tokens of a text, with no tree of the text beside.
-ghost use Rattle.std.specs.Prelude.{◌≡◌, ◌<◌, length, true, is_some, Some, IfSome, IfOk, OnSome, option_map, [], ◌∷◌};
+ghost use Rattle.std.specs.Prelude.{◌≡◌, ◌<◌, length, true, is_some, Some, IfSome, IfOk, OnOk, OnSome, option_map, [], ◌∷◌, ◌++◌};
 ghost use Rattle.serde_json.specs.Read.{number_of};
 ghost use Rattle.comm_value.specs.FromJson.{taken_as};
 ghost use Rattle.comm_value.specs.Order.{is_ordered, members_ordered};
@@ -36,6 +36,7 @@ impl Dict {
     }
 }
 
+#[inline(always)]
 fn read_number(alloc: Global, numbers: Numbers, text: &str) -> Option<Val>
     ensures in_range { OnSome result (is_some (number_of text.now) ≡ true) }
     ensures taken { IfSome result (λ v. taken_as numbers text.now ≡ Some (tree v)) }
@@ -92,11 +93,11 @@ fn read_items(
     if reader.take_end_array() {
         return Some(Items::empty());
     }
-    let mut found = Vec::new(alloc);
+    let mut found = Vec::with_capacity(alloc, 4).ok()?;
     loop {
         let value = read_val(alloc, numbers, texts, reader, depth)?;
         value.in_order();
-        found.push(value).ok()?;
+        push_item(&mut found, value).ok()?;
         if reader.take_end_array() {
             return Items::new(alloc, found).ok();
         }
@@ -104,6 +105,18 @@ fn read_items(
             return None;
         }
     }
+}
+
+// With room to spare the item is pushed where this is called.
+#[inline(always)]
+fn push_item(all: &mut Vec<Val>, item: Val) -> Result<(), AllocError>
+    ensures { OnOk result (all.new.items ≡ all.old.items ++ item ∷ []) }
+{
+    if all.len() < all.capacity() {
+        all.push_reserved(item);
+        return Ok(());
+    }
+    Ok(all.push(item)?)
 }
 
 // The next member of an object; Some(None) is its end.
@@ -159,7 +172,7 @@ fn both(alloc: Global, first: Member, second: Member) -> Result<Vec<Member>, All
         ≡ insert second.key (tree second.value) (members_of (first ∷ []))) }
 {
     let mut all = Vec::with_capacity(alloc, 4)?;
-    all.push(first)?;
+    all.push_reserved(first);
     put_member(all, second)
 }
 

@@ -101,12 +101,12 @@ read_items-returns-then-take_end_array-clause-reads t c =
 
 pub read_items-new-requires : goal.read_items-new-requires
 read_items-new-requires t c =
-    let pushed : c.push.new.self.items ≡ c.loop-found.found.items ++ c.in_ok-value.value ∷ [] = search rules in
+    let pushed : c.push_item.new.all.items ≡ c.loop-found.found.items ++ c.in_ok-value.value ∷ [] = search rules in
     ap (λ vs. items_ordered (items_view vs)) pushed ∙ items_ordered_push c.loop-found.found.items c.in_ok-value.value c.loop-found.invariant.1 c.in_order.ensures
 
 pub read_items-loop-found-preserved : goal.read_items-loop-found-preserved
 read_items-loop-found-preserved t c =
-    let pushed : c.push.new.self.items ≡ c.loop-found.found.items ++ c.in_ok-value.value ∷ [] = search rules in
+    let pushed : c.push_item.new.all.items ≡ c.loop-found.found.items ++ c.in_ok-value.value ∷ [] = search rules in
     let going : (after_end_array c.take_end_array-in-loop-found.new.self ≡ None) × (c.take_end_array-in-loop-found.new.self ≡ c.read_val.new.reader) = grind arith in (
       rw (pushed, going.1) (one_item_more c.args.numbers c.args.depth c.take_end_array.new.self c.loop-found.found.items c.loop-found.reader c.read_val.new.reader c.in_ok-value.value c.loop-found.invariant.0 c.loop-found.invariant.2
           c.in_ok-value.ensures.reads c.in_ok-value.ensures.shorter),
@@ -116,12 +116,12 @@ read_items-loop-found-preserved t c =
 
 pub read_items-returns-then-take_end_array-2-clause-reads : goal.read_items-returns-then-take_end_array-2-clause-reads
 read_items-returns-then-take_end_array-2-clause-reads t c =
-    let pushed : c.push.new.self.items ≡ c.loop-found.found.items ++ c.in_ok-value.value ∷ [] = search rules in
+    let pushed : c.push_item.new.all.items ≡ c.loop-found.found.items ++ c.in_ok-value.value ∷ [] = search rules in
     let start : c.take_end_array.new.self ≡ c.args.reader.now = grind arith in
     let end : after_end_array c.read_val.new.reader ≡ Some c.take_end_array-in-loop-found.new.self = grind arith in
     let has = one_item_more c.args.numbers c.args.depth c.take_end_array.new.self c.loop-found.found.items c.loop-found.reader c.read_val.new.reader c.in_ok-value.value c.loop-found.invariant.0 c.loop-found.invariant.2
     c.in_ok-value.ensures.reads c.in_ok-value.ensures.shorter in
-    some_of_ok c.new.result c.ok-then-take_end_array-2.result (items_view c.push.new.self.items) (λ is. ReadsItems c.args.numbers c.args.depth c.args.reader.now is c.take_end_array-in-loop-found.new.self) c.ok-then-take_end_array-2.ensures.value c.new.ensures
+    some_of_ok c.new.result c.ok-then-take_end_array-2.result (items_view c.push_item.new.all.items) (λ is. ReadsItems c.args.numbers c.args.depth c.args.reader.now is c.take_end_array-in-loop-found.new.self) c.ok-then-take_end_array-2.ensures.value c.new.ensures
     (rw pushed (subst (λ ts. ReadsItems c.args.numbers c.args.depth ts (items_view (c.loop-found.found.items ++ c.in_ok-value.value ∷ [])) c.take_end_array-in-loop-found.new.self) start
     (all_items c.args.numbers c.args.depth c.take_end_array.new.self _ _ _ has end)))
 
