@@ -30,10 +30,13 @@ core_code =
     (λ s. ((s.limit, s.settled), (s.targets, s.comms)))
     (λ p. record { limit = p.0.0; targets = p.1.0; comms = p.1.1; settled = p.0.1 }) (λ _. refl)
 
+abbrev pub outcome_code : Coded (Option Outcome)
+outcome_code = coded_option (coded_result answer.the_row.coded fault.the_row.coded)
+
 abbrev pub readied_code : Coded Readied
 readied_code =
     code_by ((Call × Option Outcome) × ((Reply × List Outgoing) × (TableUpdate × Option Meaning)))
-    (coded× (coded× call.the_row.coded (coded_option (coded_result answer.the_row.coded fault.the_row.coded)))
+    (coded× (coded× call.the_row.coded outcome_code)
     (coded× (coded× reply.the_row.coded (coded_list outgoing.the_row.coded))
     (coded× table_update.the_row.coded (coded_option meaning_code))))
     (λ r. ((r.call, r.outcome), ((r.reply, r.outgoing), (r.table_update, r.registered))))

@@ -1,5 +1,6 @@
--- What of an answer goes out; for private clauses.
+-- What of an answer goes out, and what is kept of it; for private clauses.
 use Rattle.std.specs.Prelude.{◌≡◌, List, [], ◌∷◌, Option, Some, Ok, flat_map}
+use Rattle.comm_value.specs.Tree.{Members}
 use Rattle.comm_messages.specs.Content.{Content}
 use Rattle.comm_messages.specs.declared.outgoing.Outgoing.{Outgoing}
 use Rattle.comm_messages.specs.declared.outgoing.Outgoing.TheVariants as out
@@ -17,3 +18,8 @@ bodies_in messages = flat_map body_of messages
 abbrev pub IsTold : Option Outcome → List Outgoing → Type 0
 IsTold (Some (Ok a)) messages = a.messages ≡ bodies_in messages
 IsTold o messages = Unit {0}
+
+-- this is the state that an answer gives
+abbrev pub HasStateOf : Option Outcome → Option Members → Type 0
+HasStateOf (Some (Ok a)) state = state ≡ a.state
+HasStateOf o state = Unit {0}

@@ -10,11 +10,11 @@ ghost use Rattle.comm_core.specs.declared.table_update.TableUpdate.TheVariants.{
 
 use crate::comm::Comm;
 use crate::comms::Comms;
-use crate::kept_answer::KeptAnswer;
+use crate::kept_answer::StagedAnswer;
 use crate::question::KeptRequest;
 use crate::table_update::TableUpdate;
 use crate::target_table::TargetTable;
-use comm_targets::{Event, Held, Target, TargetFault};
+use comm_targets::{Event, Held, Target};
 use comm_value::{Dict, Text};
 use std::alloc::AllocError;
 
@@ -37,7 +37,7 @@ pub fn apply<T: Target>(
     targets: &mut TargetTable<T>,
     comms: &mut Comms,
     table_update: TableUpdate,
-    outcome: Option<Result<KeptAnswer, TargetFault>>,
+    outcome: StagedAnswer,
     registered: Option<T>,
 ) -> Option<Held<T>>
     requires room { 0 < targets.old.room }
@@ -81,34 +81,10 @@ pub fn apply<T: Target>(
             None
         }
         TableUpdate::Commit(request) => {
-            commit_outcome(targets, comms, request, outcome, registered);
+            drop(registered);
+            commit(targets, comms, request, outcome);
             None
         }
-    }
-}
-
-/// Makes the change that the target staged, where it gave an answer.
-#[inline(always)]
-fn commit_outcome<T: Target>(
-    targets: &mut TargetTable<T>,
-    comms: &mut Comms,
-    request: KeptRequest,
-    outcome: Option<Result<KeptAnswer, TargetFault>>,
-    registered: Option<T>,
-)
-    requires space { 0 < comms.old.room }
-    requires agrees { Agrees (unstaged targets.old.all) comms.old.all }
-    requires staged { HaveStaged targets.old.all (staged_by (Commit request) outcome) }
-    requires suits { Suits (unstaged targets.old.all) comms.old.all
-        (option_map T.means registered) (Commit request) outcome }
-    ensures { Carried targets.new.all comms.new.all
-        (planned (machine_of targets.old.all comms.old.all) (Commit request) outcome) }
-{
-    drop(registered);
-    match outcome {
-        Some(Ok(answer)) => commit(targets, comms, request, answer),
-        Some(Err(_)) => drop(request),
-        None => drop(request),
     }
 }
 
@@ -117,15 +93,15 @@ fn commit<T: Target>(
     targets: &mut TargetTable<T>,
     comms: &mut Comms,
     request: KeptRequest,
-    answer: KeptAnswer,
+    outcome: StagedAnswer,
 )
     requires space { 0 < comms.old.room }
     requires agrees { Agrees (unstaged targets.old.all) comms.old.all }
-    requires staged { HaveStaged targets.old.all (staged_by (Commit request) (Some (Ok answer))) }
-    requires suits { Suits (unstaged targets.old.all) comms.old.all
-        None (Commit request) (Some (Ok answer)) }
+    requires staged { HaveStaged targets.old.all (staged_by (Commit request) outcome) }
+    requires suits { (m : Option Meaning)
+        × Suits (unstaged targets.old.all) comms.old.all m (Commit request) outcome }
     ensures { Carried targets.new.all comms.new.all
-        (planned (machine_of targets.old.all comms.old.all) (Commit request) (Some (Ok answer))) }
+        (planned (machine_of targets.old.all comms.old.all) (Commit request) outcome) }
 {
     targets.commit(&request.name);
     let KeptRequest {
@@ -134,7 +110,7 @@ fn commit<T: Target>(
         place,
         ..
     } = request;
-    let KeptAnswer { state, .. } = answer;
+    let StagedAnswer { state, .. } = outcome;
     match event {
         Event::Open { id, version, body } => {
             drop((version, body));

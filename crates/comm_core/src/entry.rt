@@ -43,7 +43,7 @@ pub enum Entry {
         client: u8,
         number: u64,
         call: Call,
-        outcome: Option<Result<Answer, TargetFault>>,
+        outcome: Option<Result<KeptAnswer, TargetFault>>,
         reply: Reply,
         outgoing: Outgoings,
     },
@@ -110,38 +110,37 @@ fn bodies_in(alloc: Global, outgoing: &[Outgoing]) -> Result<Bodies, AllocError>
     Ok(all)
 }
 
-// The answer of which this is kept, whole and shared. Its messages are among what goes out.
-fn whole_answer(
+// A copy of this answer, shared. Its messages are among what goes out.
+fn answer_copy(
     alloc: Global,
     answer: &KeptAnswer,
     outgoing: &[Outgoing],
-) -> Result<Answer, AllocError>
+) -> Result<KeptAnswer, AllocError>
     requires { answer.now.messages ≡ bodies_in outgoing.now }
     ensures { IfOk result (λ a. a ≡ answer.now) }
 {
-    let state = match &answer.state {
-        Some(state) => Some(state.copy()?),
-        None => None,
-    };
+    let state = answer.state_copy()?;
     let custom = custom_copy(&answer.custom)?;
-    Ok(Answer {
+    let (kept, messages) = KeptAnswer::take(Answer {
         state,
         messages: bodies_in(alloc, outgoing)?,
         custom,
-    })
+    });
+    drop(messages);
+    Ok(kept)
 }
 
-// What a target gave, whole and shared.
+// A copy of what a target gave, shared.
 fn outcome_copy(
     alloc: Global,
     outcome: &Option<Result<KeptAnswer, TargetFault>>,
     outgoing: &[Outgoing],
-) -> Result<Option<Result<Answer, TargetFault>>, AllocError>
+) -> Result<Option<Result<KeptAnswer, TargetFault>>, AllocError>
     requires { IsTold outcome.now outgoing.now }
     ensures { IfOk result (λ o. o ≡ outcome.now) }
 {
     match outcome {
-        Some(Ok(answer)) => Ok(Some(Ok(whole_answer(alloc, answer, outgoing)?))),
+        Some(Ok(answer)) => Ok(Some(Ok(answer_copy(alloc, answer, outgoing)?))),
         Some(Err(fault)) => Ok(Some(Err(*fault))),
         None => Ok(None),
     }
@@ -199,7 +198,7 @@ impl<T: Target> PreparedChange<T> {
     fn result_copy(
         &self,
         alloc: Global,
-    ) -> Result<(Option<Result<Answer, TargetFault>>, Reply, Outgoings), AllocError>
+    ) -> Result<(Option<Result<KeptAnswer, TargetFault>>, Reply, Outgoings), AllocError>
         ensures { IfOk result (λ r. r ≡ (self.now.outcome, self.now.reply, self.now.outgoing)) }
     {
         let outgoing = Outgoings::copy_of(alloc, &self.outgoing)?;

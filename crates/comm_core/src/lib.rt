@@ -13,6 +13,7 @@ mod call;
 mod comm;
 mod comms;
 mod decision;
+mod entered_change;
 mod entry;
 mod evaluation;
 mod ids;
@@ -35,8 +36,10 @@ mod unavailable;
 
 pub use call::Call;
 pub use comm::Comm;
+pub use entered_change::EnteredChange;
 pub use entry::{Entry, Outgoings};
 pub use ids::Ids;
+pub use kept_answer::KeptAnswer;
 pub use laws::{
     an_end_comes_last, comms_are_listed_in_the_order_of_ids,
     comms_have_the_state_that_they_were_given_last, comms_in_order_are_the_comms,

@@ -5,6 +5,7 @@ ghost use mathlib.Core.List.{IsPrefix};
 ghost use Rattle.std.specs.Arc.{arc_value};
 ghost use Rattle.comm_core.specs.History.{IsLegal, replay};
 ghost use Rattle.comm_core.specs.Ready.{CoreValue, HandsNothingIn, IsReady, machine};
+ghost use Rattle.comm_core.specs.Row.{rows, with_row};
 ghost use Rattle.comm_core.specs.Tables.{IdleWhere};
 ghost use Rattle.comm_targets.specs.Meaning.{IsIdle};
 ghost use Rattle.comm_manager.specs.Asked.{ready_entry};
@@ -20,8 +21,8 @@ use crate::journal::HistoryStore;
 use crate::ledger::ClientSeq;
 use crate::manager_id::ManagerId;
 use comm_core::{
-    Call, Core, Entry, Finished, Limits, PreparedChange, Unavailable, legal_histories_grow,
-    replays_grow, rows_are_what_entries_change,
+    Call, Core, EnteredChange, Entry, Limits, PreparedChange, Row, Unavailable,
+    legal_histories_grow, replays_grow, rows_are_what_entries_change,
 };
 use comm_outbox::Outbox;
 use comm_targets::{Held, Target};
@@ -36,40 +37,70 @@ pub struct AnsweredChange<M: ManagerId, T: Target> {
     pub ended: Option<Held<T>>,
 }
 
-// Builds the entry of the prepared change, by the client's next number: twice for the history and the queue, and
-// once, with its row, as what is to be published. Err: memory; nothing is pending.
-fn build_entry<M: ManagerId, T: Target>(
-    alloc: Global,
-    call: Call,
-    prepared: &PreparedChange<T>,
+// Makes the change of this entry and this row pending. Gives the entry twice more, for the history and the queue. Err:
+// memory; nothing is pending.
+fn append<M: ManagerId>(
     writer: &mut VersionWriter<M>,
-    seq: &ClientSeq<M>,
+    entry: Arc<Entry, Global>,
+    row: Row,
 ) -> Result<(Arc<Entry, Global>, Arc<Entry, Global>), AllocError>
-    requires call { call ≡ prepared.now.call }
-    requires number { seq.now.number < 2 ^ 62 }
     requires legal { IsLegal M.limits.clients M.limits.comms
-        ((writer.old.front ++ writer.old.pending)
-        ++ ready_entry seq.now.client (seq.now.number + 1) prepared.now ∷ []) }
-    requires ready { (core : CoreValue) × IsReady core prepared.now
-        × (machine core ≡ replay M.limits.comms (writer.old.front ++ writer.old.pending)) }
-    ensures kept { IfOk result (λ r.
-        arc_value r.0 ≡ ready_entry seq.now.client (seq.now.number + 1) prepared.now) }
-    ensures sent { IfOk result (λ r. arc_value r.1 ≡ arc_value r.0) }
+        ((writer.old.front ++ writer.old.pending) ++ arc_value entry ∷ []) }
+    requires row { with_row row (rows (replay M.limits.comms (writer.old.front ++ writer.old.pending)))
+        ≡ rows (replay M.limits.comms
+        ((writer.old.front ++ writer.old.pending) ++ arc_value entry ∷ [])) }
+    ensures kept { IfOk result (λ r. arc_value r.0 ≡ arc_value entry) }
+    ensures sent { IfOk result (λ r. arc_value r.1 ≡ arc_value entry) }
     ensures front { writer.new.front ≡ writer.old.front }
     ensures pending { MatchResult result
-        (λ _. writer.new.pending
-        ≡ writer.old.pending ++ ready_entry seq.now.client (seq.now.number + 1) prepared.now ∷ [])
+        (λ _. writer.new.pending ≡ writer.old.pending ++ arc_value entry ∷ [])
         (λ _. writer.new.pending ≡ writer.old.pending) }
 {
-    rows_are_what_entries_change();
-    let client = seq.client();
-    let number = seq.number() + 1;
-    let row = prepared.row(alloc, &call)?;
-    let entry = prepared.entry(alloc, client, number, call)?;
     let kept = Arc::try_clone(&entry)?;
     let sent = Arc::try_clone(&entry)?;
     writer.append(Change::new(entry, row))?;
     Ok((kept, sent))
+}
+
+// Builds the entry of the prepared change, by the client's next number, into which move the call and what goes out:
+// twice for the history and the queue, and once, with its row, as what is to be published. Gives the change without
+// them, to be committed; or, where memory ran out and nothing is pending, to be taken back.
+fn enter<M: ManagerId, T: Target>(
+    alloc: Global,
+    call: Call,
+    prepared: PreparedChange<T>,
+    writer: &mut VersionWriter<M>,
+    seq: &ClientSeq<M>,
+) -> (
+    EnteredChange<T>,
+    Result<(Arc<Entry, Global>, Arc<Entry, Global>), AllocError>,
+)
+    requires call { call ≡ prepared.call }
+    requires number { seq.now.number < 2 ^ 62 }
+    requires legal { IsLegal M.limits.clients M.limits.comms
+        ((writer.old.front ++ writer.old.pending)
+        ++ ready_entry seq.now.client (seq.now.number + 1) prepared ∷ []) }
+    requires ready { (core : CoreValue) × IsReady core prepared
+        × (machine core ≡ replay M.limits.comms (writer.old.front ++ writer.old.pending)) }
+    ensures entered { result.0 ≡ prepared }
+    ensures kept { IfOk result.1 (λ r.
+        arc_value r.0 ≡ ready_entry seq.now.client (seq.now.number + 1) prepared) }
+    ensures sent { IfOk result.1 (λ r. arc_value r.1 ≡ arc_value r.0) }
+    ensures front { writer.new.front ≡ writer.old.front }
+    ensures pending { MatchResult result.1
+        (λ _. writer.new.pending
+        ≡ writer.old.pending ++ ready_entry seq.now.client (seq.now.number + 1) prepared ∷ [])
+        (λ _. writer.new.pending ≡ writer.old.pending) }
+{
+    rows_are_what_entries_change();
+    let row = prepared.row(alloc, &call);
+    let client = seq.client();
+    let number = seq.number() + 1;
+    let (entered, entry) = prepared.enter(alloc, client, number, call);
+    match (row, entry) {
+        (Ok(row), Ok(entry)) => (entered, append(writer, entry, row)),
+        _ => (entered, Err(AllocError)),
+    }
 }
 
 // Publishes what is pending, and lets the reader hear of it.
@@ -240,13 +271,10 @@ pub fn ask<M: ManagerId, T: Target, S: HistoryStore, R: Wait>(
         drop(copy);
         return Err(Unavailable::Memory);
     };
-    match build_entry(alloc, copy, &prepared, &mut log.writer, seq) {
+    let (entered, entry) = enter(alloc, copy, prepared, &mut log.writer, seq);
+    match entry {
         Ok((kept, sent)) => {
-            let Finished {
-                reply,
-                outgoing: _outgoing,
-                ended,
-            } = core.commit(prepared);
+            let (reply, ended) = core.commit_entered(entered);
             let (number, stamp) = complete(rt, log, reader, seq, kept, sent);
             Ok(AnsweredChange {
                 answered: Answered {
@@ -258,7 +286,7 @@ pub fn ask<M: ManagerId, T: Target, S: HistoryStore, R: Wait>(
             })
         }
         Err(_) => {
-            let _none = core.abort(prepared);
+            let _none = core.abort_entered(entered);
             Err(Unavailable::Memory)
         }
     }
@@ -300,13 +328,10 @@ pub fn register<M: ManagerId, T: Target, S: HistoryStore, R: Wait>(
         Ok(ready) => ready.into_parts(),
         Err((_, boxed)) => return Err((Unavailable::Memory, boxed)),
     };
-    match build_entry(alloc, call, &prepared, &mut log.writer, seq) {
+    let (entered, entry) = enter(alloc, call, prepared, &mut log.writer, seq);
+    match entry {
         Ok((kept, sent)) => {
-            let Finished {
-                reply,
-                outgoing: _outgoing,
-                ended,
-            } = core.commit(prepared);
+            let (reply, ended) = core.commit_entered(entered);
             let (number, stamp) = complete(rt, log, reader, seq, kept, sent);
             Ok(AnsweredChange {
                 answered: Answered {
@@ -317,7 +342,7 @@ pub fn register<M: ManagerId, T: Target, S: HistoryStore, R: Wait>(
                 ended,
             })
         }
-        Err(_) => match core.abort(prepared) {
+        Err(_) => match core.abort_entered(entered) {
             Some(boxed) => Err((Unavailable::Memory, boxed)),
             None => unreachable!(),
         },

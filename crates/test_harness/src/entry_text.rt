@@ -3,9 +3,9 @@ use crate::reply_text::append_answer;
 use crate::value_text::{
     append_body, append_custom, append_outgoing_body, append_state, append_words,
 };
-use comm_core::{Call, Entry, Row};
-use comm_messages::{Body, Parent};
-use comm_targets::{Answer, TargetFault};
+use comm_core::{Call, Entry, KeptAnswer, Row};
+use comm_messages::{Body, Outgoing, OutgoingBody, Parent};
+use comm_targets::{Answer, SharedCustom, TargetFault};
 use comm_value::{Dict, Text};
 use std::alloc::{AllocError, Global};
 
@@ -69,24 +69,39 @@ pub(crate) fn append_call(
     }
 }
 
-/// A line for the state, for each message and for what the caller is handed, as far as an answer has them, each
-/// behind `given`.
-pub fn append_target_answer(
+// A line for the state, if there is one.
+fn append_given_state(
     alloc: Global,
-    answer: &Answer,
+    state: &Option<Dict>,
     text: &mut Vec<u8>,
 ) -> Result<(), AllocError> {
-    if let Some(state) = &answer.state {
+    if let Some(state) = state {
         append_words(&["given", "state"], text)?;
         append_state(alloc, state, text)?;
         text.push(b'\n')?;
     }
-    for message in answer.messages.as_slice() {
-        append_words(&["given", "message"], text)?;
-        append_outgoing_body(alloc, message, text)?;
-        text.push(b'\n')?;
-    }
-    if let Some(custom) = &answer.custom {
+    Ok(())
+}
+
+// A line for a message of a target.
+fn append_given_message(
+    alloc: Global,
+    message: &OutgoingBody,
+    text: &mut Vec<u8>,
+) -> Result<(), AllocError> {
+    append_words(&["given", "message"], text)?;
+    append_outgoing_body(alloc, message, text)?;
+    text.push(b'\n')?;
+    Ok(())
+}
+
+// A line for what the caller is handed, if anything.
+fn append_given_custom(
+    alloc: Global,
+    custom: &Option<SharedCustom>,
+    text: &mut Vec<u8>,
+) -> Result<(), AllocError> {
+    if let Some(custom) = custom {
         let custom = custom.parts();
         append_words(&["given", "custom"], text)?;
         append_custom(alloc, &custom.content, &custom.buffers, text)?;
@@ -95,14 +110,45 @@ pub fn append_target_answer(
     Ok(())
 }
 
+/// A line for the state, for each message and for what the caller is handed, as far as an answer has them, each
+/// behind `given`.
+pub fn append_target_answer(
+    alloc: Global,
+    answer: &Answer,
+    text: &mut Vec<u8>,
+) -> Result<(), AllocError> {
+    append_given_state(alloc, &answer.state, text)?;
+    for message in answer.messages.as_slice() {
+        append_given_message(alloc, message, text)?;
+    }
+    append_given_custom(alloc, &answer.custom, text)
+}
+
+// The same of an answer that an entry keeps, whose messages are those of a comm that go out.
+fn append_kept_answer(
+    alloc: Global,
+    answer: &KeptAnswer,
+    outgoing: &[Outgoing],
+    text: &mut Vec<u8>,
+) -> Result<(), AllocError> {
+    append_given_state(alloc, &answer.state, text)?;
+    for message in outgoing {
+        if let Outgoing::Msg { body, .. } = message {
+            append_given_message(alloc, body, text)?;
+        }
+    }
+    append_given_custom(alloc, &answer.custom, text)
+}
+
 // What a target gave, or that nobody was asked.
 fn append_outcome(
     alloc: Global,
-    outcome: &Option<Result<Answer, TargetFault>>,
+    outcome: &Option<Result<KeptAnswer, TargetFault>>,
+    outgoing: &[Outgoing],
     text: &mut Vec<u8>,
 ) -> Result<(), AllocError> {
     match outcome {
-        Some(Ok(answer)) => append_target_answer(alloc, answer, text),
+        Some(Ok(answer)) => append_kept_answer(alloc, answer, outgoing, text),
         Some(Err(fault)) => {
             let line = format!(in alloc; "given {fault:?}\n")?;
             text.extend_from_slice(line.as_bytes())
@@ -132,7 +178,7 @@ pub(crate) fn append_entry(
     text.extend_from_slice(head.as_bytes())?;
     append_call(alloc, call, text)?;
     text.push(b'\n')?;
-    append_outcome(alloc, outcome, text)?;
+    append_outcome(alloc, outcome, outgoing.as_slice(), text)?;
     let parent = Parent::Call {
         client: *client,
         number: *number,
