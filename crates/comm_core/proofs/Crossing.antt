@@ -28,6 +28,7 @@ use Rattle.uuid.specs.contracts.Uuid as uuid
 use Rattle.comm_core.specs.contracts.call.Call as call
 use Rattle.comm_core.specs.contracts.entry.Entry as entry
 use Rattle.comm_core.specs.contracts.entry.Outgoings as outgoings
+use Rattle.comm_core.specs.contracts.kept_answer.KeptAnswer as kept
 use Rattle.comm_core.specs.contracts.reply.Reply as reply
 
 pub ruleset leaves = (
@@ -139,11 +140,17 @@ outgoings_send = search (leaves, outgoing_send) depth 40
 pub outgoings_sync : IsSync outgoings.the_row
 outgoings_sync = search (leaves, outgoing_sync) depth 40
 
-pub outcome_send : IsSend (option.the_row (result.the_row answer.the_row fault.the_row))
-outcome_send = search (sendable, crosses, answer_send, fault_send) depth 40
+pub kept_send : IsSend kept.the_row
+kept_send = search (values, shared_send) depth 40
 
-pub outcome_sync : IsSync (option.the_row (result.the_row answer.the_row fault.the_row))
-outcome_sync = search (sendable, crosses, answer_sync, fault_sync) depth 40
+pub kept_sync : IsSync kept.the_row
+kept_sync = search (values, shared_sync) depth 40
+
+pub outcome_send : IsSend (option.the_row (result.the_row kept.the_row fault.the_row))
+outcome_send = search (sendable, crosses, kept_send, fault_send) depth 40
+
+pub outcome_sync : IsSync (option.the_row (result.the_row kept.the_row fault.the_row))
+outcome_sync = search (sendable, crosses, kept_sync, fault_sync) depth 40
 
 pub call_field_send : IsSend (as_row call.the_field)
 call_field_send = call_send

@@ -36,7 +36,7 @@ outcome_code = coded_option (coded_result answer.the_row.coded fault.the_row.cod
 abbrev pub readied_code : Coded Readied
 readied_code =
     code_by ((Call × Option Outcome) × ((Reply × List Outgoing) × (TableUpdate × Option Meaning)))
-    (coded× (coded× call.the_row.coded outcome_code)
+    (coded× (coded× call.the_row.coded (coded_option (coded_result answer.the_row.coded fault.the_row.coded)))
     (coded× (coded× reply.the_row.coded (coded_list outgoing.the_row.coded))
     (coded× table_update.the_row.coded (coded_option meaning_code))))
     (λ r. ((r.call, r.outcome), ((r.reply, r.outgoing), (r.table_update, r.registered))))
