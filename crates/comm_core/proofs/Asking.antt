@@ -1,6 +1,5 @@
 -- What may be asked of a target, and what comes of it.
-use Rattle.std.proofs.Common.{◌≡◌, ℕ, Bool, true, false, cond, List, [], ◌∷◌, Option, None, Some, is_some, Result, Ok, Err, option_map, filter, refl, ap, sym, ◌∙◌, subst, true≢false, IfOk}
-use Rattle.std.specs.declared.alloc.AllocError.{AllocError}
+use Rattle.std.proofs.Common.{◌≡◌, ℕ, Bool, true, false, cond, List, [], ◌∷◌, Option, None, Some, is_some, Ok, Err, option_map, filter, refl, ap, sym, ◌∙◌, subst, true≢false}
 use Rattle.std.specs.Prelude.{unwrap_or}
 use Rattle.std.specs.Str.{bytes_eq}
 use Rattle.std.specs.Map.{keys_of}
@@ -19,12 +18,11 @@ use Rattle.comm_targets.specs.declared.fault.TargetFault.{TargetFault}
 use Rattle.comm_core.specs.Machine.{Name, Machine, at, has, with_at, ids_of}
 use Rattle.comm_core.specs.Step.{Outcome, Done, AskTarget, judged, stepped, answer_step, refusal_step, holds_widget, request_of, Gives, Allowed}
 use Rattle.comm_core.specs.Tables.{Targets, Opens, emptied, registered_of, targets_of, machine_of, Agrees, AnswerIsStaged, HaveStaged, unstaged, ended_of}
-use Rattle.comm_core.specs.Plans.{SuitsComms, SuitsKind, CanAsk, CanRefuse, HasAnswered, HasCome, Suits, planned, staged_by, ended_by, verdict_of, IsFeasible}
+use Rattle.comm_core.specs.Plans.{SuitsComms, SuitsKind, CanAsk, CanRefuse, HasAnswered, HasCome, Suits, planned, staged_by, ended_by}
 use Rattle.comm_core.specs.declared.comm.Comm.{Comm}
 use Rattle.comm_core.specs.declared.call.Call.{Call}
 use Rattle.comm_core.specs.declared.target_request.TargetRequest.{TargetRequest}
 use Rattle.comm_core.specs.declared.reply.Reply.{Reply}
-use Rattle.comm_core.specs.declared.decision.Decision.{Decision}
 use Rattle.comm_core.specs.declared.table_update.TableUpdate.{TableUpdate}
 use Rattle.comm_core.specs.declared.table_update.TableUpdate.TheVariants.{Nothing, Register, Replace, Unregister, Close, Commit}
 use Rattle.comm_core.proofs.Keys.{text_itself}
@@ -181,9 +179,3 @@ msg_asked b c h id copy x name now body is same copied =
       comms_suit = (x, ap (at c) copied ∙ is, sym same);
       kind_suits = tt;
     }
-
-pub verdict_at : (r : Result Decision AllocError) (l : ℕ) (m : Machine) (k k' : Call) → k ≡ k' → IfOk r (λ j. verdict_of m j ≡ judged l m k') → IfOk r (λ j. verdict_of m j ≡ judged l m k)
-verdict_at r l m k k' e h = subst (λ x. IfOk r (λ j. verdict_of m j ≡ judged l m x)) (sym e) h
-
-pub feasible_at : (r : Result Decision AllocError) (b : Targets) (c : Opens) (k k' : Call) → k ≡ k' → IfOk r (λ j. IsFeasible b c k' j) → IfOk r (λ j. IsFeasible b c k j)
-feasible_at r b c k k' e h = subst (λ x. IfOk r (λ j. IsFeasible b c x j)) (sym e) h

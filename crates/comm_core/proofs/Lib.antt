@@ -9,6 +9,7 @@ pub mod Consistent
 pub mod Entries
 pub mod Exacting
 pub mod Gone
+pub mod Judging
 pub mod Kept
 pub mod Keys
 pub mod LeftOpen

@@ -13,6 +13,7 @@ pub mod Plans
 pub mod Told
 pub mod Row
 pub mod Ready
+pub mod Evaluated
 pub mod Planned
 pub mod Code
 pub mod ReadyCode

@@ -23,8 +23,7 @@ use Rattle.comm_core.specs.declared.reply.Reply.{Reply}
 use Rattle.comm_core.specs.declared.table_update.TableUpdate.{TableUpdate}
 use Rattle.comm_core.specs.declared.table_update.TableUpdate.TheVariants.{Register, Replace, Unregister}
 use Rattle.comm_core.specs.declared.table_update.TableUpdate.TheVariants.{Close, Commit}
-use Rattle.comm_core.specs.declared.decision.Decision.{Decision}
-use Rattle.comm_core.specs.declared.decision.Decision.TheVariants as decision
+use Rattle.comm_core.specs.declared.evaluation.Evaluation.{Evaluation}
 
 -- ---- the tables
 
@@ -51,13 +50,11 @@ planned m (Close id) o = without_comm m id
 planned m (Commit q) (Some (Ok a)) = (answer_step m q.name q.event a).next
 planned m table_update o = m
 
-abbrev pub verdict_of : Machine → Decision → Verdict
-verdict_of m (decision.Done r out table_update) = Done r out.items (planned m table_update None)
-verdict_of m (decision.AskTarget q) = AskTarget q
-
--- the decision is what the definition says of the call
-abbrev pub HasVerdict : ℕ → Targets → Opens → Call → Decision → Type 0
-HasVerdict limit targets comms c d = verdict_of (machine_of targets comms) d ≡ judged limit (machine_of targets comms) c
+-- it is what the definition says of a call that asks no target
+abbrev pub HasVerdict : ℕ → Targets → Opens → Call → Evaluation → Type 0
+HasVerdict limit targets comms c e =
+    (e.outcome ≡ None) × (Done e.reply e.outgoing.items (planned (machine_of targets comms) e.table_update None)
+    ≡ judged limit (machine_of targets comms) c)
 
 -- the step has this reply, and this goes out by it
 abbrev pub GivesReply : Stepped → Reply → List Outgoing → Type 0
@@ -126,11 +123,10 @@ ended_by targets table_update = None
 
 -- ---- what comes of a call
 
--- what a call comes to can be carried out, or asked
-abbrev pub IsFeasible : Targets → Opens → Call → Decision → Type 0
-IsFeasible targets comms c (decision.Done r out table_update) =
-    Suits (unstaged targets) comms None table_update None × (ended_by targets table_update ≡ ended_of targets c)
-IsFeasible targets comms c (decision.AskTarget q) = CanAsk targets comms q × ((bs : Targets) → ended_of bs c ≡ None)
+-- what a call comes to that asks no target can be carried out
+abbrev pub IsFeasible : Targets → Opens → Call → Evaluation → Type 0
+IsFeasible targets comms c e =
+    Suits (unstaged targets) comms None e.table_update None × (ended_by targets e.table_update ≡ ended_of targets c)
 
 -- What came of a question: reply and outgoing of the step, an outcome that is allowed, and what is staged now.
 pub record HasAnswered (old : Targets) (comms : Opens) (q : TargetRequest) (o : Option Outcome) (r : Reply)

@@ -11,10 +11,10 @@ ghost use Rattle.comm_core.specs.declared.table_update.TableUpdate.TheVariants.{
 use crate::comm::Comm;
 use crate::comms::Comms;
 use crate::kept_answer::StagedAnswer;
-use crate::question::KeptRequest;
+use crate::staged_request::StagedRequest;
 use crate::table_update::TableUpdate;
 use crate::target_table::TargetTable;
-use comm_targets::{Event, Held, Target};
+use comm_targets::{Held, Target};
 use comm_value::{Dict, Text};
 use std::alloc::AllocError;
 
@@ -92,7 +92,7 @@ pub fn apply<T: Target>(
 fn commit<T: Target>(
     targets: &mut TargetTable<T>,
     comms: &mut Comms,
-    request: KeptRequest,
+    request: StagedRequest,
     outcome: StagedAnswer,
 )
     requires space { 0 < comms.old.room }
@@ -104,30 +104,19 @@ fn commit<T: Target>(
         (planned (machine_of targets.old.all comms.old.all) (Commit request) outcome) }
 {
     targets.commit(&request.name);
-    let KeptRequest {
+    let StagedRequest {
         name,
-        event,
+        id,
+        opens,
         place,
         ..
     } = request;
     let StagedAnswer { state, .. } = outcome;
-    match event {
-        Event::Open { id, version, body } => {
-            drop((version, body));
-            note_open(comms, id, name, state);
-        }
-        Event::Launch { id, state: values } => {
-            drop(values);
-            note_open(comms, id, name, state);
-        }
-        Event::Msg { id, body } => {
-            drop(body);
-            note_state(comms, place, &id, state);
-        }
-        Event::Push { id, state: values } => {
-            drop(values);
-            note_state(comms, place, &id, state);
-        }
+    if opens {
+        note_open(comms, id, name, state);
+    } else {
+        drop(name);
+        note_state(comms, place, &id, state);
     }
 }
 

@@ -9,97 +9,66 @@ ghost use Rattle.comm_core.specs.Ready.{HandsNothingIn};
 ghost use Rattle.comm_core.specs.Told.{IsTold};
 ghost use Rattle.comm_core.specs.Plans.{CanAsk, CanRefuse, GivesReply, HasAnswered, HasCome, is_memory};
 
-use crate::call::Call;
 use crate::comms::Comms;
-use crate::decision::Decision;
 use crate::evaluation::Evaluation;
-use crate::judge::judge;
 use crate::kept_answer::KeptAnswer;
 use crate::outgoing::{close_message, messages_of, open_message};
-use crate::question::KeptRequest;
 use crate::reply::{Refusal, Reply};
+use crate::staged_request::StagedRequest;
 use crate::table_update::TableUpdate;
 use crate::target_table::TargetTable;
 use comm_messages::Outgoing;
 use comm_targets::{Bodies, Event, SharedCustom, Target, TargetFault};
-use comm_value::Dict;
+use comm_value::{Dict, Text};
 use std::alloc::{AllocError, Global};
 
-/// What comes of a call that hands no target in.
-pub fn evaluate<T: Target>(
+/// Asks the target of this name about a comm, which has this state, and stands at this place.
+pub fn ask<T: Target>(
     targets: &mut TargetTable<T>,
     comms: &Comms,
-    limit: usize,
     alloc: Global,
-    call: Call,
+    name: Text,
+    event: Event,
+    place: usize,
+    state: &Option<Dict>,
 ) -> Result<Evaluation, AllocError>
     requires none { HaveStaged targets.old.all (λ _. None) }
     requires agrees { Agrees (unstaged targets.old.all) comms.now.all }
-    requires call { HandsNothingIn call }
-    ensures came { IfOk result (λ r. HasCome limit targets.old.all comms.now.all call
+    requires asked { CanAsk targets.old.all comms.now.all (asked name state.now event) }
+    ensures came { IfOk result (λ r. HasAnswered targets.old.all comms.now.all
+        (asked name state.now event)
         r.outcome r.reply r.outgoing.items r.table_update targets.new.all) }
     ensures told { IfOk result (λ r. IsTold r.outcome r.outgoing.items) }
     ensures err { OnErr result (targets.new.all ≡ targets.old.all) }
     ensures room { targets.new.room ≡ targets.old.room }
 {
-    match judge(targets, comms, limit, alloc, call) {
-        Ok(Decision::Done(reply, outgoing, table_update)) => Ok(Evaluation {
-            outcome: None,
-            reply,
-            outgoing,
-            table_update,
-        }),
-        Ok(Decision::AskTarget(question)) => {
-            let (request, state) = question.into_parts();
-            ask(targets, comms, alloc, request, state)
-        }
-        Err(fault) => Err(fault),
-    }
-}
-
-/// Asks a target. `state` is the comm's.
-fn ask<T: Target>(
-    targets: &mut TargetTable<T>,
-    comms: &Comms,
-    alloc: Global,
-    request: KeptRequest,
-    state: Option<&Dict>,
-) -> Result<Evaluation, AllocError>
-    requires none { HaveStaged targets.old.all (λ _. None) }
-    requires agrees { Agrees (unstaged targets.old.all) comms.now.all }
-    requires asked { CanAsk targets.old.all comms.now.all request }
-    requires lent { option_map (λ d. d.now) state ≡ request.state }
-    ensures came { IfOk result (λ r. HasAnswered targets.old.all comms.now.all request
-        r.outcome r.reply r.outgoing.items r.table_update targets.new.all) }
-    ensures told { IfOk result (λ r. IsTold r.outcome r.outgoing.items) }
-    ensures err { OnErr result (targets.new.all ≡ targets.old.all) }
-    ensures room { targets.new.room ≡ targets.old.room }
-{
-    match targets.prepare(&request.name, &request.event, state) {
+    match targets.prepare(&name, &event, state.as_ref()) {
         Ok(answer) => {
             let (kept, messages) = KeptAnswer::take(answer);
-            match answer_step(alloc, &request, messages, &kept.custom) {
+            match answer_step(alloc, &name, &event, messages, &kept.custom) {
                 Ok((reply, outgoing)) => Ok(Evaluation {
                     outcome: Some(Ok(kept)),
                     reply,
                     outgoing,
-                    table_update: TableUpdate::Commit(request),
+                    table_update: TableUpdate::Commit(StagedRequest::new(
+                        name, event, place, state,
+                    )),
                 }),
                 Err(_) => {
-                    targets.abandon(&request.name);
-                    drop(request);
-                    drop(kept);
+                    targets.abandon(&name);
+                    drop((name, event, kept));
                     Err(AllocError)
                 }
             }
         }
         Err(fault) => {
+            drop(name);
             if is_memory(fault) {
-                drop(request);
+                drop(event);
                 return Err(AllocError);
             }
-            let refusal = refusal_step(alloc, &request.event, fault);
-            drop(request);
+            let refusal = refusal_step(alloc, &event, fault);
+            drop(event);
             let (reply, outgoing) = refusal?;
             Ok(Evaluation {
                 outcome: Some(Err(fault)),
@@ -114,15 +83,16 @@ fn ask<T: Target>(
 /// The reply to an event that the target answers, and what goes out, into which the answer's messages move.
 fn answer_step(
     alloc: Global,
-    request: &KeptRequest,
+    name: &Text,
+    event: &Event,
     messages: Bodies,
     custom: &Option<SharedCustom>,
 ) -> Result<(Reply, Vec<Outgoing>), AllocError>
     ensures { (a : Answer) → messages ≡ a.messages → custom.now ≡ a.custom
         → IfOk result (λ r. (m : Machine) → GivesReply
-        (answer_step m request.now.name request.now.event a) r.0 r.1.items) }
+        (answer_step m name.now event.now a) r.0 r.1.items) }
 {
-    match &request.event {
+    match event {
         Event::Open { id, .. } => Ok((Reply::Opened, messages_of(alloc, id, messages)?)),
         Event::Msg { id, .. } => {
             let outgoing = messages_of(alloc, id, messages)?;
@@ -131,10 +101,7 @@ fn answer_step(
         }
         Event::Launch { id, state } => {
             drop(messages);
-            Ok((
-                Reply::Launched,
-                open_message(alloc, id, &request.name, state)?,
-            ))
+            Ok((Reply::Launched, open_message(alloc, id, name, state)?))
         }
         Event::Push { id, .. } => {
             Ok((Reply::Delivered(None), messages_of(alloc, id, messages)?))

@@ -5,7 +5,6 @@ ghost use Rattle.comm_core.specs.Reads.{infos, state_of};
 ghost use Rattle.comm_core.specs.Ready.{machine};
 
 use crate::infos::part_of;
-use crate::judge::state_copy;
 use crate::manager::Core;
 use crate::reply::StateAnswer;
 use comm_messages::Infos;
@@ -67,9 +66,9 @@ impl<T: Target> Core<T> {
         let Some(comm) = self.comms.get(id) else {
             return Ok(StateAnswer::NoComm);
         };
-        match state_copy(comm)? {
+        match &comm.state {
             None => Ok(StateAnswer::NoState),
-            Some(state) => Ok(StateAnswer::State(state)),
+            Some(state) => Ok(StateAnswer::State(state.copy()?)),
         }
     }
 }

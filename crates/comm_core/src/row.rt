@@ -8,10 +8,10 @@ use crate::call::Call;
 use crate::ids::Ids;
 use crate::kept_answer::KeptAnswer;
 use crate::prepared_change::{PreparedChange, Ready};
-use crate::question::KeptRequest;
 use crate::reply::Reply;
+use crate::staged_request::StagedRequest;
 use crate::table_update::TableUpdate;
-use comm_targets::{Event, Target, TargetFault};
+use comm_targets::{Target, TargetFault};
 use comm_value::{Dict, Text};
 use std::alloc::{AllocError, Global};
 use std::marker::Model;
@@ -120,17 +120,15 @@ fn put_row(alloc: Global, id: &Text, target: &Text, state: &Option<Dict>) -> Res
 // What an answer changes, of a target that was asked this.
 fn answered_row(
     alloc: Global,
-    request: &KeptRequest,
+    request: &StagedRequest,
     answer: &KeptAnswer,
 ) -> Result<Row, AllocError>
     ensures { IfOk result (λ r. r ≡ answered_row request.now.name request.now.event answer.now) }
 {
-    let name = &request.name;
-    match &request.event {
-        Event::Open { id, .. } => put_row(alloc, id, name, &answer.state),
-        Event::Launch { id, .. } => put_row(alloc, id, name, &answer.state),
-        Event::Msg { id, .. } => stated_row(alloc, id, name, &answer.state),
-        Event::Push { id, .. } => stated_row(alloc, id, name, &answer.state),
+    if request.opens {
+        put_row(alloc, &request.id, &request.name, &answer.state)
+    } else {
+        stated_row(alloc, &request.id, &request.name, &answer.state)
     }
 }
 
@@ -185,7 +183,8 @@ fn done_row(alloc: Global, call: &Call, reply: &Reply) -> Result<Row, AllocError
     }
 }
 
-fn updated_row(
+/// What a change does to the comms that readers see, by its update of the tables.
+pub fn updated_row(
     alloc: Global,
     table_update: &TableUpdate,
     outcome: &Option<Result<KeptAnswer, TargetFault>>,

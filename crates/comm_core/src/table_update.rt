@@ -1,4 +1,4 @@
-use crate::question::KeptRequest;
+use crate::staged_request::StagedRequest;
 use comm_targets::Kind;
 use comm_value::Text;
 
@@ -16,5 +16,5 @@ pub enum TableUpdate {
     /// Takes the comm out, in its target first.
     Close { id: Text },
     /// Makes the change that the target staged, and notes its comm.
-    Commit(KeptRequest),
+    Commit(StagedRequest),
 }

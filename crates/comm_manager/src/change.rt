@@ -1,10 +1,10 @@
 //! One change, in its order.
 ghost use Rattle.std.specs.Prelude.{◌≡◌, ◌+◌, ◌<◌, ◌≤◌, ◌^◌, ◌++◌, [], ◌∷◌, length, true, ◌⊎◌, IfOk, IfErr, IfSome};
-ghost use Rattle.std.specs.Prelude.{OnErr, OnOk, MatchOption, MatchResult, slice_index, slice_set};
+ghost use Rattle.std.specs.Prelude.{OnErr, OnOk, MatchOption, MatchResult, option_map, slice_index, slice_set};
 ghost use mathlib.Core.List.{IsPrefix};
 ghost use Rattle.std.specs.Arc.{arc_value};
 ghost use Rattle.comm_core.specs.History.{IsLegal, replay};
-ghost use Rattle.comm_core.specs.Ready.{CoreValue, HandsNothingIn, IsReady, machine};
+ghost use Rattle.comm_core.specs.Ready.{HandsNothingIn, IsReady, machine, row_at, undone};
 ghost use Rattle.comm_core.specs.Row.{rows, with_row};
 ghost use Rattle.comm_core.specs.Tables.{IdleWhere};
 ghost use Rattle.comm_targets.specs.Meaning.{IsIdle};
@@ -21,8 +21,8 @@ use crate::journal::HistoryStore;
 use crate::ledger::ClientSeq;
 use crate::manager_id::ManagerId;
 use comm_core::{
-    Call, Core, EnteredChange, Entry, Limits, PreparedChange, Row, Unavailable,
-    legal_histories_grow, replays_grow, rows_are_what_entries_change,
+    Call, Core, Entry, Limits, Recording, Row, Unavailable, legal_histories_grow, replays_grow,
+    rows_are_what_entries_change,
 };
 use comm_outbox::Outbox;
 use comm_targets::{Held, Target};
@@ -60,47 +60,6 @@ fn append<M: ManagerId>(
     let sent = Arc::try_clone(&entry)?;
     writer.append(Change::new(entry, row))?;
     Ok((kept, sent))
-}
-
-// Builds the entry of the prepared change, by the client's next number, into which move the call and what goes out:
-// twice for the history and the queue, and once, with its row, as what is to be published. Gives the change without
-// them, to be committed; or, where memory ran out and nothing is pending, to be taken back.
-fn enter<M: ManagerId, T: Target>(
-    alloc: Global,
-    call: Call,
-    prepared: PreparedChange<T>,
-    writer: &mut VersionWriter<M>,
-    seq: &ClientSeq<M>,
-) -> (
-    EnteredChange<T>,
-    Result<(Arc<Entry, Global>, Arc<Entry, Global>), AllocError>,
-)
-    requires call { call ≡ prepared.call }
-    requires number { seq.now.number < 2 ^ 62 }
-    requires legal { IsLegal M.limits.clients M.limits.comms
-        ((writer.old.front ++ writer.old.pending)
-        ++ ready_entry seq.now.client (seq.now.number + 1) prepared ∷ []) }
-    requires ready { (core : CoreValue) × IsReady core prepared
-        × (machine core ≡ replay M.limits.comms (writer.old.front ++ writer.old.pending)) }
-    ensures entered { result.0 ≡ prepared }
-    ensures kept { IfOk result.1 (λ r.
-        arc_value r.0 ≡ ready_entry seq.now.client (seq.now.number + 1) prepared) }
-    ensures sent { IfOk result.1 (λ r. arc_value r.1 ≡ arc_value r.0) }
-    ensures front { writer.new.front ≡ writer.old.front }
-    ensures pending { MatchResult result.1
-        (λ _. writer.new.pending
-        ≡ writer.old.pending ++ ready_entry seq.now.client (seq.now.number + 1) prepared ∷ [])
-        (λ _. writer.new.pending ≡ writer.old.pending) }
-{
-    rows_are_what_entries_change();
-    let row = prepared.row(alloc, &call);
-    let client = seq.client();
-    let number = seq.number() + 1;
-    let (entered, entry) = prepared.enter(alloc, client, number, call);
-    match (row, entry) {
-        (Ok(row), Ok(entry)) => (entered, append(writer, entry, row)),
-        _ => (entered, Err(AllocError)),
-    }
 }
 
 // Publishes what is pending, and lets the reader hear of it.
@@ -232,12 +191,73 @@ fn complete<M: ManagerId, S: HistoryStore, R: Wait>(
     (stamp.number(), stamp)
 }
 
+// The number of the client's next change.
+fn next_number<M: ManagerId>(seq: &ClientSeq<M>) -> u64
+    requires { seq.now.number < 2 ^ 62 }
+    ensures { result ≡ seq.now.number + 1 }
+{
+    seq.number() + 1
+}
+
+// Makes the change that was recorded by the client's next number, and for which there is room: its entry is made pending,
+// the change is made, its entry is published, heard by its client, appended, and put into the queue. Err: memory; the
+// change is taken back, and the target that a register handed in is given back.
+#[inline(always)]
+fn carry_out<M: ManagerId, T: Target, S: HistoryStore, R: Wait>(
+    rt: &R,
+    core: &mut Core<T>,
+    log: &mut ChangeLog<M, S>,
+    reader: &mut VersionReader<M>,
+    seq: &mut ClientSeq<M>,
+    recording: Recording<T>,
+) -> Result<AnsweredChange<M, T>, Option<T>>
+    requires kept { LogInvariant M.queue M.limits log.old (undone core.old) }
+    requires same { machine core.old ≡ machine (undone core.old) }
+    requires ready { IsReady core.old recording.change }
+    requires entry { arc_value recording.entry
+        ≡ ready_entry seq.old.client (seq.old.number + 1) recording.change }
+    requires row { recording.row ≡ row_at core.old recording.change }
+    requires room { HasRoom M.limits log.old }
+    requires known { IsTotal log.old seq.old }
+    requires seen { length reader.old ≤ length log.old.journal.all }
+    requires below { seq.old.client < M.limits.clients }
+    ensures kept { OnOk result (LogInvariant M.queue M.limits log.new core.new) }
+    ensures next { IfOk result (λ m.
+        IsAppended log.old log.new seq.old recording.change.call m.answered.reply) }
+    ensures stamp { IfOk result (λ m. IsStampOf log.new m.answered.number m.answered.stamp) }
+    ensures seen { OnOk result (HasSeenAll log.old log.new reader.old reader.new) }
+    ensures seq { OnOk result (IsCounted log.old seq.old seq.new) }
+    ensures idle { IfOk result (λ m. IdleWhere m.ended) }
+    ensures err { OnErr result (LogInvariant M.queue M.limits log.new core.new
+        × IsUnchanged log.old log.new seq.old seq.new reader.old reader.new) }
+    ensures back { IfErr result (λ t. option_map T.means t ≡ recording.change.registered) }
+{
+    replays_grow();
+    legal_histories_grow();
+    rows_are_what_entries_change();
+    let Recording { change, entry, row } = recording;
+    match append(&mut log.writer, entry, row) {
+        Ok((kept, sent)) => {
+            let (reply, ended) = core.commit_recorded(change);
+            let (number, stamp) = complete(rt, log, reader, seq, kept, sent);
+            Ok(AnsweredChange {
+                answered: Answered {
+                    number,
+                    reply,
+                    stamp,
+                },
+                ended,
+            })
+        }
+        Err(_) => Err(core.abort_recorded(change)),
+    }
+}
+
 /// Makes one change of a client that hands no target in, in this order: room in the history and in the queue; the call
-/// is prepared; its entry is built and made pending; the change is made; its entry is published, heard by its client,
+/// is prepared, and its entry is made, and made pending; the change is made; its entry is published, heard by its client,
 /// appended, and put into the queue. Err: the change wasn't made, and all is as it was.
 pub fn ask<M: ManagerId, T: Target, S: HistoryStore, R: Wait>(
     rt: &R,
-    alloc: Global,
     core: &mut Core<T>,
     log: &mut ChangeLog<M, S>,
     reader: &mut VersionReader<M>,
@@ -257,45 +277,22 @@ pub fn ask<M: ManagerId, T: Target, S: HistoryStore, R: Wait>(
     ensures why { IfErr result (λ e. IsReason M.limits e) }
     ensures first { IfErr result (λ e. IsHistoryFirst M.limits log.old.journal.all e) }
 {
-    replays_grow();
-    legal_histories_grow();
     if let Err(why) = reserve(rt, log, reader, seq) {
         drop(call);
         return Err(why);
     }
-    let Ok(copy) = call.copy(alloc) else {
-        drop(call);
+    let Ok(recording) = core.record(seq.client(), next_number(seq), call) else {
         return Err(Unavailable::Memory);
     };
-    let Ok(prepared) = core.prepare(call) else {
-        drop(copy);
-        return Err(Unavailable::Memory);
-    };
-    let (entered, entry) = enter(alloc, copy, prepared, &mut log.writer, seq);
-    match entry {
-        Ok((kept, sent)) => {
-            let (reply, ended) = core.commit_entered(entered);
-            let (number, stamp) = complete(rt, log, reader, seq, kept, sent);
-            Ok(AnsweredChange {
-                answered: Answered {
-                    number,
-                    reply,
-                    stamp,
-                },
-                ended,
-            })
-        }
-        Err(_) => {
-            let _none = core.abort_entered(entered);
-            Err(Unavailable::Memory)
-        }
+    match carry_out(rt, core, log, reader, seq, recording) {
+        Ok(made) => Ok(made),
+        Err(_none) => Err(Unavailable::Memory),
     }
 }
 
 /// Registers a target, in the same order. Err: the change wasn't made, all is as it was, and the target comes back.
 pub fn register<M: ManagerId, T: Target, S: HistoryStore, R: Wait>(
     rt: &R,
-    alloc: Global,
     core: &mut Core<T>,
     log: &mut ChangeLog<M, S>,
     reader: &mut VersionReader<M>,
@@ -318,33 +315,17 @@ pub fn register<M: ManagerId, T: Target, S: HistoryStore, R: Wait>(
     ensures first { IfErr result (λ e. IsHistoryFirst M.limits log.old.journal.all e.0) }
     ensures boxed { IfErr result (λ e. T.means e.1 ≡ T.means boxed) }
 {
-    replays_grow();
-    legal_histories_grow();
     if let Err(why) = reserve(rt, log, reader, seq) {
         drop(name);
         return Err((why, boxed));
     }
-    let (call, prepared) = match core.begin_register(name, boxed) {
-        Ok(ready) => ready.into_parts(),
+    let recording = match core.record_register(seq.client(), next_number(seq), name, boxed) {
+        Ok(recording) => recording,
         Err((_, boxed)) => return Err((Unavailable::Memory, boxed)),
     };
-    let (entered, entry) = enter(alloc, call, prepared, &mut log.writer, seq);
-    match entry {
-        Ok((kept, sent)) => {
-            let (reply, ended) = core.commit_entered(entered);
-            let (number, stamp) = complete(rt, log, reader, seq, kept, sent);
-            Ok(AnsweredChange {
-                answered: Answered {
-                    number,
-                    reply,
-                    stamp,
-                },
-                ended,
-            })
-        }
-        Err(_) => match core.abort_entered(entered) {
-            Some(boxed) => Err((Unavailable::Memory, boxed)),
-            None => unreachable!(),
-        },
+    match carry_out(rt, core, log, reader, seq, recording) {
+        Ok(made) => Ok(made),
+        Err(Some(boxed)) => Err((Unavailable::Memory, boxed)),
+        Err(None) => unreachable!(),
     }
 }

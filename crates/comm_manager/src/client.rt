@@ -126,7 +126,7 @@ impl<M: ManagerId> Client<M> {
         ensures err { OnErr result (self.new ≡ self.old) }
         ensures why { IfErr result (λ e. IsReason M.limits e) }
     {
-        let made = manager.inner.lock(rt).ask(rt, manager.alloc, self, call);
+        let made = manager.inner.lock(rt).ask(rt, self, call);
         // Here the lock is let go: a target may take its time to end.
         match made {
             Ok(AnsweredChange { answered, ended }) => {
@@ -155,10 +155,7 @@ impl<M: ManagerId> Client<M> {
         ensures why { IfErr result (λ e. IsReason M.limits e.0) }
         ensures boxed { IfErr result (λ e. T.means e.1 ≡ T.means target) }
     {
-        let made = manager
-            .inner
-            .lock(rt)
-            .register(rt, manager.alloc, self, name, target);
+        let made = manager.inner.lock(rt).register(rt, self, name, target);
         match made {
             Ok(AnsweredChange { answered, ended }) => {
                 end(ended);

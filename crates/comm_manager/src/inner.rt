@@ -107,7 +107,6 @@ impl<M: ManagerId, T: Target, S: HistoryStore> Inner<M, T, S> {
     pub fn ask<R: Wait>(
         &mut self,
         rt: &R,
-        alloc: Global,
         client: &mut Client<M>,
         call: Call,
     ) -> Result<AnsweredChange<M, T>, Unavailable<Stamp<M>>>
@@ -126,7 +125,6 @@ impl<M: ManagerId, T: Target, S: HistoryStore> Inner<M, T, S> {
     {
         change::ask(
             rt,
-            alloc,
             &mut self.core,
             &mut *self.log,
             &mut client.reader,
@@ -139,7 +137,6 @@ impl<M: ManagerId, T: Target, S: HistoryStore> Inner<M, T, S> {
     pub fn register<R: Wait>(
         &mut self,
         rt: &R,
-        alloc: Global,
         client: &mut Client<M>,
         name: Text,
         boxed: T,
@@ -161,7 +158,6 @@ impl<M: ManagerId, T: Target, S: HistoryStore> Inner<M, T, S> {
     {
         change::register(
             rt,
-            alloc,
             &mut self.core,
             &mut *self.log,
             &mut client.reader,

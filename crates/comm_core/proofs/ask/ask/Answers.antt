@@ -1,4 +1,4 @@
-use Rattle.std.proofs.Common.{◌≡◌, ◌⊎◌, ℕ, true, List, [], ◌∷◌, Option, Some, Err, option_map, refl, ap, sym, ◌∙◌, subst, true≢false}
+use Rattle.std.proofs.Common.{◌≡◌, ◌⊎◌, ℕ, true, List, [], ◌∷◌, Option, Some, Ok, Err, option_map, refl, ap, sym, ◌∙◌, subst, true≢false}
 use Rattle.comm_value.specs.Tree.{Members}
 use Rattle.comm_messages.specs.Content.{Content}
 use Rattle.comm_messages.specs.declared.outgoing.Outgoing.{Outgoing}
@@ -14,11 +14,11 @@ use Rattle.comm_targets.specs.declared.fault.TargetFault.TheVariants.{Memory}
 use Rattle.comm_core.specs.Machine.{Name, Machine, at, with_at}
 use Rattle.comm_core.specs.Step.{Stepped, answer_step, holds_widget, messages_of}
 use Rattle.comm_core.specs.Tables.{Targets, machine_of, registered_of, targets_of}
-use Rattle.comm_core.specs.Told.{bodies_in}
+use Rattle.comm_core.specs.Told.{asked, bodies_in}
 use Rattle.comm_core.specs.declared.reply.Reply.{Reply}
 use Rattle.comm_core.specs.Plans.{CanAsk, HasAnswered, SuitsKind}
 use Rattle.comm_core.specs.declared.target_request.TargetRequest.{TargetRequest}
-use Rattle.comm_core.specs.declared.table_update.TableUpdate.TheVariants.{Nothing}
+use Rattle.comm_core.specs.declared.table_update.TableUpdate.TheVariants.{Commit}
 use Rattle.comm_core.proofs.Names.{has_target, target_at}
 use Rattle.comm_core.proofs.Agreeing.{some-at}
 use Rattle.comm_core.proofs.Staging.{some-is, is_staged, taken_back, not_memory}
@@ -26,57 +26,46 @@ use Rattle.comm_core.proofs.Asking.{askable, can_refuse, answered_well, refused_
 use Rattle.comm_core.proofs.ask.ask.Goals as goal
 
 pub prepare-requires-clause-here : goal.prepare-requires-clause-here
-prepare-requires-clause-here g c κs within =
-    let asked = subst (CanAsk c.args.targets.now.all c.args.comms.now.all) (sym c.request.view_is) c.requires.asked in
-    some-is _ (sym (has_target c.args.targets.now.all c.request.inside.name) ∙ asked.here)
+prepare-requires-clause-here g c κs within = some-is _ (sym (has_target c.args.targets.now.all c.args.name) ∙ c.requires.asked.here)
 
 pub prepare-requires-clause-askable : goal.prepare-requires-clause-askable
-prepare-requires-clause-askable g c κs within =
-    let asked = subst (CanAsk c.args.targets.now.all c.args.comms.now.all) (sym c.request.view_is) c.requires.asked in
-    λ m is.
-    askable c.args.targets.now.all c.args.comms.now.all c.requires.agrees c.request.inside.name c.request.inside.event asked.comms_suit asked.kind_suits m is
+prepare-requires-clause-askable g c κs within = λ m is.
+    askable c.args.targets.now.all c.args.comms.now.all c.requires.agrees c.args.name c.args.event c.requires.asked.comms_suit c.requires.asked.kind_suits m is
 
 pub abandon-requires-clause-staged : goal.abandon-requires-clause-staged
 abandon-requires-clause-staged g c κs within =
-    let asked = subst (CanAsk c.args.targets.now.all c.args.comms.now.all) (sym c.request.view_is) c.requires.asked in
-    let m = some-at (at c.args.targets.now.all c.request.inside.name) (sym (has_target c.args.targets.now.all c.request.inside.name) ∙ asked.here) in
+    let m = some-at (at c.args.targets.now.all c.args.name) (sym (has_target c.args.targets.now.all c.args.name) ∙ c.requires.asked.here) in
     is_staged _ _ _ m.0 _ _ m.1 (c.in-Ok.ensures.staged m.0 m.1)
 
 pub returns-in-Ok-answer_step-clause-came : goal.returns-in-Ok-answer_step-clause-came
 returns-in-Ok-answer_step-clause-came g c =
     let b = c.args.targets.now.all in
-    let m = some-at (at b c.args.request.name) (sym (has_target b c.args.request.name) ∙ c.requires.asked.here) in
+    let q = asked c.args.name c.args.state.now c.args.event in
+    let m = some-at (at b c.args.name) (sym (has_target b c.args.name) ∙ c.requires.asked.here) in
     let a = c.take-kept.result.0 in
     let kept = sym c.take-kept.ensures.kept in
-    let asked = subst (λ (q : TargetRequest). (n : Meaning) → at b q.name ≡ Some n → MayAnswer n (option_map (λ d. d.now) c.args.state) q.event c.in-Ok.answer) c.request.view_is c.in-Ok.ensures.answers in
-    let answers = subst (λ n. Answers m.0.kind m.0.notes n c.args.request.event a) c.requires.lent
-    (subst (MayAnswer m.0 (option_map (λ d. d.now) c.args.state) c.args.request.event) kept (asked m.0 m.1)) in
+    let answers = subst (MayAnswer m.0 c.args.state.now c.args.event) kept (c.in-Ok.ensures.answers m.0 m.1) in
     let steps = c.in-Ok-answer_step.ensures a (c.take-kept.ensures.messages ∙ ap (λ (x : Answer). x.messages) kept) (ap (λ (x : Answer). x.custom) c.kept.view_is) in
-    let staged = subst (λ (q : TargetRequest). (n : Meaning) → at b q.name ≡ Some n → c.prepare.new.self.all ≡ with_at b q.name (after_prepare n q.event c.in-Ok.answer)) c.request.view_is c.in-Ok.ensures.staged in
-    answered_well b c.args.comms.now.all c.args.request c.requires.asked c.requires.none m.0 m.1 a _ _ _ answers
-    (staged m.0 m.1 ∙ ap (λ (x : Answer). with_at b c.args.request.name (after_prepare m.0 c.args.request.event x)) kept) steps
+    subst (λ (x : TargetRequest). HasAnswered b c.args.comms.now.all q (Some (Ok a)) c.in-Ok-answer_step.reply c.in-Ok-answer_step.outgoing.items (Commit x) c.prepare.new.self.all) (sym c.new-in-Ok-answer_step.ensures)
+    (answered_well b c.args.comms.now.all q c.requires.asked c.requires.none m.0 m.1 a _ _ _ answers
+    (c.in-Ok.ensures.staged m.0 m.1 ∙ ap (λ (x : Answer). with_at b c.args.name (after_prepare m.0 c.args.event x)) kept) steps)
 
 pub returns-in-Err-answer_step-clause-err : goal.returns-in-Err-answer_step-clause-err
 returns-in-Err-answer_step-clause-err g c =
-    let asked = subst (CanAsk c.args.targets.now.all c.args.comms.now.all) (sym c.request.view_is) c.requires.asked in
-    let m = some-at (at c.args.targets.now.all c.request.inside.name) (sym (has_target c.args.targets.now.all c.request.inside.name) ∙ asked.here) in
+    let m = some-at (at c.args.targets.now.all c.args.name) (sym (has_target c.args.targets.now.all c.args.name) ∙ c.requires.asked.here) in
     taken_back _ _ _ m.0 _ _ m.1 (c.in-Ok.ensures.staged m.0 m.1) _ (c.requires.none _ m.0 m.1) c.abandon.ensures.all
 
 pub returns-in_ok-reply-in-Err-clause-came : goal.returns-in_ok-reply-in-Err-clause-came
 returns-in_ok-reply-in-Err-clause-came g c =
-    let asked = subst (CanAsk c.args.targets.now.all c.args.comms.now.all) (sym c.request.view_is) c.requires.asked in
-    let m = some-at (at c.args.targets.now.all c.request.inside.name) (sym (has_target c.args.targets.now.all c.request.inside.name) ∙ asked.here) in
-    subst (λ q. HasAnswered c.args.targets.now.all c.args.comms.now.all q (Some (Err c.in-Err.fault)) c.in_ok-reply-in-Err.reply c.in_ok-reply-in-Err.outgoing.items Nothing c.prepare.new.self.all) c.request.view_is
-    (refused_well c.args.targets.now.all c.args.comms.now.all _ asked c.requires.none m.0 m.1 c.in-Err.fault _ _ _
-    (not_memory c.in-Err.fault (sym c.is_memory.ensures ∙ c.if-is_memory.false)
-    (subst (λ n. (c.in-Err.fault ≡ Memory) ⊎ Refuses m.0.kind m.0.notes n c.request.inside.event c.in-Err.fault) (c.requires.lent ∙ sym (ap (λ (q : TargetRequest). q.state) c.request.view_is)) (c.in-Err.ensures.refuses m.0 m.1)))
-    c.in-Err.ensures.unchanged c.in_ok-reply-in-Err.ensures)
+    let m = some-at (at c.args.targets.now.all c.args.name) (sym (has_target c.args.targets.now.all c.args.name) ∙ c.requires.asked.here) in
+    refused_well c.args.targets.now.all c.args.comms.now.all _ c.requires.asked c.requires.none m.0 m.1 c.in-Err.fault _ _ _
+    (not_memory c.in-Err.fault (sym c.is_memory.ensures ∙ c.if-is_memory.false) (c.in-Err.ensures.refuses m.0 m.1))
+    c.in-Err.ensures.unchanged c.in_ok-reply-in-Err.ensures
 
 pub refusal_step-refusal-requires : goal.refusal_step-refusal-requires
 refusal_step-refusal-requires g c =
-    let asked = subst (CanAsk c.args.targets.now.all c.args.comms.now.all) (sym c.request.view_is) c.requires.asked in
-    let m = some-at (at c.args.targets.now.all c.request.inside.name) (sym (has_target c.args.targets.now.all c.request.inside.name) ∙ asked.here) in
-    can_refuse c.args.targets.now.all c.args.comms.now.all c.requires.agrees c.request.inside.name c.request.inside.event asked.kind_suits m.0 m.1 _ c.in-Err.fault
+    let m = some-at (at c.args.targets.now.all c.args.name) (sym (has_target c.args.targets.now.all c.args.name) ∙ c.requires.asked.here) in
+    can_refuse c.args.targets.now.all c.args.comms.now.all c.requires.agrees c.args.name c.args.event c.requires.asked.kind_suits m.0 m.1 _ c.in-Err.fault
     (not_memory c.in-Err.fault (sym c.is_memory.ensures ∙ c.if-is_memory.false) (c.in-Err.ensures.refuses m.0 m.1))
 
 -- what goes out as the messages of a comm are these bodies
@@ -108,11 +97,9 @@ told b name (event.Push id state) m now a r out M N k is h s = sym (bodies_back 
 pub returns-in-Ok-answer_step-clause-told : goal.returns-in-Ok-answer_step-clause-told
 returns-in-Ok-answer_step-clause-told g c =
     let b = c.args.targets.now.all in
-    let m = some-at (at b c.args.request.name) (sym (has_target b c.args.request.name) ∙ c.requires.asked.here) in
+    let m = some-at (at b c.args.name) (sym (has_target b c.args.name) ∙ c.requires.asked.here) in
     let a = c.take-kept.result.0 in
     let kept = sym c.take-kept.ensures.kept in
-    let asked = subst (λ (q : TargetRequest). (n : Meaning) → at b q.name ≡ Some n → MayAnswer n (option_map (λ d. d.now) c.args.state) q.event c.in-Ok.answer) c.request.view_is c.in-Ok.ensures.answers in
-    let answers = subst (λ n. Answers m.0.kind m.0.notes n c.args.request.event a) c.requires.lent
-    (subst (MayAnswer m.0 (option_map (λ d. d.now) c.args.state) c.args.request.event) kept (asked m.0 m.1)) in
+    let answers = subst (MayAnswer m.0 c.args.state.now c.args.event) kept (c.in-Ok.ensures.answers m.0 m.1) in
     let steps = c.in-Ok-answer_step.ensures a (c.take-kept.ensures.messages ∙ ap (λ (x : Answer). x.messages) kept) (ap (λ (x : Answer). x.custom) c.kept.view_is) in
-    told b c.args.request.name c.args.request.event m.0 _ a _ _ (machine_of b c.args.comms.now.all) _ c.requires.asked.kind_suits m.1 answers (steps (machine_of b c.args.comms.now.all))
+    told b c.args.name c.args.event m.0 _ a _ _ (machine_of b c.args.comms.now.all) _ c.requires.asked.kind_suits m.1 answers (steps (machine_of b c.args.comms.now.all))

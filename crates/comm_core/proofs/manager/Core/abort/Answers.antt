@@ -1,15 +1,6 @@
-use Rattle.std.proofs.Common.{option_map}
-use Rattle.comm_core.proofs.Readying.{staged_now, suits_now, sound_unstaged}
+use Rattle.std.proofs.Common.{ap, sym}
+use Rattle.comm_core.specs.Ready.{Readied}
 use Rattle.comm_core.proofs.manager.Core.abort.Goals as goal
 
-pub revert-requires-clause-staged : goal.revert-requires-clause-staged
-revert-requires-clause-staged g c κs within = (
-  c.self.inside.comms.all,
-  option_map g.T.Target.means c.prepared.inside.registered,
-  c.prepared.inside.outcome,
-  suits_now _ _ _ _ _ _ _ _ _ _ _ _ c.self.view_is c.prepared.view_is c.requires.ready,
-  staged_now _ _ _ _ _ _ _ _ _ _ _ _ c.self.view_is c.prepared.view_is c.requires.ready,
-)
-
-pub invariant_of-self : goal.invariant_of-self
-invariant_of-self g c = sound_unstaged _ _ _ _ _ c.self.invariant.agrees c.revert.ensures
+pub take_back-requires : goal.take_back-requires
+take_back-requires g c = (c.args.prepared, c.requires, sym (ap (λ (r : Readied). r.table_update) c.prepared.view_is))

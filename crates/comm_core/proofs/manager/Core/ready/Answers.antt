@@ -1,7 +1,7 @@
 use Rattle.std.proofs.Common.{ap, ◌∙◌}
 use Rattle.comm_core.specs.Ready.{CoreValue}
 use Rattle.comm_core.proofs.Readying.{sound-settled, call_ready, ready_allowed, ready_staged, ready_step, came_machine, undone_is}
-use Rattle.comm_core.proofs.manager.Core.prepare.Goals as goal
+use Rattle.comm_core.proofs.manager.Core.ready.Goals as goal
 
 pub invariant_of-self : goal.invariant_of-self
 invariant_of-self g c = sound-settled _ _ _ _ _ _ _ _ _ c.self.invariant c.make_room.ensures.targets c.make_room.ensures.comms (ap (λ (s : CoreValue). s.settled) c.self.view_is ∙ c.requires.settled)
@@ -10,7 +10,7 @@ pub invariant_of-self-in_err-evaluation : goal.invariant_of-self-in_err-evaluati
 invariant_of-self-in_err-evaluation g c = sound-settled _ _ _ _ _ _ _ _ _ c.self.invariant (c.in_err-evaluation.ensures.err ∙ c.make_room.ensures.targets) c.make_room.ensures.comms (ap (λ (s : CoreValue). s.settled) c.self.view_is ∙ c.requires.settled)
 
 pub returns-clause-ready : goal.returns-clause-ready
-returns-clause-ready g c = rw c.of-seen.ensures (call_ready _ _ _ _ _ _ _ _ _ c.in_ok-evaluation.ensures.came)
+returns-clause-ready g c = call_ready _ _ _ _ _ _ _ _ _ c.in_ok-evaluation.ensures.came
 
 pub returns-clause-machine : goal.returns-clause-machine
 returns-clause-machine g c =
