@@ -1,5 +1,5 @@
 -- The tables after a target's change is made, and after a target is registered.
-use Rattle.std.proofs.Common.{◌≡◌, ℕ, [], ◌∷◌, ◌++◌, Option, None, Some, is_some, IsSome, Ok, Err, ap, sym, ◌∙◌, subst}
+use Rattle.std.proofs.Common.{◌≡◌, ℕ, [], ◌∷◌, ◌++◌, Option, None, Some, is_some, IsSome, Ok, Err, true, false, ap, sym, ◌∙◌, subst, true≢false}
 use Rattle.comm_value.specs.Tree.{Members}
 use Rattle.comm_messages.specs.Content.{Content}
 use Rattle.comm_targets.specs.Meaning.{Meaning, IsIdle, after_commit, ids_after, notes_after}
@@ -13,6 +13,7 @@ use Rattle.comm_targets.specs.declared.fault.TargetFault.{TargetFault}
 use Rattle.comm_core.specs.Step.{Outcome, answer_step, stated, with_another, with_answer}
 use Rattle.comm_core.specs.Tables.{Targets, Opens, machine_of, Agrees, HaveStaged, unstaged}
 use Rattle.comm_core.specs.Plans.{Carried, Suits, SuitsComms, planned, staged_by}
+use Rattle.comm_core.specs.Told.{id_of, is_opening}
 use Rattle.comm_core.specs.declared.comm.Comm.{Comm}
 use Rattle.comm_core.specs.declared.target_request.TargetRequest.{TargetRequest}
 use Rattle.comm_core.specs.declared.table_update.TableUpdate.{TableUpdate}
@@ -54,6 +55,25 @@ module _ (b : Targets) (c : Opens) (h : Agrees (unstaged b) c) (q : TargetReques
       let s : SuitsComms c q.name (event.Push id state) = subst (SuitsComms c q.name) e suits.1 in
       let r = told_carried b c h q.name q.event a staged here.0 here.1 b2 c2 eb id s.0 (ap (ids_after here.0.ids) e) s.1 s.2 (ec s.0 s.1 ∙ ap (λ t. stated c id t a.state) s.2) in
       subst Goal (sym e) (subst (λ k. Carried b2 c2 (with_answer (machine_of b c) id q.name k a)) e r)
+
+  pub committed_opening : (e : Event) → q.event ≡ e → is_opening e ≡ true → c2 ≡ c ++ (id_of e, record { target = q.name; state = a.state }) ∷ [] → Goal q.event
+  committed_opening (event.Open id version body) e o ec = commit_opened id version body e ec
+  committed_opening (event.Launch id state) e o ec = commit_launched id state e ec
+  committed_opening (event.Msg id body) e o ec = absurd (true≢false (sym o))
+  committed_opening (event.Push id state) e o ec = absurd (true≢false (sym o))
+
+  pub committed_update : (e : Event) → q.event ≡ e → is_opening e ≡ false → ((x : Comm) → at c (id_of e) ≡ Some x → c2 ≡ stated c (id_of e) x.target a.state) → Goal q.event
+  committed_update (event.Open id version body) e o ec = absurd (true≢false o)
+  committed_update (event.Launch id state) e o ec = absurd (true≢false o)
+  committed_update (event.Msg id body) e o ec = commit_told id body e ec
+  committed_update (event.Push id state) e o ec = commit_pushed id state e ec
+
+-- a comm that is opened isn't there yet
+pub fresh_at : (c : Opens) (name : Name) (e : Event) → is_opening e ≡ true → SuitsComms c name e → at c (id_of e) ≡ None
+fresh_at c name (event.Open id version body) o h = h
+fresh_at c name (event.Launch id state) o h = h
+fresh_at c name (event.Msg id body) o h = absurd (true≢false (sym o))
+fresh_at c name (event.Push id state) o h = absurd (true≢false (sym o))
 
 -- ---- the update of the table of a register
 

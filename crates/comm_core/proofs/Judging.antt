@@ -1,14 +1,15 @@
 -- What the tests of a call that may ask a target come to.
-use Rattle.std.proofs.Common.{◌≡◌, ℕ, Bool, true, false, not, cond, List, [], Option, None, Some, refl, ap, sym, ◌∙◌}
+use Rattle.std.proofs.Common.{◌≡◌, ℕ, true, false, List, [], Option, None, Some, Result, Ok, Err, IfOk, sym, subst}
+use Rattle.std.specs.declared.alloc.AllocError.{AllocError}
 use Rattle.comm_value.specs.Tree.{Members}
 use Rattle.comm_messages.specs.Content.{Content}
 use Rattle.comm_messages.specs.declared.outgoing.Outgoing.{Outgoing}
 use Rattle.comm_targets.specs.declared.event.Event.TheVariants as event
 use Rattle.comm_core.specs.Machine.{Name, Machine, at, has}
-use Rattle.comm_core.specs.Step.{AskTarget, Done, comm_id, holds_widget, is_full, judged, of_comm, refused_open, stays}
-use Rattle.comm_core.specs.Told.{asked}
+use Rattle.comm_core.specs.Step.{Outcome, AskTarget, Done, holds_widget, is_full, judged, refused_open, stays}
+use Rattle.comm_core.specs.Told.{IsTold, asked}
 use Rattle.comm_core.specs.Tables.{Targets, Opens, HaveStaged, ended_of, machine_of}
-use Rattle.comm_core.specs.Plans.{HasCome}
+use Rattle.comm_core.specs.Plans.{HasCome, HasVerdict, IsFeasible}
 use Rattle.comm_core.specs.declared.comm.Comm.{Comm}
 use Rattle.comm_core.specs.declared.call.Call.{Call}
 use Rattle.comm_core.specs.declared.evaluation.Evaluation.{Evaluation}
@@ -54,8 +55,22 @@ module _ (l : ℕ) (m : Machine) where
 
 -- ---- what came of them
 
-module _ (l : ℕ) (b : Targets) (c : Opens) (k : Call) (none : HaveStaged b (λ _. None)) (nobody : (bs : Targets) → ended_of bs k ≡ None) where
+module _ (l : ℕ) (b : Targets) (c : Opens) (k : Call) (none : HaveStaged b (λ _. None)) where
   -- the reply of a test, and a message or none; nothing changes
-  pub came_reply : (e : Evaluation) (r : Reply) (out : List Outgoing) → Done r out (machine_of b c) ≡ judged l (machine_of b c) k
+  pub came_reply : ((bs : Targets) → ended_of bs k ≡ None) → (e : Evaluation) (r : Reply) (out : List Outgoing) → Done r out (machine_of b c) ≡ judged l (machine_of b c) k
       → e.outcome ≡ None → e.reply ≡ r → e.outgoing.items ≡ out → e.table_update ≡ Nothing → HasCome l b c k e.outcome e.reply e.outgoing.items e.table_update b
-  came_reply e r out is o s t u = rw (o, s, t, u) (came_done l b c k r out Nothing is none tt (sym (nobody b)))
+  came_reply nobody e r out is o s t u = rw (o, s, t, u) (came_done l b c k r out Nothing is none tt (sym (nobody b)))
+
+  -- what a call comes to that asks no target
+  came_judged : (e : Evaluation) → HasVerdict l b c k e → IsFeasible b c k e → HasCome l b c k e.outcome e.reply e.outgoing.items e.table_update b
+  came_judged e v f =
+      subst (λ (o : Option Outcome). HasCome l b c k o e.reply e.outgoing.items e.table_update b) (sym v.0) (came_done l b c k e.reply e.outgoing.items e.table_update v.1 none f.0 f.1)
+
+  pub judged_came : (k' : Call) → k' ≡ k → (r : Result Evaluation AllocError) → IfOk r (λ e. HasVerdict l b c k e) → IfOk r (λ e. IsFeasible b c k e)
+      → IfOk r (λ e. HasCome l b c k' e.outcome e.reply e.outgoing.items e.table_update b)
+  judged_came k' is (Ok e) v f = subst (λ (x : Call). HasCome l b c x e.outcome e.reply e.outgoing.items e.table_update b) (sym is) (came_judged e v f)
+  judged_came k' is (Err x) v f = tt
+
+pub judged_told : (l : ℕ) (b : Targets) (c : Opens) (k : Call) (r : Result Evaluation AllocError) → IfOk r (λ e. HasVerdict l b c k e) → IfOk r (λ e. IsTold e.outcome e.outgoing.items)
+judged_told l b c k (Ok e) v = subst (λ (o : Option Outcome). IsTold o e.outgoing.items) (sym v.0) tt
+judged_told l b c k (Err x) v = tt

@@ -11,6 +11,7 @@ pub mod Tables
 pub mod Kept
 pub mod Plans
 pub mod Told
+pub mod IdLists
 pub mod Row
 pub mod Ready
 pub mod Evaluated

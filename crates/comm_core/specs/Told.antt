@@ -40,8 +40,8 @@ id_of (event.Msg id body) = id
 id_of (event.Push id state) = id
 
 -- it is opened by the event
-abbrev pub opens : Event → Bool
-opens (event.Open id version body) = true
-opens (event.Launch id state) = true
-opens (event.Msg id body) = false
-opens (event.Push id state) = false
+abbrev pub is_opening : Event → Bool
+is_opening (event.Open id version body) = true
+is_opening (event.Launch id state) = true
+is_opening (event.Msg id body) = false
+is_opening (event.Push id state) = false

@@ -114,10 +114,10 @@ fn commit<T: Target>(
     let StagedAnswer { state, .. } = outcome;
     if opens {
         note_open(comms, id, name, state);
-    } else {
-        drop(name);
-        note_state(comms, place, &id, state);
+        return;
     }
+    drop(name);
+    note_state(comms, place, &id, state);
 }
 
 /// The comm that a target took, with its first state.

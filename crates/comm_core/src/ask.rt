@@ -5,9 +5,8 @@ ghost use Rattle.comm_targets.specs.declared.answer.Answer.{Answer};
 ghost use Rattle.comm_core.specs.Machine.{Machine};
 ghost use Rattle.comm_core.specs.Step.{answer_step, refusal_step};
 ghost use Rattle.comm_core.specs.Tables.{machine_of, Agrees, HaveStaged, unstaged};
-ghost use Rattle.comm_core.specs.Ready.{HandsNothingIn};
-ghost use Rattle.comm_core.specs.Told.{IsTold};
-ghost use Rattle.comm_core.specs.Plans.{CanAsk, CanRefuse, GivesReply, HasAnswered, HasCome, is_memory};
+ghost use Rattle.comm_core.specs.Told.{IsTold, asked};
+ghost use Rattle.comm_core.specs.Plans.{CanAsk, CanRefuse, GivesReply, HasAnswered, is_memory};
 
 use crate::comms::Comms;
 use crate::evaluation::Evaluation;

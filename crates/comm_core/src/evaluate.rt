@@ -68,10 +68,8 @@ pub fn evaluate<T: Target>(
 
 // The reply to an open that is refused before its target is asked.
 fn refused_open(alloc: Global, id: Text, why: Refusal) -> Result<Evaluation, AllocError>
-    ensures outcome { IfOk result (λ e. e.outcome ≡ None) }
-    ensures reply { IfOk result (λ e. e.reply ≡ reply.OpenRefused why) }
-    ensures outgoing { IfOk result (λ e. e.outgoing.items ≡ out.Close id ∷ []) }
-    ensures table_update { IfOk result (λ e. e.table_update ≡ Nothing) }
+    ensures { IfOk result (λ e. (e.outcome ≡ None) × (e.reply ≡ reply.OpenRefused why)
+        × (e.outgoing.items ≡ out.Close id ∷ []) × (e.table_update ≡ Nothing)) }
 {
     let outgoing = one(alloc, Outgoing::Close { id })?;
     Ok(Evaluation::of_no_target(Reply::OpenRefused(why), outgoing, TableUpdate::Nothing))
@@ -195,12 +193,21 @@ fn evaluate_launch<T: Target>(
         drop(state);
         return Err(AllocError);
     };
-    if let Some(reply) = launch_refusal(targets, comms, limit, &id, &target) {
-        drop(state);
-        return Ok(Evaluation::of_reply(alloc, reply));
+    match launch_refusal(targets, comms, limit, &id, &target) {
+        Some(reply) => {
+            drop(state);
+            Ok(Evaluation::of_reply(alloc, reply))
+        }
+        None => ask(
+            targets,
+            comms,
+            alloc,
+            target,
+            Event::Launch { id, state },
+            0,
+            &None,
+        ),
     }
-    let event = Event::Launch { id, state };
-    ask(targets, comms, alloc, target, event, 0, &None)
 }
 
 // The comm's id, and the target's name, which shares the memory of the target's own.
@@ -233,6 +240,8 @@ fn launch_refusal<T: Target>(
         → judged limit (machine_of targets.now.all comms.now.all)
         (call.Launch uuid target.now state)
         ≡ AskTarget (asked target.now None (event.Launch id.now state))) }
+    ensures feasible { IfNone result ((state : Members) → CanAsk targets.now.all comms.now.all
+        (asked target.now None (event.Launch id.now state))) }
 {
     if comms.contains(id) {
         return Some(Reply::IdInUse);

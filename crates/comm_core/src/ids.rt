@@ -3,19 +3,28 @@ ghost use Rattle.std.specs.Prelude.{◌≡◌, ◌++◌, [], ◌∷◌, IfOk, On
 use comm_value::Text;
 use std::alloc::{AllocError, Global};
 use std::marker::Model;
+use std::slice;
+
+// One id, which needs no block, or a list.
+#[derive(Drop)]
+enum IdList {
+    One(Global, Text),
+    Many(Vec<Text>),
+}
 
 /// Ids of comms, seen as a list of texts.
 #[derive(Drop)]
 pub struct Ids {
-    all: Vec<Text>,
+    all: IdList,
 }
 
 impl Model for Ids {
     ghost use Rattle.std.specs.Prelude.{List, ℕ};
+    ghost use Rattle.comm_core.specs.IdLists.{ids_in};
 
     ghost Value = { List (List ℕ) };
 
-    ghost view = { λ i. i.all.items };
+    ghost view = { λ i. ids_in i.all };
 }
 
 impl Ids {
@@ -24,7 +33,16 @@ impl Ids {
         ensures { result ≡ [] }
     {
         Ids {
-            all: Vec::new(alloc),
+            all: IdList::Many(Vec::new(alloc)),
+        }
+    }
+
+    /// This id alone. It takes no memory.
+    pub fn one(alloc: Global, id: Text) -> Ids
+        ensures { result ≡ id ∷ [] }
+    {
+        Ids {
+            all: IdList::One(alloc, id),
         }
     }
 
@@ -33,7 +51,15 @@ impl Ids {
         ensures ok { OnOk result (self.new ≡ self.old ++ id ∷ []) }
         ensures err { OnErr result (self.new ≡ self.old) }
     {
-        self.all.push(id)?;
+        match &mut self.all {
+            IdList::One(alloc, first) => {
+                let mut all = Vec::with_capacity(*alloc, 2)?;
+                all.push(first.copy()?)?;
+                all.push(id)?;
+                self.all = IdList::Many(all);
+            }
+            IdList::Many(all) => all.push(id)?,
+        }
         Ok(())
     }
 
@@ -41,17 +67,32 @@ impl Ids {
     pub fn as_slice(&self) -> &[Text]
         ensures { result.now ≡ self.now }
     {
-        self.all.as_slice()
+        match &self.all {
+            IdList::One(_, id) => slice::from_ref(id),
+            IdList::Many(all) => all.as_slice(),
+        }
     }
 
     /// A copy, which shares the ids' strings. Err: memory.
     pub fn copy(&self, alloc: Global) -> Result<Ids, AllocError>
         ensures { IfOk result (λ i. i ≡ self.now) }
     {
-        let mut all = Vec::with_capacity(alloc, self.all.len())?;
-        for id in &self.all {
-            all.push(id.copy()?)?;
+        match &self.all {
+            IdList::One(_, id) => Ok(Ids::one(alloc, id.copy()?)),
+            IdList::Many(ids) => Ok(Ids {
+                all: IdList::Many(copies(alloc, ids)?),
+            }),
         }
-        Ok(Ids { all })
     }
+}
+
+// A list of these ids, which share their strings.
+fn copies(alloc: Global, ids: &[Text]) -> Result<Vec<Text>, AllocError>
+    ensures { IfOk result (λ v. v.items ≡ ids.now) }
+{
+    let mut all = Vec::with_capacity(alloc, ids.len())?;
+    for id in ids {
+        all.push(id.copy()?)?;
+    }
+    Ok(all)
 }

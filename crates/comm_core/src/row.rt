@@ -151,9 +151,8 @@ fn closed_row(alloc: Global, id: &Text, reply: &Reply) -> Result<Row, AllocError
 {
     match reply {
         Reply::Closed => {
-            let mut ids = Ids::new(alloc);
-            ids.push(id.copy()?)?;
-            Ok(Row::Out(ids))
+            let id = id.copy()?;
+            Ok(Row::Out(Ids::one(alloc, id)))
         }
         _ => Ok(Row::Same),
     }

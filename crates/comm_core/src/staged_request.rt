@@ -1,6 +1,6 @@
 //! What is kept of a request between `prepare` and `commit`.
 ghost use Rattle.std.specs.Prelude.{◌≡◌};
-ghost use Rattle.comm_core.specs.Told.{asked, id_of, opens};
+ghost use Rattle.comm_core.specs.Told.{asked, id_of, is_opening};
 
 use comm_targets::Event;
 use comm_value::{Dict, Text};
@@ -22,7 +22,7 @@ pub struct StagedRequest {
 
 impl Model for StagedRequest {
     ghost use Rattle.std.specs.Prelude.{◌≡◌};
-    ghost use Rattle.comm_core.specs.Told.{asked, id_of, opens};
+    ghost use Rattle.comm_core.specs.Told.{asked, id_of, is_opening};
     ghost use Rattle.comm_core.specs.declared.target_request.TargetRequest.{TargetRequest};
     ghost use Rattle.comm_core.specs.contracts.target_request.TargetRequest as request;
 
@@ -32,7 +32,7 @@ impl Model for StagedRequest {
 
     ghost view = { λ r. asked r.name r.state.value r.event.value };
 
-    ghost invariant = { λ r. (r.id ≡ id_of r.event.value) × (r.opens ≡ opens r.event.value) };
+    ghost invariant = { λ r. (r.id ≡ id_of r.event.value) × (r.opens ≡ is_opening r.event.value) };
 }
 
 impl StagedRequest {
@@ -58,7 +58,7 @@ impl StagedRequest {
 #[inline(always)]
 fn split_event(event: Event) -> (Text, bool)
     ensures id { result.0 ≡ id_of event }
-    ensures opens { result.1 ≡ opens event }
+    ensures opens { result.1 ≡ is_opening event }
 {
     match event {
         Event::Open { id, version, body } => {

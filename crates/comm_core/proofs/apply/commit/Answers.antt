@@ -7,10 +7,11 @@ use Rattle.comm_core.specs.Machine.{Name, at, with_at}
 use Rattle.comm_core.specs.Step.{Outcome, stated}
 use Rattle.comm_core.specs.Tables.{Targets, Opens, HaveStaged, machine_of, unstaged}
 use Rattle.comm_core.specs.Plans.{Carried, Suits, planned, staged_by}
-use Rattle.comm_core.specs.Told.{HasStateOf}
+use Rattle.comm_core.specs.Told.{HasStateOf, id_of, is_opening}
+use Rattle.comm_core.specs.declared.comm.Comm.{Comm}
 use Rattle.comm_core.specs.declared.table_update.TableUpdate.TheVariants.{Commit}
 use Rattle.comm_core.specs.declared.target_request.TargetRequest.{TargetRequest}
-use Rattle.comm_core.proofs.Committing.{commit_opened, commit_launched, commit_told, commit_pushed}
+use Rattle.comm_core.proofs.Committing.{committed_opening, committed_update, fresh_at}
 use Rattle.comm_core.proofs.apply.commit.Goals as goal
 
 -- what is written under the name of one request is written under that of an equal one
@@ -37,40 +38,31 @@ carried_of b b2 c c2 m q o a e staged suits f =
     (f (subst (λ (x : Option Outcome). HaveStaged b (staged_by (Commit q) x)) e staged) (subst (λ (x : Option Outcome). Suits (unstaged b) c m (Commit q) x) e suits))
 
 -- the comm that is noted is the same
-noted : (comms : Opens) (id p q : Name) (s t : Option Members) → p ≡ q → s ≡ t → comms ++ (id, record { target = p; state = s }) ∷ [] ≡ comms ++ (id, record { target = q; state = t }) ∷ []
-noted comms id p q s t d e = ap (λ n. comms ++ (id, record { target = n; state = s }) ∷ []) d ∙ ap (λ x. comms ++ (id, record { target = q; state = x }) ∷ []) e
+noted : (comms : Opens) (i j p q : Name) (s t : Option Members) → i ≡ j → p ≡ q → s ≡ t → comms ++ (i, record { target = p; state = s }) ∷ [] ≡ comms ++ (j, record { target = q; state = t }) ∷ []
+noted comms i j p q s t h d e = ap (λ (x : Name × Name × Option Members). comms ++ (x.0, record { target = x.1; state = x.2 }) ∷ []) (λ k. (h k, d k, e k))
 
-pub returns-in-Open : goal.returns-in-Open
-returns-in-Open g c =
+-- and so is its state
+told_at : (comms after : Opens) (i j : Name) (s t : Option Members) → i ≡ j → s ≡ t → ((x : Comm) → at comms i ≡ Some x → after ≡ stated comms i x.target s) → (x : Comm) → at comms j ≡ Some x → after ≡ stated comms j x.target t
+told_at comms after i j s t h e f = subst (λ (k : Name × Option Members). (x : Comm) → at comms k.0 ≡ Some x → after ≡ stated comms k.0 x.target k.1) (λ k. (h k, e k)) f
+
+pub note_open-requires-clause-fresh : goal.note_open-requires-clause-fresh
+note_open-requires-clause-fresh g c =
+    let event = ap (λ (r : TargetRequest). r.event) c.request.view_is in
+    let a = answered (unstaged c.args.targets.now.all) c.args.comms.now.all c.requires.suits.0 c.args.request c.args.outcome c.requires.suits.1 in
+    let suits = subst (λ (x : Option Outcome). Suits (unstaged c.args.targets.now.all) c.args.comms.now.all c.requires.suits.0 (Commit c.args.request) x) a.1 c.requires.suits.1 in
+    subst (λ (i : Name). at c.args.comms.now.all i ≡ None) (sym (c.request.invariant.0 ∙ ap id_of event))
+    (fresh_at c.args.comms.now.all c.args.request.name c.args.request.event (ap is_opening (sym event) ∙ (sym c.request.invariant.1 ∙ c.if-opens.true)) suits.1)
+
+pub returns-then-opens : goal.returns-then-opens
+returns-then-opens g c =
     let e = c.request.view_is in
     let name = ap (λ (r : TargetRequest). r.name) e in
     let event = ap (λ (r : TargetRequest). r.event) e in
     let a = answered (unstaged c.args.targets.now.all) c.args.comms.now.all c.requires.suits.0 c.args.request c.args.outcome c.requires.suits.1 in
     let s = given _ _ _ _ c.outcome.invariant c.outcome.view_is a.1 in
     carried_of _ _ _ _ c.requires.suits.0 c.args.request _ a.0 a.1 c.requires.staged c.requires.suits.1
-    (λ staged suits. commit_opened _ _ c.requires.agrees c.args.request a.0 staged suits _ _ (written _ _ _ _ e c.commit.ensures.all) _ _ _ (sym event ∙ c.in-Open.is)
-    (c.note_open.ensures ∙ noted _ _ _ _ _ _ name s))
-
-pub returns-in-Launch : goal.returns-in-Launch
-returns-in-Launch g c =
-    let e = c.request.view_is in
-    let name = ap (λ (r : TargetRequest). r.name) e in
-    let event = ap (λ (r : TargetRequest). r.event) e in
-    let a = answered (unstaged c.args.targets.now.all) c.args.comms.now.all c.requires.suits.0 c.args.request c.args.outcome c.requires.suits.1 in
-    let s = given _ _ _ _ c.outcome.invariant c.outcome.view_is a.1 in
-    carried_of _ _ _ _ c.requires.suits.0 c.args.request _ a.0 a.1 c.requires.staged c.requires.suits.1
-    (λ staged suits. commit_launched _ _ c.requires.agrees c.args.request a.0 staged suits _ _ (written _ _ _ _ e c.commit.ensures.all) _ _ (sym event ∙ c.in-Launch.is)
-    (c.note_open-in-Launch.ensures ∙ noted _ _ _ _ _ _ name s))
-
-pub returns-in-Msg : goal.returns-in-Msg
-returns-in-Msg g c =
-    let e = c.request.view_is in
-    let event = ap (λ (r : TargetRequest). r.event) e in
-    let a = answered (unstaged c.args.targets.now.all) c.args.comms.now.all c.requires.suits.0 c.args.request c.args.outcome c.requires.suits.1 in
-    let s = given _ _ _ _ c.outcome.invariant c.outcome.view_is a.1 in
-    carried_of _ _ _ _ c.requires.suits.0 c.args.request _ a.0 a.1 c.requires.staged c.requires.suits.1
-    (λ staged suits. commit_told _ _ c.requires.agrees c.args.request a.0 staged suits _ _ (written _ _ _ _ e c.commit.ensures.all) _ _ (sym event ∙ c.in-Msg.is)
-    (λ x is. c.note_state.ensures x is ∙ ap (stated c.args.comms.now.all c.in-Msg.id x.target) s))
+    (λ staged suits. committed_opening _ _ c.requires.agrees c.args.request a.0 staged suits _ _ (written _ _ _ _ e c.commit.ensures.all) c.args.request.event refl
+    (ap is_opening (sym event) ∙ (sym c.request.invariant.1 ∙ c.if-opens.true)) (c.note_open.ensures ∙ noted _ _ _ _ _ _ _ (c.request.invariant.0 ∙ ap id_of event) name s))
 
 pub returns : goal.returns
 returns g c =
@@ -79,5 +71,5 @@ returns g c =
     let a = answered (unstaged c.args.targets.now.all) c.args.comms.now.all c.requires.suits.0 c.args.request c.args.outcome c.requires.suits.1 in
     let s = given _ _ _ _ c.outcome.invariant c.outcome.view_is a.1 in
     carried_of _ _ _ _ c.requires.suits.0 c.args.request _ a.0 a.1 c.requires.staged c.requires.suits.1
-    (λ staged suits. commit_pushed _ _ c.requires.agrees c.args.request a.0 staged suits _ _ (written _ _ _ _ e c.commit.ensures.all) _ _ (sym event ∙ c.in-Push.is)
-    (λ x is. c.note_state-in-Push.ensures x is ∙ ap (stated c.args.comms.now.all c.in-Push.id x.target) s))
+    (λ staged suits. committed_update _ _ c.requires.agrees c.args.request a.0 staged suits _ _ (written _ _ _ _ e c.commit.ensures.all) c.args.request.event refl
+    (ap is_opening (sym event) ∙ (sym c.request.invariant.1 ∙ c.if-opens.false)) (told_at _ _ _ _ _ _ (c.request.invariant.0 ∙ ap id_of event) s c.note_state.ensures))

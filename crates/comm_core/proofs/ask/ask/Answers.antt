@@ -44,9 +44,10 @@ returns-in-Ok-answer_step-clause-came g c =
     let m = some-at (at b c.args.name) (sym (has_target b c.args.name) ∙ c.requires.asked.here) in
     let a = c.take-kept.result.0 in
     let kept = sym c.take-kept.ensures.kept in
-    let answers = subst (MayAnswer m.0 c.args.state.now c.args.event) kept (c.in-Ok.ensures.answers m.0 m.1) in
+    let given = subst (λ (n : Option Members). MayAnswer m.0 n c.args.event c.in-Ok.answer) c.as_ref.ensures.value (c.in-Ok.ensures.answers m.0 m.1) in
+    let answers = subst (MayAnswer m.0 c.args.state.now c.args.event) kept given in
     let steps = c.in-Ok-answer_step.ensures a (c.take-kept.ensures.messages ∙ ap (λ (x : Answer). x.messages) kept) (ap (λ (x : Answer). x.custom) c.kept.view_is) in
-    subst (λ (x : TargetRequest). HasAnswered b c.args.comms.now.all q (Some (Ok a)) c.in-Ok-answer_step.reply c.in-Ok-answer_step.outgoing.items (Commit x) c.prepare.new.self.all) (sym c.new-in-Ok-answer_step.ensures)
+    subst (λ (x : TargetRequest). HasAnswered b c.args.comms.now.all q (Some (Ok a)) c.in-Ok-answer_step.reply c.in-Ok-answer_step.outgoing.items (Commit x) c.prepare.new.self.all) (sym c.new.ensures)
     (answered_well b c.args.comms.now.all q c.requires.asked c.requires.none m.0 m.1 a _ _ _ answers
     (c.in-Ok.ensures.staged m.0 m.1 ∙ ap (λ (x : Answer). with_at b c.args.name (after_prepare m.0 c.args.event x)) kept) steps)
 
@@ -59,7 +60,8 @@ pub returns-in_ok-reply-in-Err-clause-came : goal.returns-in_ok-reply-in-Err-cla
 returns-in_ok-reply-in-Err-clause-came g c =
     let m = some-at (at c.args.targets.now.all c.args.name) (sym (has_target c.args.targets.now.all c.args.name) ∙ c.requires.asked.here) in
     refused_well c.args.targets.now.all c.args.comms.now.all _ c.requires.asked c.requires.none m.0 m.1 c.in-Err.fault _ _ _
-    (not_memory c.in-Err.fault (sym c.is_memory.ensures ∙ c.if-is_memory.false) (c.in-Err.ensures.refuses m.0 m.1))
+    (not_memory c.in-Err.fault (sym c.is_memory.ensures ∙ c.if-is_memory.false)
+    (subst (λ (n : Option Members). (c.in-Err.fault ≡ Memory) ⊎ Refuses m.0.kind m.0.notes n c.args.event c.in-Err.fault) c.as_ref.ensures.value (c.in-Err.ensures.refuses m.0 m.1)))
     c.in-Err.ensures.unchanged c.in_ok-reply-in-Err.ensures
 
 pub refusal_step-refusal-requires : goal.refusal_step-refusal-requires
@@ -100,6 +102,7 @@ returns-in-Ok-answer_step-clause-told g c =
     let m = some-at (at b c.args.name) (sym (has_target b c.args.name) ∙ c.requires.asked.here) in
     let a = c.take-kept.result.0 in
     let kept = sym c.take-kept.ensures.kept in
-    let answers = subst (MayAnswer m.0 c.args.state.now c.args.event) kept (c.in-Ok.ensures.answers m.0 m.1) in
+    let given = subst (λ (n : Option Members). MayAnswer m.0 n c.args.event c.in-Ok.answer) c.as_ref.ensures.value (c.in-Ok.ensures.answers m.0 m.1) in
+    let answers = subst (MayAnswer m.0 c.args.state.now c.args.event) kept given in
     let steps = c.in-Ok-answer_step.ensures a (c.take-kept.ensures.messages ∙ ap (λ (x : Answer). x.messages) kept) (ap (λ (x : Answer). x.custom) c.kept.view_is) in
     told b c.args.name c.args.event m.0 _ a _ _ (machine_of b c.args.comms.now.all) _ c.requires.asked.kind_suits m.1 answers (steps (machine_of b c.args.comms.now.all))
