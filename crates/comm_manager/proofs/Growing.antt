@@ -188,9 +188,9 @@ module _ (limits : Limits) (h : List Entry) (core ready : CoreValue) (w : Writer
   pub may_follow : Grows → c < limits.clients → IsLegal limits.clients limits.comms ((w.front ++ w.pending) ++ ready_entry c (n + 1) d ∷ [])
   may_follow grows below = subst (λ (l : List Entry). IsLegal limits.clients limits.comms (l ++ ready_entry c (n + 1) d ∷ [])) (sym whole) (legal_after grows below)
 
-  -- it stands ready after what is published
-  pub after_front : (x : CoreValue) × IsReady x d × (machine x ≡ replay limits.comms (w.front ++ w.pending))
-  after_front = (ready, stands, here limits h core ready c (n + 1) d kept.rests stands same limit_is ∙ ap (replay limits.comms) (sym whole))
+  -- its machine is that after what is published
+  pub machine_there : machine ready ≡ replay limits.comms (w.front ++ w.pending)
+  machine_there = here limits h core ready c (n + 1) d kept.rests stands same limit_is ∙ ap (replay limits.comms) (sym whole)
 
   -- what is kept once it is done
   pub kept_after : (h' : List Entry) (core' : CoreValue) (w' : WriterValue) (totals' : List ℕ) → Grows → Replays → c < limits.clients → length h < limits.history

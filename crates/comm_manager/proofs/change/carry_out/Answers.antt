@@ -9,7 +9,7 @@ use Rattle.comm_core.specs.declared.entry.Entry.{Entry}
 use Rattle.comm_core.specs.declared.reply.Reply.{Reply}
 use Rattle.comm_core.specs.declared.row.Row.{Row}
 use Rattle.comm_manager.specs.Asked.{ready_entry}
-use Rattle.comm_manager.proofs.Growing.{after_front, count_is, small, may_follow, kept_after}
+use Rattle.comm_manager.proofs.Growing.{count_is, small, machine_there, may_follow, kept_after}
 use Rattle.comm_manager.proofs.change.carry_out.Goals as goal
 
 pub append-requires-clause-legal : goal.append-requires-clause-legal
@@ -32,9 +32,9 @@ append-requires-clause-row g c =
     let m = replay limits.comms es in
     let legal =
     may_follow limits log.journal.all (undone c.args.core.now) c.args.core.now log.writer log.totals t.client t.number d c.requires.kept.0 c.requires.known.0 c.requires.known.1 c.requires.ready c.requires.same refl c.legal_histories_grow.ensures c.requires.below in
-    let here =
-    after_front limits log.journal.all (undone c.args.core.now) c.args.core.now log.writer log.totals t.client t.number d c.requires.kept.0 c.requires.known.0 c.requires.known.1 c.requires.ready c.requires.same refl in
-    let row : c.args.recording.row ≡ row_of m e = c.requires.row ∙ ap (λ (k : Machine). row_in k d.call d.outcome d.reply) here.2 in
+    let there =
+    machine_there limits log.journal.all (undone c.args.core.now) c.args.core.now log.writer log.totals t.client t.number d c.requires.kept.0 c.requires.known.0 c.requires.known.1 c.requires.ready c.requires.same refl in
+    let row : c.args.recording.row ≡ row_of m e = c.requires.row ∙ ap (λ (k : Machine). row_in k d.call d.outcome d.reply) there in
     ap (λ (k : Row). with_row k (rows m)) row
     ∙ (c.rows_are_what_entries_change.ensures limits.clients limits.comms es e legal ∙ ap (λ (k : Entry). rows (replay limits.comms (es ++ k ∷ []))) (sym c.requires.entry))
 

@@ -15,11 +15,11 @@ next_number-requires g c =
     omega arith
 
 pub carry_out-requires-clause-kept : goal.carry_out-requires-clause-kept
-carry_out-requires-clause-kept g c =
+carry_out-requires-clause-kept g c κs within =
     let m = c.reserve.new in
     let a = admitted g.M.History.limits c.args.log.now.journal.all m.log.journal.all c.args.core.now c.args.log.now.writer m.log.writer c.args.log.now.totals m.log.totals c.args.seq.now m.seq c.reserve.ensures.history c.reserve.ensures.writer c.reserve.ensures.same c.requires.kept.0 c.in_default.ensures.known c.requires.below in
-    let puts = subst (λ (l : List Entry). OutboxInvariant g.M.queue g.M.History.limits l m.log.outbox) (sym c.reserve.ensures.history) c.reserve.ensures.puts in
-    subst (λ (s : CoreValue). LogInvariant g.M.queue g.M.History.limits m.log s) (sym c.in-Ok.ensures.undone) (a.0, puts, c.reserve.ensures.limits ∙ c.requires.kept.2)
+    let puts = subst (λ (l : List Entry). OutboxInvariant g.M.ManagerId.queue g.M.History.limits l m.log.outbox) (sym c.reserve.ensures.history) c.reserve.ensures.puts in
+    subst (λ (s : CoreValue). LogInvariant g.M.ManagerId.queue g.M.History.limits m.log s) (sym c.in-Ok.ensures.undone) (a.0, puts, c.reserve.ensures.limits ∙ c.requires.kept.2)
 
 pub carry_out-requires-clause-same : goal.carry_out-requires-clause-same
-carry_out-requires-clause-same g c = c.in-Ok.ensures.machine ∙ ap machine (sym c.in-Ok.ensures.undone)
+carry_out-requires-clause-same g c κs within = c.in-Ok.ensures.machine ∙ ap machine (sym c.in-Ok.ensures.undone)
