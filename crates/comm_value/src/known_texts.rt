@@ -44,7 +44,6 @@ impl KnownTexts {
 
     /// A text of these characters: the one that was met before, or else a copy, which is kept where it is no longer than
     /// 40 bytes. Err: out of memory, or a reference count at its maximum.
-    // A text that is known is found where this is called; any other is dear anyway.
     #[inline(always)]
     pub fn text(&mut self, alloc: Global, text: &str) -> Result<Text, AllocError>
         ensures { IfOk result (λ t. t ≡ text.now) }
