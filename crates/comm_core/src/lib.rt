@@ -3,8 +3,9 @@
 //! A [`Core`] holds the targets that are registered and the comms that are open. A [`Call`] goes through `prepare`,
 //! which takes all memory and asks the target, and then through `commit`, which makes the change and can't fail, or
 //! `abort`, which takes everything back. `begin`, `finish` and `withdraw` are these of a change that keeps its call:
-//! the [`Ready`]. `specs/Machine` and `specs/Step` say what each call does, `specs/History` what a run of calls is,
-//! and `specs/Reads` what a read gives.
+//! the [`Ready`]. `record`, `commit_recorded` and `abort_recorded` are these of a change whose [`Entry`] and [`Row`] in
+//! a history are made before it is: the [`Recording`]. `specs/Machine` and `specs/Step` say what each call does,
+//! `specs/History` what a run of calls is, and `specs/Reads` what a read gives.
 #![tactic(auto)]
 
 mod apply;

@@ -5,7 +5,7 @@ ghost use Rattle.comm_targets.specs.Meaning.{IsIdle};
 ghost use Rattle.comm_core.specs.Evaluated.{evaluated};
 ghost use Rattle.comm_core.specs.Planned.{updated_row};
 ghost use Rattle.comm_core.specs.Ready.{HandsNothingIn, IsReady, IsStep, machine, register_of, row_at, undone};
-ghost use Rattle.comm_core.specs.Ready.{HasAllowedOutcome};
+ghost use Rattle.comm_core.specs.Ready.{HasAllowedOutcome, HasStagedAnswer, MakesItsStep};
 ghost use Rattle.comm_core.specs.Tables.{TargetsMean, IdleWhere, ended_of};
 ghost use Rattle.comm_core.specs.declared.entry.Entry.TheVariants.{Change};
 
@@ -136,6 +136,10 @@ impl<T: Target> Core<T> {
         ensures ready { IfOk result (λ r. IsReady self.new r.change) }
         ensures call { IfOk result (λ r. r.change.call ≡ call) }
         ensures allowed { IfOk result (λ r. HasAllowedOutcome self.old r.change) }
+        ensures staged { IfOk result (λ r.
+            HasStagedAnswer self.old self.new.targets r.change) }
+        ensures step { IfOk result (λ r. MakesItsStep self.old r.change) }
+        ensures registered { IfOk result (λ r. r.change.registered ≡ None) }
         ensures entry { IfOk result (λ r. arc_value r.entry ≡ Change client number
             call r.change.outcome r.change.reply r.change.outgoing) }
         ensures row { IfOk result (λ r. r.row ≡ row_at self.new r.change) }

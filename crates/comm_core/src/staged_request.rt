@@ -36,8 +36,8 @@ impl Model for StagedRequest {
 }
 
 impl StagedRequest {
-    /// What is kept of this event of the target of this name, about a comm that has this state, and stands at this place.
-    /// The event's id is moved out.
+    /// What is kept of this event of the target of this name, about a comm that has this state, and stands at this
+    /// place. The event's id is moved out.
     pub fn new(name: Text, event: Event, place: usize, state: &Option<Dict>) -> StagedRequest
         ensures { result ≡ asked name state.now event }
     {

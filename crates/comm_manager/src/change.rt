@@ -199,9 +199,9 @@ fn next_number<M: ManagerId>(seq: &ClientSeq<M>) -> u64
     seq.number() + 1
 }
 
-// Makes the change that was recorded by the client's next number, and for which there is room: its entry is made pending,
-// the change is made, its entry is published, heard by its client, appended, and put into the queue. Err: memory; the
-// change is taken back, and the target that a register handed in is given back.
+// Makes the change that was recorded by the client's next number, and for which there is room: its entry is made
+// pending, the change is made, its entry is published, heard by its client, appended, and put into the queue. Err:
+// memory; the change is taken back, and the target that a register handed in is given back.
 #[inline(always)]
 fn carry_out<M: ManagerId, T: Target, S: HistoryStore, R: Wait>(
     rt: &R,
@@ -254,8 +254,8 @@ fn carry_out<M: ManagerId, T: Target, S: HistoryStore, R: Wait>(
 }
 
 /// Makes one change of a client that hands no target in, in this order: room in the history and in the queue; the call
-/// is prepared, and its entry is made, and made pending; the change is made; its entry is published, heard by its client,
-/// appended, and put into the queue. Err: the change wasn't made, and all is as it was.
+/// is prepared, and its entry is made, and made pending; the change is made; its entry is published, heard by its
+/// client, appended, and put into the queue. Err: the change wasn't made, and all is as it was.
 pub fn ask<M: ManagerId, T: Target, S: HistoryStore, R: Wait>(
     rt: &R,
     core: &mut Core<T>,

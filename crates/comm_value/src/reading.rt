@@ -1,5 +1,6 @@
 //! Dicts that are read straight from the tokens of a text, with no tree of the text beside.
-ghost use Rattle.std.specs.Prelude.{◌≡◌, ◌<◌, length, true, is_some, Some, IfSome, IfOk, OnOk, OnSome, option_map, [], ◌∷◌, ◌++◌};
+ghost use Rattle.std.specs.Prelude.{◌≡◌, ◌<◌, true, is_some, Some, IfSome, IfOk, OnOk, OnSome, option_map};
+ghost use Rattle.std.specs.Prelude.{[], ◌∷◌, ◌++◌, length};
 ghost use Rattle.serde_json.specs.Read.{number_of};
 ghost use Rattle.comm_value.specs.FromJson.{taken_as};
 ghost use Rattle.comm_value.specs.Order.{is_ordered, members_ordered};
