@@ -1,7 +1,7 @@
 -- What is found in the members so far, and after one more.
 use Rattle.std.proofs.Common.{ℕ, List, Option, Some, None, Ok, ◌≡◌, true, false, refl, sym, ap, subst, ◌∙◌, bytes_eq, codes, Bor, option_map}
 use Rattle.std.specs.Prelude.{IfSome}
-use Rattle.json.specs.Json.{Json, Members, object, string}
+use Rattle.json.specs.Json.{Json, Members, no_members, object, string}
 use Rattle.comm_json.specs.Behind.{get_member, put}
 use Rattle.comm_value.specs.Tree as tree
 use Rattle.comm_value.specs.declared.from_json.Numbers.{Numbers}
@@ -9,10 +9,12 @@ use Rattle.comm_messages.specs.Buffers.{buffers_of}
 use Rattle.comm_messages.specs.Fields.{client_of}
 use Rattle.comm_messages.specs.Message.{type_of}
 use Rattle.comm_messages.specs.declared.read.MessageType.{MessageType}
-use Rattle.comm_reader.specs.Reader.{HasObject, HasContent, HasLine, IsData, IsType, IsVersion, version_told}
+use Rattle.comm_reader.specs.Reader.{HasObject, HasContent, HasLine, HasNothing, HasTaken, IsData, IsRareKey, IsType, IsVersion, version_told}
 use Rattle.comm_reader.specs.declared.content.Content.{Content}
 use Rattle.comm_reader.specs.declared.heading.Metadata.{Metadata}
 use Rattle.comm_reader.specs.declared.line.Line.{Line}
+use Rattle.comm_reader.specs.declared.line.RareKey.{RareKey}
+use Rattle.comm_reader.specs.declared.line.RareKey.TheVariants as rare_key
 use Rattle.comm_reader.proofs.Walking.{apart, put_there, put_elsewhere}
 
 pub object_there : (n k : List ℕ) (ms dict : Members) (Are : Members → Type 0) → bytes_eq k n ≡ true → Are dict → HasObject (get_member n (put k (object dict) ms)) Are
@@ -137,3 +139,29 @@ module _ (absent : List ℕ) (clients : ℕ) (numbers : Numbers) (ms : Members) 
       → HasLine absent clients numbers l (put k j ms)
   line_kept j a b c d e =
       record { no_other = absent_still j; client = client_still j e; header = header_still j a; content = content_still j b; metadata = metadata_still j c; buffers = buffers_still j d }
+
+-- ---- a line before its first member, and after one that few lines have
+
+pub nothing_of : (absent : List ℕ) (clients : ℕ) (numbers : Numbers) (l : Line) → HasNothing l → HasLine absent clients numbers l no_members
+nothing_of absent clients numbers l h = rw (h.client, h.header, h.content, h.metadata, h.buffers) (record { no_other = refl; client = refl; header = tt; content = tt; metadata = (no_members, refl, refl); buffers = refl })
+
+module _ (clients : ℕ) (l : Line) (key : RareKey) where
+  pub takes_metadata : key ≡ rare_key.Metadata → (m : Metadata) (metadata : Members) → IsVersion m.version metadata → HasTaken key clients l (record { type_ = l.type_; client = l.client; content = l.content; metadata = Some m; buffers = l.buffers }) (object metadata)
+  takes_metadata named m metadata has absent numbers k ms is other h =
+      let rare : IsRareKey rare_key.Metadata k = subst (λ (x : RareKey). IsRareKey x k) named is.2 in
+      set_metadata absent clients numbers ms l k h other m metadata rare has
+
+  pub takes_buffers : key ≡ rare_key.Buffers → (bs : List (List ℕ)) (j : Json) → buffers_of (Some j) ≡ Ok bs → HasTaken key clients l (record { type_ = l.type_; client = l.client; content = l.content; metadata = l.metadata; buffers = bs }) j
+  takes_buffers named bs j has absent numbers k ms is other h =
+      let rare : IsRareKey rare_key.Buffers k = subst (λ (x : RareKey). IsRareKey x k) named is.2 in
+      set_buffers absent clients numbers ms l k h other bs j rare has
+
+  pub takes_client : key ≡ rare_key.Client → (n : ℕ) (j : Json) → client_of clients (Some j) ≡ Ok n → HasTaken key clients l (record { type_ = l.type_; client = n; content = l.content; metadata = l.metadata; buffers = l.buffers }) j
+  takes_client named n j has absent numbers k ms is other h =
+      let rare : IsRareKey rare_key.Client k = subst (λ (x : RareKey). IsRareKey x k) named is.2 in
+      set_client absent clients numbers ms l k h other n j rare has
+
+  pub takes_none : key ≡ rare_key.Other → (j : Json) → HasTaken key clients l l j
+  takes_none named j absent numbers k ms is other h =
+      let rare : IsRareKey rare_key.Other k = subst (λ (x : RareKey). IsRareKey x k) named is.2 in
+      line_kept absent clients numbers ms l k h other j is.0 is.1 rare.0 rare.1 rare.2

@@ -1,7 +1,9 @@
 -- The members that a walk over an object has read.
-use Rattle.std.proofs.Common.{Bor, Result, Ok, Err, option_map, is_none, MatchOption, MatchResult, ℕ, ◌-◌, ◌<◌, ◌≤◌, List, [], ◌∷◌, ◌++◌, length, Option, Some, None, Bool, true, false, true≢false, ◌≡◌, refl, sym, ap, subst, ◌∙◌, arith, bytes_eq, IsUtf8}
+use Rattle.std.proofs.Common.{Bor, Result, Ok, Err, option_map, is_none, MatchOption, MatchResult, ℕ, ◌-◌, ◌<◌, ◌≤◌, List, [], ◌∷◌, ◌++◌, length, take, Option, Some, None, Bool, true, false, true≢false, ◌≡◌, refl, sym, ap, subst, ◌∙◌, arith, bytes_eq, IsUtf8}
+use Rattle.std.proofs.Math.Seq.{take-length}
 use Rattle.std.proofs.lemmas.Slice.Eq.{bytes_eq-Decides}
 use Rattle.std.proofs.lemmas.Str.{is_utf8-from_IsUtf8}
+use Rattle.std.specs.Bool.{one_answer}
 use Rattle.std.specs.Prelude.{⊤}
 use Rattle.std.specs.Result.{result_ok}
 use Rattle.json.specs.Token.{Token}
@@ -27,6 +29,12 @@ put_there n k j ms is = subst (λ l. get_member l (put k j ms) ≡ Some j) ((byt
 
 pub put_elsewhere : (n k : List ℕ) (j : Json) (ms : Members) → bytes_eq k n ≡ false → get_member n (put k j ms) ≡ get_member n ms
 put_elsewhere n k j ms differs = get_member-put_other n k j ms (λ same. true≢false (sym ((bytes_eq-Decides k n).1 (sym same)) ∙ differs))
+
+-- a text that begins with another of its length is it
+pub begins_named : (key name : List ℕ) → length key ≡ length name → bytes_eq name (take (length name) key) ≡ bytes_eq key name
+begins_named key name same =
+    ap (bytes_eq name) (ap (λ n. take n key) (sym same) ∙ take-length key)
+    ∙ one_answer (bytes_eq name key) (bytes_eq key name) (bytes_eq-Decides name key) (λ t. sym ((bytes_eq-Decides key name).0 t), λ e. (bytes_eq-Decides key name).1 (sym e))
 
 -- ---- the walk
 

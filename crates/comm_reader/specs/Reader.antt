@@ -1,11 +1,11 @@
 -- What is read in one walk over its line: a frontend's message ('Messaging in Jupyter' 5.3, "Custom Messages"; RFC
 -- 8259), and the kernel's update of a widget.
-use Rattle.std.specs.Prelude.{◌≡◌, ℕ, List, length, false, true, Option, Some, None, Ok, IfSome, codes, option_map}
+use Rattle.std.specs.Prelude.{◌≡◌, ℕ, List, [], length, false, true, Option, Some, None, Ok, IfSome, codes, option_map}
 use Rattle.std.specs.Borrow.{Bor}
 use Rattle.std.specs.Str.{bytes_eq}
 use Rattle.json.specs.Token.{Token}
 use Rattle.json.specs.Json.{Json, object, string, Members, member, no_members, value, members}
-use Rattle.comm_json.specs.Behind.{get_member, in_range, line_value, members_in_range, text_value, tidy, tidy_members}
+use Rattle.comm_json.specs.Behind.{get_member, in_range, line_value, members_in_range, put, text_value, tidy, tidy_members}
 use Rattle.comm_value.specs.FromJson.{members_of}
 use Rattle.comm_value.specs.Tree as tree
 use Rattle.comm_value.specs.declared.from_json.Numbers.{Numbers}
@@ -20,6 +20,8 @@ use Rattle.comm_reader.specs.declared.heading.Metadata.{Metadata}
 use Rattle.comm_reader.specs.declared.line.Line.{Line}
 use Rattle.comm_reader.specs.declared.line.LineKey.{LineKey}
 use Rattle.comm_reader.specs.declared.line.LineKey.TheVariants as line_key
+use Rattle.comm_reader.specs.declared.line.RareKey.{RareKey}
+use Rattle.comm_reader.specs.declared.line.RareKey.TheVariants as rare_key
 
 -- the next value of the tokens is so
 abbrev pub ReadsValue : ℕ → List Token → (Json → Type 0) → List Token → Type 0
@@ -58,17 +60,21 @@ pub record HasContent (numbers : Numbers) (c : Content) (ms : Members) : Type 0 
   pub comm_id : get_member (codes "comm_id") ms ≡ option_map (λ s. string s.now) c.comm_id
   pub target_name : get_member (codes "target_name") ms ≡ option_map (λ s. string s.now) c.target_name
 
+-- the key of this part, which few lines have
+abbrev pub IsRareKey : RareKey → List ℕ → Type 0
+IsRareKey rare_key.Metadata k = bytes_eq k (codes "metadata") ≡ true
+IsRareKey rare_key.Buffers k = bytes_eq k (codes "buffers") ≡ true
+IsRareKey rare_key.Client k = bytes_eq k (codes "client") ≡ true
+IsRareKey rare_key.Other k =
+    (bytes_eq k (codes "metadata") ≡ false) × (bytes_eq k (codes "buffers") ≡ false)
+    × (bytes_eq k (codes "client") ≡ false)
+
 -- the key of this part
 abbrev pub IsKey : LineKey → List ℕ → Type 0
 IsKey line_key.Header k = bytes_eq k (codes "header") ≡ true
 IsKey line_key.Content k = bytes_eq k (codes "content") ≡ true
-IsKey line_key.Metadata k = bytes_eq k (codes "metadata") ≡ true
-IsKey line_key.Buffers k = bytes_eq k (codes "buffers") ≡ true
-IsKey line_key.Client k = bytes_eq k (codes "client") ≡ true
-IsKey line_key.Other k =
-    (bytes_eq k (codes "header") ≡ false) × (bytes_eq k (codes "content") ≡ false)
-    × (bytes_eq k (codes "metadata") ≡ false) × (bytes_eq k (codes "buffers") ≡ false)
-    × (bytes_eq k (codes "client") ≡ false)
+IsKey (line_key.Rare rare) k =
+    (bytes_eq k (codes "header") ≡ false) × (bytes_eq k (codes "content") ≡ false) × IsRareKey rare k
 
 abbrev pub version_told : Option Metadata → Option (Bor (List ℕ))
 version_told None = None
@@ -82,6 +88,21 @@ pub record HasLine (absent : List ℕ) (clients : ℕ) (numbers : Numbers) (l : 
   pub content : IfSome l.content (λ c. HasObject (get_member (codes "content") ms) (HasContent numbers c))
   pub metadata : HasObject (get_member (codes "metadata") ms) (IsVersion (version_told l.metadata))
   pub buffers : buffers_of (get_member (codes "buffers") ms) ≡ Ok l.buffers
+
+-- no member was read yet
+pub record HasNothing (l : Line) : Type 0 where
+  pub client : l.client ≡ 0
+  pub header : l.type_ ≡ None
+  pub content : l.content ≡ None
+  pub metadata : l.metadata ≡ None
+  pub buffers : l.buffers ≡ []
+
+-- a line becomes another by the value of a member with a key of this part
+abbrev pub HasTaken : RareKey → ℕ → Line → Line → Json → Type 0
+HasTaken rare clients before after j =
+    (absent : List ℕ) (numbers : Numbers) (k : List ℕ) (ms : Members) → IsKey (line_key.Rare rare) k
+    → bytes_eq k absent ≡ false → HasLine absent clients numbers before ms
+    → HasLine absent clients numbers after (put k j ms)
 
 -- a text is an object whose members are so, and nothing after it
 abbrev pub ReadsText : List ℕ → (Members → Type 0) → Type 0

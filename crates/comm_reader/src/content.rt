@@ -4,7 +4,7 @@ ghost use Rattle.comm_value.specs.Places.{members_have_bytes};
 ghost use Rattle.comm_value.specs.declared.from_json.Numbers.{Numbers};
 ghost use Rattle.comm_reader.specs.Reader.{ReadsMembers, ReadsObject, HasContent, IsData};
 
-use crate::walk::{enter, read_string, read_value};
+use crate::walk::{enter, is_named, read_string, read_value};
 use bumpalo::Bump;
 use comm_value::{Dict, KnownTexts, Numbers};
 use json::Reader;
@@ -57,11 +57,11 @@ fn read_members<'a>(
     let mut comm_id = None;
     let mut target_name = None;
     while let Some(key) = reader.next_key().ok()? {
-        if key == "data" {
+        if is_named(key, "data") {
             dict = read_data(alloc, numbers, texts, reader, depth)?;
-        } else if key == "comm_id" {
+        } else if is_named(key, "comm_id") {
             comm_id = Some(read_string(reader)?);
-        } else if key == "target_name" {
+        } else if is_named(key, "target_name") {
             target_name = Some(read_string(reader)?);
         } else {
             drop(read_value(reader, lists, depth)?);

@@ -2,7 +2,7 @@
 ghost use Rattle.std.specs.Prelude.{◌≡◌, ◌<◌, length, IfSome, OnSome};
 ghost use Rattle.comm_reader.specs.Reader.{IsType, IsVersion, ReadsMembers, ReadsObject};
 
-use crate::walk::{enter, read_string, read_value};
+use crate::walk::{enter, is_named, read_string, read_value};
 use bumpalo::Bump;
 use comm_messages::{MessageType, type_named};
 use json::Reader;
@@ -14,7 +14,7 @@ fn type_in<'a>(reader: &mut Reader<'a>, lists: &'a Bump, depth: usize) -> Option
 {
     let mut name = None;
     while let Some(key) = reader.next_key().ok()? {
-        if key == "msg_type" {
+        if is_named(key, "msg_type") {
             name = Some(read_string(reader)?);
         } else {
             drop(read_value(reader, lists, depth)?);
@@ -43,7 +43,7 @@ fn version_in<'a>(reader: &mut Reader<'a>, lists: &'a Bump, depth: usize) -> Opt
 {
     let mut version = None;
     while let Some(key) = reader.next_key().ok()? {
-        if key == "version" {
+        if is_named(key, "version") {
             version = Some(read_string(reader)?);
         } else {
             drop(read_value(reader, lists, depth)?);

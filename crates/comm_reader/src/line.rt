@@ -7,13 +7,13 @@ ghost use Rattle.comm_value.specs.Places.{members_have_bytes};
 ghost use Rattle.comm_value.specs.declared.from_json.Numbers.{Numbers};
 ghost use Rattle.comm_messages.specs.Buffers.{buffers_of};
 ghost use Rattle.comm_messages.specs.Fields.{client_of};
-ghost use Rattle.comm_reader.specs.Reader.{HasLine, IsKey, IsMessage, IsMessageOf, ReadsMembers};
-ghost use Rattle.comm_reader.specs.Reader.{ReadsText, ReadsValue, version_told};
+ghost use Rattle.comm_reader.specs.Reader.{HasLine, HasNothing, HasTaken, IsKey, IsMessage, IsMessageOf, IsRareKey};
+ghost use Rattle.comm_reader.specs.Reader.{ReadsMembers, ReadsText, ReadsValue, version_told};
 
 use crate::content::{Content, read_content};
 use crate::heading::{Metadata, read_metadata, read_type};
 use crate::incoming::incoming_of;
-use crate::walk::{end, enter, read_value, reader_of};
+use crate::walk::{end, enter, is_named, read_value, reader_of};
 use bumpalo::Bump;
 use comm_json::{JsonRef, LineValue, TextScratch};
 use comm_messages::{Incoming, MessageType, buffers_of, client_of};
@@ -29,6 +29,12 @@ pub const DEPTH: usize = 127;
 pub enum LineKey {
     Header,
     Content,
+    Rare(RareKey),
+}
+
+/// The key of a part that few messages have, or of none.
+#[derive(Clone, Copy, Drop)]
+pub enum RareKey {
     Metadata,
     Buffers,
     Client,
@@ -38,18 +44,26 @@ pub enum LineKey {
 fn line_key(key: &str) -> LineKey
     ensures { IsKey result key.now }
 {
-    if key == "header" {
+    if is_named(key, "header") {
         LineKey::Header
-    } else if key == "content" {
+    } else if is_named(key, "content") {
         LineKey::Content
-    } else if key == "metadata" {
-        LineKey::Metadata
-    } else if key == "buffers" {
-        LineKey::Buffers
-    } else if key == "client" {
-        LineKey::Client
     } else {
-        LineKey::Other
+        LineKey::Rare(rare_key(key))
+    }
+}
+
+fn rare_key(key: &str) -> RareKey
+    ensures { IsRareKey result key.now }
+{
+    if is_named(key, "metadata") {
+        RareKey::Metadata
+    } else if is_named(key, "buffers") {
+        RareKey::Buffers
+    } else if is_named(key, "client") {
+        RareKey::Client
+    } else {
+        RareKey::Other
     }
 }
 
@@ -61,6 +75,35 @@ pub struct Line<'a> {
     pub content: Option<Content<'a>>,
     pub metadata: Option<Metadata<'a>>,
     pub buffers: Buffers,
+}
+
+impl<'a> Line<'a> {
+    // A line without members.
+    fn none(alloc: Global) -> Line<'a>
+        ensures { HasNothing result }
+    {
+        Line {
+            type_: None,
+            client: 0,
+            content: None,
+            metadata: None,
+            buffers: Buffers::none(alloc),
+        }
+    }
+
+    // Puts this content in the place of another.
+    #[inline(always)]
+    fn set_content(&mut self, content: Content<'a>)
+        ensures { self.new ≡ record {
+          type_ = self.old.type_;
+          client = self.old.client;
+          content = Some content.entry;
+          metadata = self.old.metadata;
+          buffers = self.old.buffers;
+        } }
+    {
+        self.content = Some(content);
+    }
 }
 
 fn client_in<'v, 'a>(value: &'v LineValue<'a>, clients: u8) -> Option<u8>
@@ -106,7 +149,35 @@ fn read_buffers<'a>(
     buffers_in(alloc, &value)
 }
 
-// The members of a line's object that has begun, none of which has this key. Of several with one key the last counts.
+// Reads the value of a member with this key into the line that the members before it make. It stands apart since few
+// lines have such a member.
+#[inline(never)]
+fn read_rare<'a>(
+    alloc: Global,
+    key: RareKey,
+    clients: u8,
+    reader: &mut Reader<'a>,
+    lists: &'a Bump,
+    depth: usize,
+    line: &mut Line<'a>,
+) -> Option<()>
+    ensures reads { OnSome result (ReadsValue depth reader.old
+        (HasTaken key clients line.old line.new) reader.new) }
+    ensures content { OnSome result (line.new.content ≡ line.old.content) }
+    ensures below { line.old.client < clients → OnSome result (line.new.client < clients) }
+    ensures shorter { OnSome result (length reader.new < length reader.old) }
+{
+    match key {
+        RareKey::Metadata => line.metadata = Some(read_metadata(reader, lists, depth)?),
+        RareKey::Buffers => line.buffers = read_buffers(alloc, reader, lists, depth)?,
+        RareKey::Client => line.client = read_client(reader, lists, clients, depth)?,
+        RareKey::Other => drop(read_value(reader, lists, depth)?),
+    }
+    Some(())
+}
+
+// Reads the members of an object that has begun, none of which has this key, into a line that has nothing yet. Of
+// several with one key the last counts.
 fn read_members<'a>(
     alloc: Global,
     absent: &str,
@@ -116,47 +187,30 @@ fn read_members<'a>(
     reader: &mut Reader<'a>,
     lists: &'a Bump,
     depth: usize,
-) -> Option<Line<'a>>
-    ensures reads { IfSome result (λ l. ReadsMembers depth reader.old
-        (HasLine absent.now clients numbers l) reader.new) }
-    ensures plain { IfSome result (λ l. IfSome l.content (λ c. members_have_bytes c.dict ≡ false)) }
-    ensures below { 0 < clients → IfSome result (λ l. l.client < clients) }
+    line: &mut Line<'a>,
+) -> Option<()>
+    requires { HasNothing line.old }
+    ensures reads { OnSome result (ReadsMembers depth reader.old
+        (HasLine absent.now clients numbers line.new) reader.new) }
+    ensures plain { OnSome result
+        (IfSome line.new.content (λ c. members_have_bytes c.dict ≡ false)) }
+    ensures below { 0 < clients → OnSome result (line.new.client < clients) }
 {
-    let mut type_ = None;
-    let mut client = 0;
-    let mut content = None;
-    let mut metadata = None;
-    let mut buffers = Buffers::none(alloc);
     while let Some(key) = reader.next_key().ok()? {
-        if key == absent {
+        if is_named(key, absent) {
             return None;
         }
         match line_key(key) {
             LineKey::Header => {
-                type_ = Some(read_type(reader, lists, depth)?);
+                line.type_ = Some(read_type(reader, lists, depth)?);
             }
             LineKey::Content => {
-                content = Some(read_content(alloc, numbers, texts, reader, lists, depth)?);
+                line.set_content(read_content(alloc, numbers, texts, reader, lists, depth)?);
             }
-            LineKey::Metadata => {
-                metadata = Some(read_metadata(reader, lists, depth)?);
-            }
-            LineKey::Buffers => {
-                buffers = read_buffers(alloc, reader, lists, depth)?;
-            }
-            LineKey::Client => {
-                client = read_client(reader, lists, clients, depth)?;
-            }
-            LineKey::Other => drop(read_value(reader, lists, depth)?),
+            LineKey::Rare(rare) => read_rare(alloc, rare, clients, reader, lists, depth, line)?,
         }
     }
-    Some(Line {
-        type_,
-        client,
-        content,
-        metadata,
-        buffers,
-    })
+    Some(())
 }
 
 fn read_line<'a>(
@@ -177,7 +231,8 @@ fn read_line<'a>(
 {
     let mut reader = reader_of(line, scratch)?;
     enter(&mut reader)?;
-    let read = read_members(
+    let mut read = Line::none(alloc);
+    read_members(
         alloc,
         absent,
         clients,
@@ -186,6 +241,7 @@ fn read_line<'a>(
         &mut reader,
         lists,
         DEPTH - 1,
+        &mut read,
     )?;
     end(&mut reader)?;
     Some(read)

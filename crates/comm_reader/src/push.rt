@@ -5,7 +5,7 @@ ghost use Rattle.comm_reader.specs.Reader.{IsPush};
 
 use crate::content::read_data;
 use crate::line::DEPTH;
-use crate::walk::{end, enter, read_string, reader_of};
+use crate::walk::{end, enter, is_named, read_string, reader_of};
 use comm_json::TextScratch;
 use comm_value::{Dict, KnownTexts, Numbers, Text};
 use json::Reader;
@@ -17,7 +17,7 @@ fn enter_member(reader: &mut Reader<'_>, name: &str) -> Option<()>
     ensures { OnSome result (read_key reader.old ≡ Some (Some name.now, reader.new)) }
 {
     let key = reader.next_key().ok()?;
-    if key? == name { Some(()) } else { None }
+    if is_named(key?, name) { Some(()) } else { None }
 }
 
 // Reads the brace that ends an object. None: a member is left.
@@ -47,7 +47,7 @@ pub fn push_at_once<'a>(
     enter(&mut reader)?;
     enter_member(&mut reader, "call")?;
     let call = read_string(&mut reader)?;
-    if call != "push" {
+    if !is_named(call, "push") {
         return None;
     }
     enter_member(&mut reader, "id")?;

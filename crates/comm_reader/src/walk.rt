@@ -1,3 +1,4 @@
+ghost use Rattle.std.specs.Str.{bytes_eq};
 ghost use Rattle.std.specs.Prelude.{◌≡◌, ◌<◌, ◌∷◌, [], ℕ, length, true, Some, IfSome, OnSome};
 ghost use Rattle.std.specs.Str.{IsUtf8};
 ghost use Rattle.json.specs.Json.{string, value};
@@ -12,6 +13,7 @@ use json::{Reader, Token, Value};
 
 /// A reader of the tokens of a text in UTF-8; what of it has escapes is written to the scratch. None: it isn't UTF-8,
 /// or memory ran out.
+#[inline(always)]
 pub fn reader_of<'a>(bytes: &'a [u8], scratch: &'a mut TextScratch) -> Option<Reader<'a>>
     ensures utf8 { OnSome result (IsUtf8 bytes.now) }
     ensures tokens { IfSome result (λ r. r ≡ tokens bytes.now) }
@@ -72,4 +74,13 @@ pub fn read_value<'a>(
     } else {
         None
     }
+}
+
+/// Whether the key is this name. For a name that is a constant, `starts_with` is folded to a compare or two; `==` of
+/// texts is a call.
+#[inline(always)]
+pub fn is_named(key: &str, name: &str) -> bool
+    ensures { result ≡ bytes_eq key.now name.now }
+{
+    key.len() == name.len() && key.as_bytes().starts_with(name.as_bytes())
 }

@@ -15,8 +15,8 @@ loop-dict-init c =
     let empty : c.new-dict.result ≡ tree.no_members = search rules in
     (no_members, nothing_yet c.args.depth c.args.reader.now, record { dict = (no_members, refl, ap Some (sym empty)); comm_id = refl; target_name = refl })
 
-pub loop-dict-preserved-then-eq : goal.loop-dict-preserved-then-eq
-loop-dict-preserved-then-eq c =
+pub loop-dict-preserved-then-is_named : goal.loop-dict-preserved-then-is_named
+loop-dict-preserved-then-is_named c =
     let k = c.in-Some.key.now in
     let was = c.loop-dict.invariant in
     let begun : read_key c.loop-dict.reader ≡ Some (Some k, c.next_key.new.self) = grind arith in
@@ -26,8 +26,8 @@ loop-dict-preserved-then-eq c =
     let walked = one_more c.args.depth c.args.reader.now was.0 c.loop-dict.reader c.next_key.new.self c.read_data.new.reader k (object r.0) was.1 begun r.1 r.2 c.in_ok-dict.ensures.shorter in
     (put k (object (tidy_members r.0 no_members)) was.0, walked, set_data c.args.numbers was.0 before k was.2 c.in_ok-dict.dict (tidy_members r.0 no_members) is_key r.3)
 
-pub loop-dict-preserved-then-eq-2 : goal.loop-dict-preserved-then-eq-2
-loop-dict-preserved-then-eq-2 c =
+pub loop-dict-preserved-then-is_named-2 : goal.loop-dict-preserved-then-is_named-2
+loop-dict-preserved-then-is_named-2 c =
     let k = c.in-Some.key.now in
     let was = c.loop-dict.invariant in
     let s = c.in_ok-read_string.field-0 in
@@ -37,15 +37,15 @@ loop-dict-preserved-then-eq-2 c =
     let walked = one_more c.args.depth c.args.reader.now was.0 c.loop-dict.reader c.next_key.new.self c.read_string.new.reader k (string s.now) was.1 begun (c.in_ok-read_string.ensures.value c.args.depth) refl c.in_ok-read_string.ensures.shorter in
     (put k (string s.now) was.0, walked, set_comm_id c.args.numbers was.0 before k was.2 s is_key)
 
-pub loop-dict-preserved-then-eq-3 : goal.loop-dict-preserved-then-eq-3
-loop-dict-preserved-then-eq-3 c =
+pub loop-dict-preserved-then-is_named-3 : goal.loop-dict-preserved-then-is_named-3
+loop-dict-preserved-then-is_named-3 c =
     let k = c.in-Some.key.now in
     let was = c.loop-dict.invariant in
     let s = c.in_ok-read_string-2.field-0 in
     let begun : read_key c.loop-dict.reader ≡ Some (Some k, c.next_key.new.self) = grind arith in
     let is_key : bytes_eq k (codes "target_name") ≡ true = search rules in
     let before : Content = record { dict = c.loop-dict.dict; comm_id = c.loop-dict.comm_id; target_name = c.loop-dict.target_name } in
-    let walked = one_more c.args.depth c.args.reader.now was.0 c.loop-dict.reader c.next_key.new.self c.read_string-then-eq-3.new.reader k (string s.now) was.1 begun (c.in_ok-read_string-2.ensures.value c.args.depth) refl c.in_ok-read_string-2.ensures.shorter in
+    let walked = one_more c.args.depth c.args.reader.now was.0 c.loop-dict.reader c.next_key.new.self c.read_string-then-is_named-3.new.reader k (string s.now) was.1 begun (c.in_ok-read_string-2.ensures.value c.args.depth) refl c.in_ok-read_string-2.ensures.shorter in
     (put k (string s.now) was.0, walked, set_target_name c.args.numbers was.0 before k was.2 s is_key)
 
 pub loop-dict-preserved : goal.loop-dict-preserved

@@ -11,8 +11,8 @@ use Rattle.comm_reader.proofs.heading.type_in.Goals as goal
 pub loop-key-init : goal.loop-key-init
 loop-key-init c = (no_members, nothing_yet c.args.depth c.args.reader.now, refl)
 
-pub loop-key-preserved-then-eq : goal.loop-key-preserved-then-eq
-loop-key-preserved-then-eq c =
+pub loop-key-preserved-then-is_named : goal.loop-key-preserved-then-is_named
+loop-key-preserved-then-is_named c =
     let k = c.in-Some.key.now in
     let was = c.loop-key.invariant in
     let s = c.in_ok-read_string.field-0 in

@@ -6,11 +6,10 @@ use Rattle.comm_reader.specs.Reader.{HasLine}
 use Rattle.comm_reader.proofs.Walking.{HasSoFar}
 use Rattle.comm_reader.proofs.line.read_members.Given as goal
 
-abbrev pub invariant-loop-buffers : goal.invariant-loop-buffers
-invariant-loop-buffers l =
-    ((found : Members) × HasSoFar l.depth l.initial.reader found l.reader
-    × HasLine l.absent l.clients l.numbers (record { type_ = l.type_; client = l.client; content = l.content; metadata = l.metadata; buffers = l.buffers }) found)
-    × IfSome l.content (λ c. members_have_bytes c.dict ≡ false) × (0 < l.clients → l.client < l.clients)
+abbrev pub invariant-loop-key : goal.invariant-loop-key
+invariant-loop-key l =
+    ((found : Members) × HasSoFar l.depth l.initial.reader found l.reader × HasLine l.absent l.clients l.numbers l.line found)
+    × IfSome l.line.content (λ c. members_have_bytes c.dict ≡ false) × (0 < l.clients → l.line.client < l.clients)
 
-abbrev pub decreases-loop-buffers : goal.decreases-loop-buffers
-decreases-loop-buffers l = length l.reader
+abbrev pub decreases-loop-key : goal.decreases-loop-key
+decreases-loop-key l = length l.reader
