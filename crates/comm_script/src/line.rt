@@ -1,8 +1,10 @@
-ghost use Rattle.std.specs.Prelude.{◌≡◌, ◌<◌, Ok, IfOk, IfSome};
+ghost use Rattle.std.specs.Prelude.{◌≡◌, ◌<◌, ℕ, Ok, IfOk, IfSome};
+ghost use Rattle.comm_core.specs.declared.call.Call.TheVariants as call;
 ghost use Rattle.comm_messages.specs.Envelope.{envelope};
 ghost use Rattle.comm_messages.specs.Fields.{fields};
 ghost use Rattle.comm_script.specs.Line.{Gives};
 ghost use Rattle.comm_script.specs.Command.{asked_by_message, asked_from, asked_in, asked, HandsNothing};
+ghost use Rattle.comm_script.specs.declared.asked.Request.TheVariants.{Change};
 
 use crate::asked::{LineFault, Request};
 use crate::command::command;
@@ -14,7 +16,7 @@ use comm_messages::{
     object_among,
 };
 use comm_reader::{message_at_once, push_at_once};
-use comm_value::{KnownTexts, Numbers};
+use comm_value::{Dict, KnownTexts, Numbers, Text};
 use std::alloc::Global;
 
 /// The memory that lines are read with: what they are parsed into, and the short texts that were met before. It changes
@@ -124,34 +126,23 @@ pub fn parse_line(
     parse_line_among(alloc, line, clients, numbers, scratch, &*lists, texts)
 }
 
-// What the line of a frontend's message, or of a push without buffers, asks for, if it can be read at once. Another
-// command isn't tried.
+// The id and the state of a push without buffers, if the line can be read at once as one.
 #[inline(always)]
-fn asked_at_once<'a>(
+fn pushed_at_once<'a>(
     alloc: Global,
     line: &'a [u8],
-    clients: u8,
     numbers: Numbers,
     scratch: &'a mut TextScratch,
-    lists: &'a Bump,
     texts: &mut KnownTexts,
-) -> Option<(u8, Request)>
-    requires { 0 < clients }
-    ensures asked { IfSome result (λ r. asked numbers clients line.now ≡ Ok (r.0, r.1)) }
-    ensures below { IfSome result (λ r. r.0 < clients) }
-    ensures handless { IfSome result (λ r. HandsNothing r.1) }
+) -> Option<(Text, Dict)>
+    ensures { IfSome result (λ p. (clients : ℕ) → asked numbers clients line.now
+        ≡ Ok (0, Change (call.Push p.0 p.1))) }
 {
     if line.starts_with(b"{\"call\":\"push\"") {
-        let (id, state) = push_at_once(alloc, line, numbers, scratch, texts)?;
-        return Some((0, Request::Change(Call::Push { id, state })));
+        push_at_once(alloc, line, numbers, scratch, texts)
+    } else {
+        None
     }
-    if line.starts_with(b"{\"call\"") {
-        return None;
-    }
-    let (client, incoming) = message_at_once(
-        alloc, line, "call", clients, numbers, scratch, lists, texts,
-    )?;
-    Some((client, asked_by_message(incoming)))
 }
 
 /// Reads a line as [`parse_line`] does. Its strings are parsed into the scratch, its lists into the arena. The line of
@@ -172,8 +163,15 @@ pub fn parse_line_among<'a>(
     ensures below { IfOk result (λ r. r.0 < clients) }
     ensures handless { IfOk result (λ r. HandsNothing r.1) }
 {
-    if let Some(asked) = asked_at_once(alloc, line, clients, numbers, scratch, lists, texts) {
-        return Ok(asked);
+    // Another command isn't tried.
+    if line.starts_with(b"{\"call\"") {
+        if let Some((id, state)) = pushed_at_once(alloc, line, numbers, scratch, texts) {
+            return Ok((0, Request::Change(Call::Push { id, state })));
+        }
+    } else if let Some((client, incoming)) = message_at_once(
+        alloc, line, "call", clients, numbers, scratch, lists, texts,
+    ) {
+        return Ok((client, asked_by_message(incoming)));
     }
     let members = object_among(line, scratch, lists)?;
     asked_in(alloc, fields_of(&members), clients, numbers, texts)
