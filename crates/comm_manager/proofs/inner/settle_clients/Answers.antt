@@ -1,5 +1,5 @@
-use Rattle.std.proofs.lemmas.List.{append-nil}
-use Rattle.std.proofs.Common.{arith, rules, ◌≡◌, ◌++◌, [], List, ap, sym, subst, ◌∙◌}
+use Rattle.std.proofs.lemmas.List.{append-nil, nil_from_length}
+use Rattle.std.proofs.Common.{arith, ◌≡◌, ◌++◌, [], List, ap, sym, subst, ◌∙◌}
 use Rattle.std.specs.Prelude.{All}
 use Rattle.comm_manager.specs.Mine.{IsSettled}
 use Rattle.comm_manager.specs.ClientView.{ClientView}
@@ -41,6 +41,6 @@ pub returns : goal.returns
 returns g c =
     let i = c.loop-client.invariant in
     let last = c.args.last.now in
-    let none : c.loop-client.clients.items ≡ [] = search rules in
+    let none = nil_from_length c.loop-client.clients.items (sym c.loop-client.clients.ok.0 ∙ c.in_default.ensures.cases.0) in
     let whole : i.0 ≡ c.args.clients.items = sym (i.1 ∙ ap (λ (l : List ClientView). l ++ i.0) none) in
     subst (λ (l : List ClientView). All (λ (w : ClientView). IsSettled last w) l) whole i.2
