@@ -33,6 +33,28 @@ fn make_room(more: usize, out: &mut Vec<u8>) -> Result<(), AllocError>
     out.reserve(more)
 }
 
+// So few bytes are appended one by one: a call that copies them takes longer.
+const FEW: usize = 4;
+
+// Appends bytes for which there is room.
+#[inline(always)]
+fn push_bytes(bytes: &[u8], out: &mut Vec<u8>) -> Result<(), AllocError>
+    requires { vec_len out.old + length bytes.now ≤ vec_capacity out.old }
+    ensures items { OnOk result (out.new.items ≡ out.old.items ++ bytes.now) }
+    ensures len { OnOk result (vec_len out.new ≡ vec_len out.old + length bytes.now) }
+    ensures capacity { vec_capacity out.old ≤ vec_capacity out.new }
+{
+    if bytes.len() > FEW {
+        return out.extend_from_slice(bytes);
+    }
+    let mut at = 0;
+    while at < bytes.len() {
+        out.push_reserved(bytes[at]);
+        at += 1;
+    }
+    Ok(())
+}
+
 /// Appends a string as JSON text with the shortest escapes (RFC 8259, 7). Err: out of memory; `out` may hold a part
 /// of it.
 pub fn write_text(text: &str, out: &mut Vec<u8>) -> Result<(), AllocError>
@@ -44,7 +66,7 @@ pub fn write_text(text: &str, out: &mut Vec<u8>) -> Result<(), AllocError>
     }
     make_room(bytes.len() + 2, out)?;
     out.push_reserved(b'"');
-    out.extend_from_slice(bytes)?;
+    push_bytes(bytes, out)?;
     out.push_reserved(b'"');
     Ok(())
 }
@@ -74,7 +96,7 @@ pub fn write_key(first: u8, key: &str, out: &mut Vec<u8>) -> Result<(), AllocErr
     make_room(bytes.len() + 4, out)?;
     out.push_reserved(first);
     out.push_reserved(b'"');
-    out.extend_from_slice(bytes)?;
+    push_bytes(bytes, out)?;
     out.push_reserved(b'"');
     out.push_reserved(b':');
     Ok(())
@@ -196,7 +218,8 @@ fn write_escape(byte: u8, out: &mut Vec<u8>) -> Result<(), AllocError>
 {
     let letter = letter_of(byte);
     if letter > 0 {
-        out.extend_from_slice(&[b'\\', letter])
+        push_byte(b'\\', out)?;
+        push_byte(letter, out)
     } else if byte < 0x20 {
         out.extend_from_slice(&[b'\\', b'u', b'0', b'0', hex(byte / 16), hex(byte % 16)])
     } else {

@@ -11,10 +11,12 @@ ghost use Rattle.comm_value.specs.View.{tree, members_of};
 use crate::chunks::put_member;
 use crate::from_json::{Numbers, number_from};
 use crate::known_texts::KnownTexts;
+use crate::search::key_order;
 use crate::val::{Dict, Items, Member, Val};
 use comm_json::NumberRef;
 use json::{Reader, Token};
 use std::alloc::{AllocError, Global};
+use std::cmp::Ordering;
 
 /// The most items of a list, and members of an object, that are read one by one.
 const MOST: usize = 64;
@@ -173,8 +175,18 @@ fn both(alloc: Global, first: Member, second: Member) -> Result<Vec<Member>, All
         ≡ insert second.key (tree second.value) (members_of (first ∷ []))) }
 {
     let mut all = Vec::with_capacity(alloc, 4)?;
-    all.push_reserved(first);
-    put_member(all, second)
+    match key_order(second.key.as_str(), first.key.as_str()) {
+        Ordering::Less => {
+            all.push_reserved(second);
+            all.push_reserved(first);
+        }
+        Ordering::Equal => all.push_reserved(second),
+        Ordering::Greater => {
+            all.push_reserved(first);
+            all.push_reserved(second);
+        }
+    }
+    Ok(all)
 }
 
 // The dict of these members and of those that follow them.

@@ -1,5 +1,5 @@
 ghost use Rattle.std.specs.Prelude.{◌≡◌, ◌<◌, ◌≤◌, true, IfOk, IfErr, length, take, drop, option_map};
-ghost use Rattle.comm_value.specs.Order.{members_ordered};
+ghost use Rattle.comm_value.specs.Order.{key_cmp, members_ordered};
 ghost use Rattle.comm_value.specs.View.{tree, members_of};
 ghost use Rattle.comm_value.specs.Node.{get};
 ghost use Rattle.comm_value.specs.Search.{AllBelow, IsFound, IsAbsent};
@@ -37,6 +37,23 @@ fn value_among<'a>(members: &'a [Member], key: &str) -> Option<&'a Val>
     None
 }
 
+/// The byte order of two keys. Most differ in their first byte, which tells it without a call.
+#[inline(always)]
+pub(crate) fn key_order(key: &str, other: &str) -> Ordering
+    ensures { result ≡ key_cmp key.now other.now }
+{
+    let firsts = (key.as_bytes().first(), other.as_bytes().first());
+    if let (Some(one), Some(two)) = firsts {
+        if *one < *two {
+            return Ordering::Less;
+        }
+        if *two < *one {
+            return Ordering::Greater;
+        }
+    }
+    key.cmp(other)
+}
+
 /// Binary search. Ok: the index of the member with the key. Err: the index at which it would be inserted.
 pub(crate) fn place_of(members: &[Member], key: &str) -> Result<usize, usize>
     requires { members_ordered (members_of members.now) ≡ true }
@@ -49,7 +66,7 @@ pub(crate) fn place_of(members: &[Member], key: &str) -> Result<usize, usize>
     let mut high = members.len();
     while low < high {
         let middle = low + (high - low) / 2;
-        let order = key.cmp(members[middle].key.as_str());
+        let order = key_order(key, members[middle].key.as_str());
         match order {
             Ordering::Less => high = middle,
             Ordering::Equal => return Ok(middle),
