@@ -1,5 +1,5 @@
 -- The members that a walk over an object has read.
-use Rattle.std.proofs.Common.{Bor, Result, Ok, Err, option_map, is_none, MatchOption, MatchResult, ℕ, ◌-◌, ◌<◌, ◌≤◌, List, [], ◌∷◌, ◌++◌, length, take, Option, Some, None, Bool, true, false, true≢false, ◌≡◌, refl, sym, ap, subst, ◌∙◌, arith, bytes_eq, IsUtf8}
+use Rattle.std.proofs.Common.{Bor, Result, Ok, Err, option_map, is_none, MatchOption, MatchResult, OnSome, ℕ, ◌-◌, ◌<◌, ◌≤◌, List, [], ◌∷◌, ◌++◌, length, take, Option, Some, None, Bool, true, false, true≢false, ◌≡◌, refl, sym, ap, subst, ◌∙◌, arith, bytes_eq, IsUtf8}
 use Rattle.std.proofs.Math.Seq.{take-length}
 use Rattle.std.proofs.lemmas.Slice.Eq.{bytes_eq-Decides}
 use Rattle.std.proofs.lemmas.Str.{is_utf8-from_IsUtf8}
@@ -30,11 +30,11 @@ put_there n k j ms is = subst (λ l. get_member l (put k j ms) ≡ Some j) ((byt
 pub put_elsewhere : (n k : List ℕ) (j : Json) (ms : Members) → bytes_eq k n ≡ false → get_member n (put k j ms) ≡ get_member n ms
 put_elsewhere n k j ms differs = get_member-put_other n k j ms (λ same. true≢false (sym ((bytes_eq-Decides k n).1 (sym same)) ∙ differs))
 
--- a text that begins with another of its length is it
-pub begins_named : (key name : List ℕ) → length key ≡ length name → bytes_eq name (take (length name) key) ≡ bytes_eq key name
-begins_named key name same =
-    ap (bytes_eq name) (ap (λ n. take n key) (sym same) ∙ take-length key)
-    ∙ one_answer (bytes_eq name key) (bytes_eq key name) (bytes_eq-Decides name key) (λ t. sym ((bytes_eq-Decides key name).0 t), λ e. (bytes_eq-Decides key name).1 (sym e))
+-- texts of one length are the same once as many bytes are
+pub all_same : (key name : List ℕ) (n : ℕ) → length key ≡ length name → n ≡ length name → take n key ≡ take n name → bytes_eq key name ≡ true
+all_same key name n long whole same =
+    let end : n ≡ length key = omega (arith, long, whole) in
+    (bytes_eq-Decides key name).1 (sym (ap (λ m. take m key) end ∙ take-length key) ∙ same ∙ ap (λ m. take m name) whole ∙ take-length name)
 
 -- ---- the walk
 
@@ -97,6 +97,18 @@ pub no_members_line : line_value (123 ∷ 125 ∷ []) ≡ Some (object no_member
 no_members_line = rw (is_utf8-from_IsUtf8 (123 ∷ 125 ∷ []) (IsUtf8-are_ascii (123 ∷ 125 ∷ []) refl)) no_members_text
 
 -- ---- what a reader said
+
+pub there : {A : Type 0} (o : Option A) (P : A → Type 0) → MatchOption o ⊥ P → (a : A) × (o ≡ Some a) × P a
+there None P h = absurd h
+there (Some a) P h = (a, refl, h)
+
+pub for_some : {A : Type 0} (o : Option A) (P Q : A → Type 0) → ((a : A) → P a → Q a) → MatchOption o ⊥ P → MatchOption o ⊥ Q
+for_some None P Q f h = h
+for_some (Some a) P Q f h = f a h
+
+pub on_some : {A : Type 0} (o : Option A) (P Q : Type 0) → (P → Q) → OnSome o P → OnSome o Q
+on_some None P Q f h = tt
+on_some (Some a) P Q f h = f h
 
 some_same : {A : Type 0} {x y : A} → Some x ≡ Some y → x ≡ y
 some_same h = cc

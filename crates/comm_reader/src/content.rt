@@ -1,4 +1,4 @@
-ghost use Rattle.std.specs.Prelude.{◌≡◌, ◌<◌, length, false, Some, IfSome, OnSome};
+ghost use Rattle.std.specs.Prelude.{◌≡◌, ◌<◌, length, false, Some, IfSome, MatchOption, OnSome};
 ghost use Rattle.json.specs.Json.{no_members};
 ghost use Rattle.comm_value.specs.Places.{members_have_bytes};
 ghost use Rattle.comm_value.specs.declared.from_json.Numbers.{Numbers};
@@ -39,6 +39,14 @@ pub fn read_data(
     Dict::read(alloc, numbers, texts, reader, depth - 1)
 }
 
+// Puts this content in the place of another, or of none.
+#[inline(always)]
+fn set_content<'a>(at: &mut Option<Content<'a>>, content: Content<'a>)
+    ensures { at.new ≡ Some content.entry }
+{
+    *at = Some(content);
+}
+
 // The members of a content that has begun. Of several with one key the last counts.
 fn read_members<'a>(
     alloc: Global,
@@ -47,10 +55,12 @@ fn read_members<'a>(
     reader: &mut Reader<'a>,
     lists: &'a Bump,
     depth: usize,
-) -> Option<Content<'a>>
-    ensures reads { IfSome result (λ c. ReadsMembers depth reader.old
-        (HasContent numbers c) reader.new) }
-    ensures plain { IfSome result (λ c. members_have_bytes c.dict ≡ false) }
+    content: &mut Option<Content<'a>>,
+) -> Option<()>
+    ensures reads { OnSome result (MatchOption content.new ⊥ (λ c.
+        ReadsMembers depth reader.old (HasContent numbers c) reader.new)) }
+    ensures plain { OnSome result
+        (IfSome content.new (λ c. members_have_bytes c.dict ≡ false)) }
     ensures shorter { OnSome result (length reader.new < length reader.old) }
 {
     let mut dict = Dict::new();
@@ -67,15 +77,20 @@ fn read_members<'a>(
             drop(read_value(reader, lists, depth)?);
         }
     }
-    Some(Content {
-        dict,
-        comm_id,
-        target_name,
-    })
+    set_content(
+        content,
+        Content {
+            dict,
+            comm_id,
+            target_name,
+        },
+    );
+    Some(())
 }
 
-/// Reads the next value as a content, in which values nest at most so deep. None: it is no object, its `data` is none
-/// that [`Dict::read`] reads, its `comm_id` or `target_name` is no string, or another member is no value.
+/// Reads the next value as a content, in which values nest at most so deep, and puts it where the caller has it. None:
+/// it is no object, its `data` is none that [`Dict::read`] reads, its `comm_id` or `target_name` is no string, or
+/// another member is no value.
 #[inline(always)]
 pub fn read_content<'a>(
     alloc: Global,
@@ -84,15 +99,17 @@ pub fn read_content<'a>(
     reader: &mut Reader<'a>,
     lists: &'a Bump,
     depth: usize,
-) -> Option<Content<'a>>
-    ensures reads { IfSome result (λ c. ReadsObject depth reader.old
-        (HasContent numbers c) reader.new) }
-    ensures plain { IfSome result (λ c. members_have_bytes c.dict ≡ false) }
+    content: &mut Option<Content<'a>>,
+) -> Option<()>
+    ensures reads { OnSome result (MatchOption content.new ⊥ (λ c.
+        ReadsObject depth reader.old (HasContent numbers c) reader.new)) }
+    ensures plain { OnSome result
+        (IfSome content.new (λ c. members_have_bytes c.dict ≡ false)) }
     ensures shorter { OnSome result (length reader.new < length reader.old) }
 {
     enter(reader)?;
     if depth == 0 {
         return None;
     }
-    read_members(alloc, numbers, texts, reader, lists, depth - 1)
+    read_members(alloc, numbers, texts, reader, lists, depth - 1, content)
 }

@@ -90,20 +90,6 @@ impl<'a> Line<'a> {
             buffers: Buffers::none(alloc),
         }
     }
-
-    // Puts this content in the place of another.
-    #[inline(always)]
-    fn set_content(&mut self, content: Content<'a>)
-        ensures { self.new ≡ record {
-          type_ = self.old.type_;
-          client = self.old.client;
-          content = Some content.entry;
-          metadata = self.old.metadata;
-          buffers = self.old.buffers;
-        } }
-    {
-        self.content = Some(content);
-    }
 }
 
 fn client_in<'v, 'a>(value: &'v LineValue<'a>, clients: u8) -> Option<u8>
@@ -205,7 +191,15 @@ fn read_members<'a>(
                 line.type_ = Some(read_type(reader, lists, depth)?);
             }
             LineKey::Content => {
-                line.set_content(read_content(alloc, numbers, texts, reader, lists, depth)?);
+                read_content(
+                    alloc,
+                    numbers,
+                    texts,
+                    reader,
+                    lists,
+                    depth,
+                    &mut line.content,
+                )?;
             }
             LineKey::Rare(rare) => read_rare(alloc, rare, clients, reader, lists, depth, line)?,
         }

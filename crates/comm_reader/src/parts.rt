@@ -59,9 +59,18 @@ fn content_in<'a>(
     ensures plain { IfSome result (λ c. members_have_bytes c.dict ≡ false) }
 {
     let mut reader = reader_of(bytes, scratch)?;
-    let content = read_content(alloc, numbers, texts, &mut reader, lists, DEPTH)?;
+    let mut content = None;
+    read_content(
+        alloc,
+        numbers,
+        texts,
+        &mut reader,
+        lists,
+        DEPTH,
+        &mut content,
+    )?;
     end(&mut reader)?;
-    Some(content)
+    content
 }
 
 fn client_below(client: u32, clients: u8) -> Option<u8>

@@ -76,11 +76,27 @@ pub fn read_value<'a>(
     }
 }
 
-/// Whether the key is this name. For a name that is a constant, `starts_with` is folded to a compare or two; `==` of
+/// Whether the key is this name. For a name that is a constant, the bytes are compared where this is called; `==` of
 /// texts is a call.
 #[inline(always)]
 pub fn is_named(key: &str, name: &str) -> bool
     ensures { result ≡ bytes_eq key.now name.now }
 {
-    key.len() == name.len() && key.as_bytes().starts_with(name.as_bytes())
+    key.len() == name.len() && has_same_bytes(key.as_bytes(), name.as_bytes())
+}
+
+// The same of two texts of one length, byte by byte.
+#[inline(always)]
+fn has_same_bytes(key: &[u8], name: &[u8]) -> bool
+    requires { length key.now ≡ length name.now }
+    ensures { result ≡ bytes_eq key.now name.now }
+{
+    let mut at = 0;
+    while at < name.len() {
+        if key[at] != name[at] {
+            return false;
+        }
+        at += 1;
+    }
+    true
 }

@@ -4,7 +4,9 @@ use Rattle.json.specs.Value.{value_view}
 use Rattle.comm_json.specs.Behind.{get_member, put, tidy, tidy_members}
 use Rattle.comm_value.specs.Tree as tree
 use Rattle.comm_messages.proofs.NoBytes.{no_bytes}
-use Rattle.comm_reader.specs.Reader.{HasContent}
+use Rattle.std.specs.Prelude.{IfSome, MatchOption}
+use Rattle.comm_value.specs.Places.{members_have_bytes}
+use Rattle.comm_reader.specs.Reader.{HasContent, ReadsMembers}
 use Rattle.comm_reader.specs.declared.content.Content.{Content}
 use Rattle.comm_reader.proofs.Walking.{nothing_yet, one_more, all_read}
 use Rattle.comm_reader.proofs.Slots.{set_data, set_comm_id, set_target_name, content_kept}
@@ -66,9 +68,13 @@ returns-clause-reads c =
     let was = c.loop-dict.invariant in
     let end : read_key c.loop-dict.reader ≡ Some (None, c.next_key.new.self) = grind arith in
     let content : Content = record { dict = c.loop-dict.dict; comm_id = c.loop-dict.comm_id; target_name = c.loop-dict.target_name } in
-    all_read c.args.depth c.args.reader.now was.0 c.loop-dict.reader c.next_key.new.self (HasContent c.args.numbers content) was.1 end was.2
+    let is : c.set_content.new.at ≡ Some content = c.set_content.ensures in
+    subst (λ o. MatchOption o ⊥ (λ d. ReadsMembers c.args.depth c.args.reader.now (HasContent c.args.numbers d) c.next_key.new.self)) (sym is)
+    (all_read c.args.depth c.args.reader.now was.0 c.loop-dict.reader c.next_key.new.self (HasContent c.args.numbers content) was.1 end was.2)
 
 pub returns-clause-plain : goal.returns-clause-plain
 returns-clause-plain c =
     let has = c.loop-dict.invariant.2.dict in
-    no_bytes c.args.numbers has.0 c.loop-dict.dict has.2
+    let content : Content = record { dict = c.loop-dict.dict; comm_id = c.loop-dict.comm_id; target_name = c.loop-dict.target_name } in
+    let is : c.set_content.new.at ≡ Some content = c.set_content.ensures in
+    subst (λ o. IfSome o (λ (d : Content). members_have_bytes d.dict ≡ false)) (sym is) (no_bytes c.args.numbers has.0 c.loop-dict.dict has.2)

@@ -1,4 +1,4 @@
-use Rattle.std.proofs.Common.{◌≡◌, ◌<◌, length, Some, None, true, false, sym, subst, arith, rules, codes, bytes_eq}
+use Rattle.std.proofs.Common.{◌≡◌, ◌<◌, length, Option, Some, None, true, false, sym, subst, arith, rules, codes, bytes_eq}
 use Rattle.std.specs.Prelude.{IfSome}
 use Rattle.json.specs.Json.{object, no_members, read_key}
 use Rattle.json.proofs.Grammar.{read_key-shorter}
@@ -7,7 +7,7 @@ use Rattle.comm_value.specs.Places.{members_have_bytes}
 use Rattle.comm_reader.specs.Reader.{HasLine}
 use Rattle.comm_reader.specs.declared.content.Content.{Content}
 use Rattle.comm_reader.specs.declared.line.Line.{Line}
-use Rattle.comm_reader.proofs.Walking.{nothing_yet, one_more, all_read, key_read}
+use Rattle.comm_reader.proofs.Walking.{nothing_yet, one_more, all_read, key_read, there}
 use Rattle.comm_reader.proofs.Slots.{nothing_of, set_header, set_content}
 use Rattle.comm_reader.proofs.line.read_members.Goals as goal
 
@@ -33,21 +33,23 @@ loop-key-preserved-in-Header c =
     let walked = one_more c.args.depth c.args.reader.now was.0.0 c.loop-key.reader c.next_key.new.self c.read_type.new.reader k (object r.0) was.0.1 begun r.1 r.2 c.in_ok-read_type-in-Header.ensures.shorter in
     ((put k (object (tidy_members r.0 no_members)) was.0.0, walked, set_header c.args.absent.now c.args.clients c.args.numbers was.0.0 c.loop-key.line k was.0.2 other c.in_ok-read_type-in-Header.field-0 (tidy_members r.0 no_members) is_key r.3), was.1, was.2)
 
-pub loop-key-preserved-in-Content : goal.loop-key-preserved-in-Content
-loop-key-preserved-in-Content c =
+pub loop-key-preserved-in_ok-read_content-in-Content : goal.loop-key-preserved-in_ok-read_content-in-Content
+loop-key-preserved-in_ok-read_content-in-Content c =
     let k = c.in-Some.key.now in
     let was = c.loop-key.invariant in
     let begun : read_key c.loop-key.reader ≡ Some (Some k, c.next_key.new.self) = grind arith in
     let other : bytes_eq k c.args.absent.now ≡ false = search rules in
     let is_key : bytes_eq k (codes "content") ≡ true = c.in-Content.ensures in
-    let r = c.in_ok-read_content-in-Content.ensures.reads in
+    let put_in = there c.read_content.new.content _ c.in_ok-read_content-in-Content.ensures.reads in
+    let r = put_in.2 in
     let walked = one_more c.args.depth c.args.reader.now was.0.0 c.loop-key.reader c.next_key.new.self c.read_content.new.reader k (object r.0) was.0.1 begun r.1 r.2 c.in_ok-read_content-in-Content.ensures.shorter in
     let found = put k (object (tidy_members r.0 no_members)) was.0.0 in
-    let has = set_content c.args.absent.now c.args.clients c.args.numbers was.0.0 c.loop-key.line k was.0.2 other c.in_ok-read_content-in-Content.field-0 (tidy_members r.0 no_members) is_key r.3 in
-    let is : c.set_content.new.self ≡ record { type_ = c.loop-key.line.type_; client = c.loop-key.line.client; content = Some c.in_ok-read_content-in-Content.field-0; metadata = c.loop-key.line.metadata; buffers = c.loop-key.line.buffers } = c.set_content.ensures in (
-      (found, walked, subst (λ (x : Line). HasLine c.args.absent.now c.args.clients c.args.numbers x found) (sym is) has),
-      subst (λ (x : Line). IfSome x.content (λ d. members_have_bytes d.dict ≡ false)) (sym is) c.in_ok-read_content-in-Content.ensures.plain,
-      subst (λ (x : Line). 0 < c.args.clients → x.client < c.args.clients) (sym is) was.2,
+    let has = set_content c.args.absent.now c.args.clients c.args.numbers was.0.0 c.loop-key.line k was.0.2 other put_in.0 (tidy_members r.0 no_members) is_key r.3 in
+    let before : Line = c.loop-key.line in
+    let line : Option Content → Line = λ o. record { type_ = before.type_; client = before.client; content = o; metadata = before.metadata; buffers = before.buffers } in (
+      (found, walked, subst (λ o. HasLine c.args.absent.now c.args.clients c.args.numbers (line o) found) (sym put_in.1) has),
+      c.in_ok-read_content-in-Content.ensures.plain,
+      was.2,
     )
 
 pub loop-key-preserved : goal.loop-key-preserved
