@@ -255,13 +255,17 @@ pub fn append_reply(
     ensures { OnOk result (out.new.items ≡ out.old.items ++ reply_line number reply.now) }
 {
     append_counted(b"reply ", number, out)?;
-    if let Reply::Delivered(None) = reply {
-        append(b" delivered\n", out)?; // As most replies are.
-        return Ok(());
+    // The most frequent replies, each at once.
+    match reply {
+        Reply::Delivered(None) => append(b" delivered\n", out)?,
+        Reply::Opened => append(b" opened\n", out)?,
+        Reply::Closed => append(b" closed\n", out)?,
+        _ => {
+            append(b" ", out)?;
+            append_reply_words(alloc, reply, out)?;
+            append(b"\n", out)?;
+        }
     }
-    append(b" ", out)?;
-    append_reply_words(alloc, reply, out)?;
-    append(b"\n", out)?;
     Ok(())
 }
 
