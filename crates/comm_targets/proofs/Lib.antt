@@ -1,3 +1,3 @@
 pub mod CounterCommit
-pub mod Opened
 pub mod Sends
+pub mod Counted

@@ -64,6 +64,11 @@ abbrev pub is_message : Event → Bool
 is_message (Msg id body) = true
 is_message e = false
 
+abbrev pub is_opening : Event → Bool
+is_opening (Open id version body) = true
+is_opening (Launch id state) = true
+is_opening e = false
+
 abbrev pub stages_message : Option StagedEvent → Bool
 stages_message None = false
 stages_message (Some s) = is_message s.event

@@ -29,7 +29,7 @@ impl Counter {
     {
         Counter {
             alloc,
-            comms: OpenComms::new(alloc),
+            comms: OpenComms::new(),
             count: 0,
         }
     }
@@ -106,7 +106,7 @@ impl Target for Counter {
 
     fn prepare(&mut self, event: &Event, _now: Option<&Dict>) -> Result<Answer, TargetFault> {
         let answer = count_answer(self.alloc, self.next(), event)?;
-        if self.comms.stage(self.alloc, event, &answer).is_err() {
+        if self.comms.stage(event, &answer).is_err() {
             drop(answer);
             return Err(TargetFault::Memory);
         }

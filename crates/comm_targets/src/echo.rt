@@ -26,7 +26,7 @@ impl Echo {
     {
         Echo {
             alloc,
-            comms: OpenComms::new(alloc),
+            comms: OpenComms::new(),
         }
     }
 }
@@ -64,7 +64,7 @@ impl Target for Echo {
 
     fn prepare(&mut self, event: &Event, _now: Option<&Dict>) -> Result<Answer, TargetFault> {
         let answer = echo_of(self.alloc, event)?;
-        if self.comms.stage(self.alloc, event, &answer).is_err() {
+        if self.comms.stage(event, &answer).is_err() {
             drop(answer);
             return Err(TargetFault::Memory);
         }

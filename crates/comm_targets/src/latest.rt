@@ -1,7 +1,7 @@
-ghost use Rattle.std.specs.Prelude.{◌≡◌, false, Some, IfSome, IfOk, IfErr, OnErr};
+ghost use Rattle.std.specs.Prelude.{◌≡◌, IfOk, IfErr, OnErr};
 ghost use Rattle.comm_targets.specs.Latest.{latest_of};
-ghost use Rattle.comm_targets.specs.Meaning.{has_id, new_of};
-ghost use Rattle.comm_targets.specs.OpenComms.{opened_by, with_staged};
+ghost use Rattle.comm_targets.specs.Meaning.{new_of};
+ghost use Rattle.comm_targets.specs.OpenComms.{with_staged};
 
 use crate::answer::{Answer, Bodies};
 use crate::event::Event;
@@ -28,7 +28,7 @@ impl Latest {
     {
         Latest {
             alloc,
-            comms: OpenComms::new(alloc),
+            comms: OpenComms::new(),
         }
     }
 }
@@ -69,9 +69,8 @@ impl Target for Latest {
     }
 
     // The trait lets a free target answer what it likes, so what this one answers is said here. A method with clauses
-    // of its own has no others, so what `stage` needs and what the trait promises is said again.
+    // of its own has no others, so what the trait promises is said again.
     fn prepare(&mut self, event: &Event, _now: Option<&Dict>) -> Result<Answer, TargetFault>
-        requires { IfSome (opened_by event.now) (λ id. has_id self.old.comms.ids id ≡ false) }
         ensures latest { IfOk result (λ a. a ≡ latest_of event.now) }
         ensures takes { IfErr result (λ f. f ≡ TargetFault.Memory) }
         ensures staged { IfOk result
@@ -80,7 +79,7 @@ impl Target for Latest {
     {
         let answer = answer_to(self.alloc, event)?;
         // Last, so that an error leaves all as it was.
-        if self.comms.stage(self.alloc, event, &answer).is_err() {
+        if self.comms.stage(event, &answer).is_err() {
             drop(answer);
             return Err(TargetFault::Memory);
         }

@@ -15,12 +15,12 @@
 //! `comm_messages` and `comm_value` in `crates.txt`, with `use comm_targets::{..}` in place of `use crate::..`. Copy
 //! `specs/Latest.antt` too, which says what it answers, and name it in your `specs/Lib.antt`. Then change:
 //!
-//! 1. The fields: [`OpenComms`], which keep the ids of the open comms and what is staged, and beside it what you need.
+//! 1. The fields: [`OpenComms`], which count the open comms and keep what is staged, and beside it what you need.
 //! 2. `prepare`, where your work is. It is given the event and `now`, the state of the event's comm, and makes the
 //!    answer: any state and messages, and to a message also `custom`. A free target is asked `Open` and `Msg` alone. To
 //!    refuse, give `TargetFault::Other` with a code of your own; Memory comes by `?`, and the check refuses every other
 //!    fault. Stage the event and its answer last, and change nothing before that `means` reads, so that an error leaves
-//!    it. `stage` asks that an id that is opened isn't open; `prepare` is asked for no other.
+//!    it.
 //! 3. `commit`, for fields that follow the messages: ask `OpenComms::has_message` before their `commit`, as [`Counter`]
 //!    does. It can't fail, and takes no memory. What is staged may be abandoned instead, so `prepare` is too early for
 //!    them.
@@ -94,6 +94,7 @@ mod held;
 mod kind;
 mod latest;
 mod open_comms;
+mod open_ids;
 mod plain;
 mod shared_custom;
 mod staged;

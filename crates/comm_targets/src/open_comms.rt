@@ -1,52 +1,48 @@
-ghost use Rattle.std.specs.Prelude.{◌≡◌, ◌≤◌, ◌↔◌, true, false, [], IsTrue, IfOk, IfSome, OnOk, OnErr};
-ghost use Rattle.std.specs.Prelude.{IsSome, None, Some, option_map, string_bytes};
-ghost use Rattle.ordered_table.specs.Table.{entries};
-ghost use Rattle.comm_targets.specs.OpenComms.{CanAdd, opened_by, texts_of, with_done, with_staged};
+ghost use Rattle.std.specs.Prelude.{◌≡◌, ◌↔◌, [], IsTrue, IsSome, None, Some, OnOk, OnErr};
+ghost use Rattle.comm_targets.specs.OpenComms.{with_done, with_staged};
 ghost use Rattle.comm_targets.specs.declared.staged_event.StagedEvent.{StagedEvent};
 ghost use Rattle.comm_targets.specs.Meaning.{has_id, without, stages_message};
+ghost use Rattle.std.specs.Prelude.{true};
 
 use crate::answer::Answer;
 use crate::event::Event;
+use crate::open_ids::OpenIds;
 use crate::staged::Staged;
-use comm_value::Text;
-use ordered_table::Table;
-use std::alloc::{AllocError, Global};
+use std::alloc::AllocError;
 use std::marker::Model;
 
-/// What each target keeps: the ids of its open comms in the order of opening, and what is staged.
+/// What each target keeps: how many comms it has open, and what is staged. Which comms these are, contracts alone see,
+/// in the order of opening.
 #[derive(Drop)]
 pub struct OpenComms {
-    ids: Table<String, ()>,
+    count: u64,
     staged: Option<Staged>,
-    // The id that a staged opening adds.
-    fresh: Option<String>,
+    ids: OpenIds,
 }
 
 impl Model for OpenComms {
-    ghost use Rattle.std.specs.Prelude.{option_map, string_bytes};
-    ghost use Rattle.ordered_table.specs.Table.{entries};
-    ghost use Rattle.comm_targets.specs.OpenComms.{OpenAndStaged, CanCommit, texts_of};
+    ghost use Rattle.std.specs.Prelude.{◌≡◌, length};
+    ghost use Rattle.comm_targets.specs.OpenComms.{OpenAndStaged, CanCommit};
     ghost use Rattle.comm_targets.specs.Code.{open_and_staged_code};
 
     ghost Value = { OpenAndStaged };
 
     ghost coded = { open_and_staged_code };
 
-    ghost view = { λ b. record { ids = texts_of (entries b.ids); staged = b.staged } };
+    ghost view = { λ b. record { ids = b.ids.ids; staged = b.staged } };
 
-    ghost invariant = { λ b. CanCommit b.staged (option_map string_bytes b.fresh)
-        (texts_of (entries b.ids)) b.ids.room };
+    ghost invariant = { λ b. (b.count ≡ length b.ids.ids) × CanCommit b.staged b.count };
 }
 
 impl OpenComms {
     /// No comm is open and nothing is staged.
-    pub fn new(alloc: Global) -> OpenComms
+    pub fn new() -> OpenComms
         ensures { result ≡ record { ids = []; staged = None } }
     {
         OpenComms {
-            ids: Table::new(alloc),
+            count: 0,
             staged: None,
-            fresh: None,
+            ids: OpenIds::none(),
         }
     }
 
@@ -54,7 +50,7 @@ impl OpenComms {
     pub fn is_idle(&self) -> bool
         ensures { IsTrue result ↔ ((self.now.ids ≡ []) × (self.now.staged ≡ None)) }
     {
-        self.ids.is_empty() && self.staged.is_none()
+        self.count == 0 && self.staged.is_none()
     }
 
     /// Whether a message is staged.
@@ -67,15 +63,17 @@ impl OpenComms {
         }
     }
 
-    /// Stages an event with its answer, and makes room for the id that it opens. That id isn't open:
-    /// `Target::prepare` is asked for no other. Err: memory; then all stays as it was.
-    pub fn stage(&mut self, alloc: Global, event: &Event, answer: &Answer) -> Result<(), AllocError>
-        requires { IfSome (opened_by event.now) (λ id. has_id self.old.ids id ≡ false) }
+    /// Stages an event with its answer. It takes no memory. Err: it opens a comm, and 2^64 - 1 are open; then all stays
+    /// as it was.
+    pub fn stage(&mut self, event: &Event, answer: &Answer) -> Result<(), AllocError>
         ensures ok { OnOk result (self.new ≡ with_staged self.old event.now answer.now) }
         ensures err { OnErr result (self.new ≡ self.old) }
     {
-        self.fresh = reserve_id(&mut self.ids, alloc, event)?;
-        self.staged = Some(Staged::new(event, answer));
+        let staged = Staged::new(event, answer);
+        if staged.opens() && self.count == u64::MAX {
+            return Err(AllocError);
+        }
+        self.staged = Some(staged);
         Ok(())
     }
 
@@ -85,17 +83,18 @@ impl OpenComms {
         ensures { (s : StagedEvent) → self.old.staged ≡ Some s
             → self.new ≡ with_done self.old s.event }
     {
-        if let Some(id) = self.fresh.take() {
-            self.ids.insert(id, ());
+        if let Some(staged) = self.staged.take() {
+            if staged.opens() {
+                self.count += 1;
+            }
+            self.ids = self.ids.after(&staged);
         }
-        self.staged = None;
     }
 
     /// Drops the staged change.
     pub fn abandon(&mut self)
         ensures { self.new ≡ record { ids = self.old.ids; staged = None } }
     {
-        self.fresh = None;
         self.staged = None;
     }
 
@@ -105,38 +104,7 @@ impl OpenComms {
         ensures { self.new ≡
             record { ids = without id.now self.old.ids; staged = self.old.staged } }
     {
-        let _gone = self.ids.take_text(id);
-    }
-}
-
-// Makes room for the id that an event opens, and gives the id.
-fn reserve_id(
-    ids: &mut Table<String, ()>,
-    alloc: Global,
-    event: &Event,
-) -> Result<Option<String>, AllocError>
-    requires { IfSome (opened_by event.now) (λ id. has_id (texts_of (entries ids.old)) id ≡ false) }
-    ensures places { ids.new.places ≡ ids.old.places }
-    ensures room { ids.old.room ≤ ids.new.room }
-    ensures ready { IfOk result (λ id. CanAdd (opened_by event.now) (option_map string_bytes id)
-        (texts_of (entries ids.old)) ids.new.room) }
-{
-    let Some(id) = opened_by(event) else {
-        return Ok(None);
-    };
-    let id = String::from_str(alloc, id.as_str())?;
-    ids.reserve()?;
-    Ok(Some(id))
-}
-
-// The id that an event opens.
-fn opened_by(event: &Event) -> Option<&Text>
-    ensures { option_map (λ t. t.now) result ≡ opened_by event.now }
-{
-    match event {
-        Event::Open { id, .. } => Some(id),
-        Event::Launch { id, .. } => Some(id),
-        Event::Msg { .. } => None,
-        Event::Push { .. } => None,
+        self.ids = self.ids.without(id);
+        self.count -= 1;
     }
 }

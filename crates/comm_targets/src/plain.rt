@@ -46,7 +46,7 @@ impl PlainTarget {
     {
         PlainTarget {
             alloc,
-            comms: OpenComms::new(alloc),
+            comms: OpenComms::new(),
             is_opaque,
         }
     }
@@ -102,7 +102,7 @@ impl Target for PlainTarget {
     fn prepare(&mut self, event: &Event, _now: Option<&Dict>) -> Result<Answer, TargetFault> {
         let answer = plain_of(self.alloc, event)?;
         // Last, so that an error leaves all as it was.
-        if self.comms.stage(self.alloc, event, &answer).is_err() {
+        if self.comms.stage(event, &answer).is_err() {
             drop(answer);
             return Err(TargetFault::Memory);
         }

@@ -35,7 +35,7 @@ impl ScriptedTarget {
     {
         ScriptedTarget {
             alloc,
-            comms: OpenComms::new(alloc),
+            comms: OpenComms::new(),
             whose: "",
             log: None,
         }
@@ -48,7 +48,7 @@ impl ScriptedTarget {
     {
         ScriptedTarget {
             alloc,
-            comms: OpenComms::new(alloc),
+            comms: OpenComms::new(),
             whose,
             log: Some(log),
         }
@@ -209,7 +209,7 @@ impl Target for ScriptedTarget {
     fn prepare(&mut self, event: &Event, now: Option<&Dict>) -> Result<Answer, TargetFault> {
         self.note(word_of(event), event.id().as_str());
         let answer = answer_to(self.alloc, event, now)?;
-        self.comms.stage(self.alloc, event, &answer)?;
+        self.comms.stage(event, &answer)?;
         Ok(answer)
     }
 

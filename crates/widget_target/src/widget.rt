@@ -45,7 +45,7 @@ impl WidgetTarget {
     {
         WidgetTarget {
             alloc,
-            comms: OpenComms::new(alloc),
+            comms: OpenComms::new(),
             echoing,
         }
     }
@@ -74,7 +74,7 @@ impl Target for WidgetTarget {
 
     fn prepare(&mut self, event: &Event, now: Option<&Dict>) -> Result<Answer, TargetFault> {
         let answer = answer_to(self.alloc, self.echoing, event, now)?;
-        if self.comms.stage(self.alloc, event, &answer).is_err() {
+        if self.comms.stage(event, &answer).is_err() {
             drop(answer);
             return Err(TargetFault::Memory);
         }
