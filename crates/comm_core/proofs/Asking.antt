@@ -136,7 +136,7 @@ nothing_staged Nothing name = refl
 nothing_staged (Register n kind notes) name = refl
 nothing_staged (Replace n kind notes) name = refl
 nothing_staged (Unregister n) name = refl
-nothing_staged (Close id) name = refl
+nothing_staged (Close id place) name = refl
 nothing_staged (Commit q) name = refl
 
 module _ (l : ℕ) (b : Targets) (c : Opens) (k : Call) where

@@ -60,7 +60,7 @@ planned_silent table_update.Nothing call r = refl
 planned_silent (table_update.Register name kind notes) call r = refl
 planned_silent (table_update.Replace name kind notes) call r = refl
 planned_silent (table_update.Unregister name) call r = refl
-planned_silent (table_update.Close id) call r = refl
+planned_silent (table_update.Close id place) call r = refl
 planned_silent (table_update.Commit q) call r = refl
 
 planned_refused : (p : TableUpdate) (f : TargetFault) (call : Call) (r : Reply) → updated_row p (Some (Err f)) call r ≡ done_row call r
@@ -68,7 +68,7 @@ planned_refused table_update.Nothing f call r = refl
 planned_refused (table_update.Register name kind notes) f call r = refl
 planned_refused (table_update.Replace name kind notes) f call r = refl
 planned_refused (table_update.Unregister name) f call r = refl
-planned_refused (table_update.Close id) f call r = refl
+planned_refused (table_update.Close id place) f call r = refl
 planned_refused (table_update.Commit q) f call r = refl
 
 -- ---- where a target answered
@@ -144,7 +144,7 @@ planned_asked targets q a p call r m there asked by =
     planned_by (table_update.Register name kind notes) e = absurd (none≢some _ e)
     planned_by (table_update.Replace name kind notes) e = absurd (none≢some _ e)
     planned_by (table_update.Unregister name) e = absurd (none≢some _ e)
-    planned_by (table_update.Close id) e = absurd (none≢some _ e)
+    planned_by (table_update.Close id place) e = absurd (none≢some _ e)
     planned_by (table_update.Commit g) e =
         (elim (bytes_eq q.name g.name) as (λ b. bytes_eq q.name g.name ≡ b → cond b (staged_event g.event a) None ≡ staged_event q.event a → answered_row g.name g.event a ≡ answered_row q.name q.event a) [
           | true ↦ λ is l.

@@ -46,7 +46,7 @@ abbrev pub planned : Machine → TableUpdate → Option Outcome → Machine
 planned m (Register name kind notes) o = with_target m name kind notes
 planned m (Replace name kind notes) o = with_another m name kind notes
 planned m (Unregister name) o = without_target m name
-planned m (Close id) o = without_comm m id
+planned m (Close id place) o = without_comm m id
 planned m (Commit q) (Some (Ok a)) = (answer_step m q.name q.event a).next
 planned m table_update o = m
 

@@ -75,9 +75,9 @@ pub fn apply<T: Target>(
             drop((outcome, registered));
             unregister(targets, comms, &name)
         }
-        TableUpdate::Close { id } => {
+        TableUpdate::Close { id, place } => {
             drop((outcome, registered));
-            close(targets, comms, &id);
+            close(targets, comms, place, &id);
             None
         }
         TableUpdate::Commit(request) => {
@@ -141,14 +141,14 @@ fn note_state(comms: &mut Comms, place: usize, id: &Text, state: Option<Dict>)
     }
 }
 
-/// Takes a comm out, in its target first.
-fn close<T: Target>(targets: &mut TargetTable<T>, comms: &mut Comms, id: &Text)
+/// Takes a comm out, in its target first. It probably stands at this place.
+fn close<T: Target>(targets: &mut TargetTable<T>, comms: &mut Comms, place: usize, id: &Text)
     requires agrees { Agrees (unstaged targets.old.all) comms.old.all }
     requires none { HaveStaged targets.old.all (λ _. None) }
     ensures { Carried targets.new.all comms.new.all
         (without_comm (machine_of targets.old.all comms.old.all) id.now) }
 {
-    if let Some(comm) = comms.take(id) {
+    if let Some(comm) = comms.take(place, id) {
         targets.close(&comm.target, id);
         drop(comm);
     }

@@ -101,14 +101,14 @@ impl Comms {
         self.all.insert(id, comm);
     }
 
-    /// Takes the comm of this id out; None where there is none. Its room stays.
-    pub fn take(&mut self, id: &Text) -> Option<Comm>
+    /// Takes the comm of this id out, which probably stands at this place; None where there is none. Its room stays.
+    pub fn take(&mut self, place: usize, id: &Text) -> Option<Comm>
         ensures taken { result ≡ at self.old.all id.now }
         ensures all { self.new.all ≡ without self.old.all id.now }
         ensures room { self.old.room ≤ self.new.room }
     {
         self.kept = None; // It lists this comm.
-        self.all.take(id)
+        self.all.take_at(place, id)
     }
 
     /// Gives a comm another state, which no listing shows. It probably stands at this place.

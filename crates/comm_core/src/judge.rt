@@ -25,10 +25,11 @@ pub fn judge_close(comms: &Comms, alloc: Global, id: Text) -> Evaluation
         → HasVerdict limit targets comms.now.all (call.Close id) result }
     ensures feasible { (targets : Targets) → IsFeasible targets comms.now.all (call.Close id) result }
 {
-    if !comms.contains(&id) {
+    let Some((place, _)) = comms.find(&id) else {
         return Evaluation::of_reply(alloc, Reply::NoComm);
-    }
-    Evaluation::of_no_target(Reply::Closed, Vec::new(alloc), TableUpdate::Close { id })
+    };
+    let close = TableUpdate::Close { id, place };
+    Evaluation::of_no_target(Reply::Closed, Vec::new(alloc), close)
 }
 
 /// What an unregister comes to.
@@ -129,9 +130,10 @@ pub fn judge_hang_up(comms: &Comms, alloc: Global, id: Text) -> Result<Evaluatio
     ensures feasible { (targets : Targets) → IfOk result
         (λ j. IsFeasible targets comms.now.all (call.HangUp id) j) }
 {
-    if !comms.contains(&id) {
+    let Some((place, _)) = comms.find(&id) else {
         return Ok(Evaluation::of_reply(alloc, Reply::NoComm));
-    }
+    };
     let outgoing = close_message(alloc, &id)?;
-    Ok(Evaluation::of_no_target(Reply::Closed, outgoing, TableUpdate::Close { id }))
+    let close = TableUpdate::Close { id, place };
+    Ok(Evaluation::of_no_target(Reply::Closed, outgoing, close))
 }

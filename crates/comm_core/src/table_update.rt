@@ -13,8 +13,8 @@ pub enum TableUpdate {
     Replace { name: Text, kind: Kind, notes: u64 },
     /// Takes the target out, and closes its comms.
     Unregister { name: Text },
-    /// Takes the comm out, in its target first.
-    Close { id: Text },
+    /// Takes the comm out, in its target first. It probably stands at this place.
+    Close { id: Text, place: usize },
     /// Makes the change that the target staged, and notes its comm.
     Commit(StagedRequest),
 }

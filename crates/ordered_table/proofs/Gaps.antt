@@ -7,10 +7,6 @@ use Rattle.indexmap.specs.IndexMap.{set_value_at}
 use Rattle.std.specs.Map.Calls.{RetainsPairs}
 use Rattle.ordered_table.specs.Table.{IsKept, entry_before, there, at_place}
 
-pub on_ok_at : {V E P : Type 0} (r : Result V E) → OnOk r P → IsOk r → P
-on_ok_at (Ok x) h ok = h
-on_ok_at (Err e) h ok = absurd (true≢false (sym ok))
-
 -- the keys after one that passes do not
 others_fail : {K : Type 0} (eq : K → K → Bool) (test : K → Bool) → IsKeyTest eq test → (k : K) → test k ≡ true
     → (ks : List K) → AllByRecursion (λ y. eq k y ≡ false) ks → AllByRecursion (λ y. test y ≡ false) ks
@@ -175,10 +171,6 @@ module _ {K V : Type 0} where
   there_within [] = omega arith
   there_within (p ∷ ps) = let more = length_kept p.0 p.1 (there ps) (length ps) (there_within ps) in omega arith
 
-  pub push_length : (es : List (K × V)) (e : K × V) → length (es ++ e ∷ []) ≡ length es + 1
-  push_length [] e = refl
-  push_length (x ∷ es) e = let more = push_length es e in omega arith
-
   -- what is taken out is one less
   pub removed_length : (test : K → Bool) (es : List (K × V)) (v : V) → lookup test es ≡ Some v → length (remove_entry test es) + 1 ≡ length es
   removed_length test [] v found = cc
@@ -284,15 +276,6 @@ module _ {K V : Type 0} where
             let now : there new ≡ set_value test (there ps) w = ap there same ∙ changed_there eq test one ps v w is.unique found in
             (record { count = is.count ∙ sym (ap length now ∙ changed_length test (there ps) w); unique = unique }, now)
 
-        pub put_kept : (k : K) (mid : List (K × Option V)) (v : V) → mid ≡ remove_entry test ps → new ≡ mid ++ (k, Some v) ∷ [] → lookup test (there ps) ≡ None
-            → IsKept eq (live + 1) new × (there new ≡ there ps ++ (k, v) ∷ [])
-        put_kept k mid v removed pushed none =
-            let now : there new ≡ there ps ++ (k, v) ∷ [] =
-            ap there pushed ∙ there_push mid k v ∙ ap (λ es. es ++ (k, v) ∷ []) (ap there removed ∙ gap_removed test ps none) in
-            let count = is.count in
-            let longer = ap length now ∙ push_length (there ps) (k, v) in
-            (record { count = omega (arith, count, longer); unique = unique }, now)
-
       -- a gap that is emptied shows nothing
       pub gap_at : (new : List (K × Option V)) → new ≡ set_value test ps None → option_flatten (lookup test ps) ≡ None → there new ≡ there ps
       gap_at new same none =
@@ -300,11 +283,3 @@ module _ {K V : Type 0} where
 
       pub emptied_at : (new : List (K × Option V)) → new ≡ set_value test ps None → there new ≡ remove_entry test (there ps)
       emptied_at new same = ap there same ∙ emptied_there eq test one ps is.unique
-
-      pub fits_more : (mid : List (K × Option V)) → mid ≡ remove_entry test ps → lookup test (there ps) ≡ None → live ≤ length mid
-      fits_more mid removed none =
-          let same : there mid ≡ there ps = ap there removed ∙ gap_removed test ps none in
-          let within = there_within mid in
-          let count = is.count in
-          let l : length (there mid) ≡ live = ap length same ∙ sym count in
-          omega (arith, l, within)

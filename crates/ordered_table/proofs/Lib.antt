@@ -1,3 +1,3 @@
 pub mod Gaps
-pub mod Keys
+pub mod Last
 pub mod Walking

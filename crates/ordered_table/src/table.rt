@@ -1,12 +1,11 @@
 ghost use Rattle.std.specs.Prelude.{◌≡◌, ◌<◌, ◌≤◌, ◌++◌, [], ◌∷◌, Bool, IsTrue, OnOk, None, Some, Option};
-ghost use Rattle.std.specs.Prelude.{true, filter, is_some, slice_get};
+ghost use Rattle.std.specs.Prelude.{true, filter, is_some, length, slice_get};
 ghost use Rattle.std.specs.Option.{option_flatten};
 ghost use Rattle.std.specs.Map.{lookup, remove_entry, set_value};
 ghost use Rattle.ordered_table.specs.Table.{Computes, at_place, entries, there};
 ghost use Rattle.indexmap.specs.IndexMap.{IsUnique, spare};
 
 mod reads;
-mod texts;
 
 use indexmap::IndexMap;
 use std::alloc::{AllocError, Global};
@@ -58,27 +57,26 @@ impl<K: Eq + Hash + Drop, V: Drop> Table<K, V> {
         self.rows.reserve(1)
     }
 
-    /// Appends an entry with a new key. It needs room ([`Table::reserve`]) and allocates nothing.
+    /// Appends an entry with a new key; where the key's own gap still stands, the entry has the equal key that stands
+    /// there. It needs room ([`Table::reserve`]) and allocates nothing.
     pub fn insert(&mut self, key: K, value: V)
         requires room { 0 < self.old.room }
         requires fresh { lookup (K.eq key) (entries self.old) ≡ None }
-        ensures { entries self.new ≡ entries self.old ++ (key, value) ∷ [] }
+        ensures { (k : K) × (K.eq key k ≡ true)
+            × (entries self.new ≡ entries self.old ++ (k, value) ∷ []) }
     {
-        let _gap = self.rows.shift_remove(&key);
-        // The length is what says that one more fits.
-        let _places = self.rows.len();
-        let _ = self.rows.insert(key, Some(value));
+        put_last(&mut self.rows, key, value);
         self.live += 1;
     }
 
-    /// Removes a key's entry and gives its value; the others keep their order. None: no entry has the key. O(1)
-    /// amortized.
-    pub fn take(&mut self, key: &K) -> Option<V>
+    /// Removes a key's entry, which probably stands at this place ([`Table::find`]), where it is sought first, and gives
+    /// its value; the others keep their order. None: no entry has the key. O(1) amortized.
+    pub fn take_at(&mut self, place: usize, key: &K) -> Option<V>
         ensures taken { result ≡ lookup (K.eq key.now) (entries self.old) }
         ensures entries { entries self.new ≡ remove_entry (K.eq key.now) (entries self.old) }
         ensures room { self.old.room ≤ self.new.room }
     {
-        let value = empty(&mut self.rows, key)?;
+        let value = empty_at(&mut self.rows, place, key)?;
         self.live -= 1;
         sweep(&mut self.rows, self.live);
         Some(value)
@@ -146,6 +144,27 @@ impl<K: Eq + Hash + Drop, V: Drop> Table<K, V> {
     }
 }
 
+// Makes a key's place the last, with this value; the key has at most a gap. The key that stands there stays.
+fn put_last<K: Eq + Hash + Drop, V: Drop>(rows: &mut IndexMap<K, Option<V>>, key: K, value: V)
+    requires room { 0 < spare rows.old }
+    requires gap { lookup (K.eq key) (there rows.old.entries) ≡ None }
+    ensures last { (k : K) × (K.eq key k ≡ true)
+        × (there rows.new.entries ≡ there rows.old.entries ++ (k, value) ∷ []) }
+    ensures fits { length (there rows.old.entries) < 18446744073709551615 }
+    ensures unique { IsUnique K.eq rows.new }
+{
+    match rows.insert_full(key, Some(value)) {
+        Ok((place, Some(_gap))) => {
+            let last = rows.len() - 1;
+            rows.move_index(place, last);
+        }
+        Ok((_, None)) => {
+            let _places = rows.len(); // It says that one more fits.
+        }
+        Err(_) => unreachable!(),
+    }
+}
+
 // Whether a key has this place, be it a gap.
 fn stands_at<K: Eq + Hash, V>(rows: &IndexMap<K, Option<V>>, place: usize, key: &K) -> bool
     ensures { result ≡ true → (k : K) × (o : Option V)
@@ -157,7 +176,7 @@ fn stands_at<K: Eq + Hash, V>(rows: &IndexMap<K, Option<V>>, place: usize, key: 
     }
 }
 
-// Makes a key's place a gap and gives the value that stood there.
+// Makes a key's place a gap, wherever it is, and gives the value that stood there.
 fn empty<K: Eq + Hash, V: Drop>(rows: &mut IndexMap<K, Option<V>>, key: &K) -> Option<V>
     ensures taken { result ≡ option_flatten (lookup (K.eq key.now) rows.old.entries) }
     ensures entries { rows.new.entries ≡ set_value (K.eq key.now) rows.old.entries None }
@@ -167,6 +186,27 @@ fn empty<K: Eq + Hash, V: Drop>(rows: &mut IndexMap<K, Option<V>>, key: &K) -> O
     match rows.get_mut(key) {
         Some(place) => place.take(),
         None => None,
+    }
+}
+
+// Makes a key's place a gap and gives the value that stood there. The key probably has this place.
+fn empty_at<K: Eq + Hash, V: Drop>(
+    rows: &mut IndexMap<K, Option<V>>,
+    place: usize,
+    key: &K,
+) -> Option<V>
+    ensures taken { result ≡ option_flatten (lookup (K.eq key.now) rows.old.entries) }
+    ensures entries { rows.new.entries ≡ set_value (K.eq key.now) rows.old.entries None }
+    ensures room { spare rows.new ≡ spare rows.old }
+    ensures unique { IsUnique K.eq rows.new }
+{
+    if stands_at(rows, place, key) {
+        match rows.get_index_mut(place) {
+            Some(slot) => slot.take(),
+            None => None,
+        }
+    } else {
+        empty(rows, key)
     }
 }
 

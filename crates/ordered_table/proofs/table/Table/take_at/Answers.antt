@@ -2,11 +2,11 @@ use Rattle.std.proofs.Common.{◌∙◌, refl, sym, ap}
 use Rattle.std.specs.Map.{lookup, remove_entry}
 use Rattle.ordered_table.specs.Table.{Places, entries}
 use Rattle.ordered_table.proofs.Gaps.{value_of, gap_kept, taken_kept, emptied_at}
-use Rattle.ordered_table.proofs.table.Table.take.Goals as goal
+use Rattle.ordered_table.proofs.table.Table.take_at.Goals as goal
 
 pub invariant_of-self : goal.invariant_of-self
 invariant_of-self g c =
-    gap_kept g.K.PartialEq.eq (g.K.PartialEq.eq c.args.key.now) (g.met.K.Eq.laws.congr c.args.key.now) c.self.inside.rows.entries c.self.inside.live c.self.invariant _ c.empty.ensures.unique c.empty.ensures.entries
+    gap_kept g.K.PartialEq.eq (g.K.PartialEq.eq c.args.key.now) (g.met.K.Eq.laws.congr c.args.key.now) c.self.inside.rows.entries c.self.inside.live c.self.invariant _ c.empty_at.ensures.unique c.empty_at.ensures.entries
     (sym c.in_err-value.ensures.taken)
 
 pub returns-in_err-value-clause-taken : goal.returns-in_err-value-clause-taken
@@ -17,17 +17,17 @@ returns-in_err-value-clause-taken g c =
 
 pub returns-in_err-value-clause-entries : goal.returns-in_err-value-clause-entries
 returns-in_err-value-clause-entries g c =
-    emptied_at g.K.PartialEq.eq (g.K.PartialEq.eq c.args.key.now) (g.met.K.Eq.laws.congr c.args.key.now) c.self.inside.rows.entries c.self.inside.live c.self.invariant _ c.empty.ensures.entries
+    emptied_at g.K.PartialEq.eq (g.K.PartialEq.eq c.args.key.now) (g.met.K.Eq.laws.congr c.args.key.now) c.self.inside.rows.entries c.self.inside.live c.self.invariant _ c.empty_at.ensures.entries
     ∙ ap (λ (t : Places g.row.K.Denot g.row.V.Denot). remove_entry (g.K.PartialEq.eq c.args.key.now) (entries t)) c.self.view_is
 
 pub overflow_sub-self : goal.overflow_sub-self
 overflow_sub-self g c =
-    (taken_kept g.K.PartialEq.eq (g.K.PartialEq.eq c.args.key.now) (g.met.K.Eq.laws.congr c.args.key.now) c.self.inside.rows.entries c.self.inside.live c.self.invariant _ c.empty.ensures.unique _ _ c.empty.ensures.entries refl
-    c.empty.ensures.unique (sym c.in_ok-value.ensures.taken)).0
+    (taken_kept g.K.PartialEq.eq (g.K.PartialEq.eq c.args.key.now) (g.met.K.Eq.laws.congr c.args.key.now) c.self.inside.rows.entries c.self.inside.live c.self.invariant _ c.empty_at.ensures.unique _ _ c.empty_at.ensures.entries refl
+    c.empty_at.ensures.unique (sym c.in_ok-value.ensures.taken)).0
 
 pub invariant_of-self-2 : goal.invariant_of-self-2
 invariant_of-self-2 g c =
-    (taken_kept g.K.PartialEq.eq (g.K.PartialEq.eq c.args.key.now) (g.met.K.Eq.laws.congr c.args.key.now) c.self.inside.rows.entries c.self.inside.live c.self.invariant _ c.empty.ensures.unique _ _ c.empty.ensures.entries
+    (taken_kept g.K.PartialEq.eq (g.K.PartialEq.eq c.args.key.now) (g.met.K.Eq.laws.congr c.args.key.now) c.self.inside.rows.entries c.self.inside.live c.self.invariant _ c.empty_at.ensures.unique _ _ c.empty_at.ensures.entries
     c.sweep.ensures.entries c.sweep.ensures.unique (sym c.in_ok-value.ensures.taken)).1
 
 pub returns-clause-taken : goal.returns-clause-taken
@@ -38,5 +38,5 @@ returns-clause-taken g c =
 pub returns-clause-entries : goal.returns-clause-entries
 returns-clause-entries g c =
     c.sweep.ensures.entries
-    ∙ emptied_at g.K.PartialEq.eq (g.K.PartialEq.eq c.args.key.now) (g.met.K.Eq.laws.congr c.args.key.now) c.self.inside.rows.entries c.self.inside.live c.self.invariant _ c.empty.ensures.entries
+    ∙ emptied_at g.K.PartialEq.eq (g.K.PartialEq.eq c.args.key.now) (g.met.K.Eq.laws.congr c.args.key.now) c.self.inside.rows.entries c.self.inside.live c.self.invariant _ c.empty_at.ensures.entries
     ∙ ap (λ (t : Places g.row.K.Denot g.row.V.Denot). remove_entry (g.K.PartialEq.eq c.args.key.now) (entries t)) c.self.view_is

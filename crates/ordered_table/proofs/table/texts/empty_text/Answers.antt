@@ -1,8 +1,0 @@
-use Rattle.std.proofs.Common.{◌∙◌, sym, ap, None}
-use Rattle.ordered_table.specs.Texts.{by_text}
-use Rattle.ordered_table.proofs.Gaps.{set_none}
-use Rattle.ordered_table.proofs.table.texts.empty_text.Goals as goal
-
-pub returns-in-None-clause-entries : goal.returns-in-None-clause-entries
-returns-in-None-clause-entries g c =
-    ap (λ m. m.entries) c.get_mut.follows.holds-at-none ∙ sym (set_none (by_text c.args.text.now) c.args.rows.now.entries None (sym c.in-None.ensures.value))
