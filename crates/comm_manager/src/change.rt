@@ -9,6 +9,7 @@ ghost use Rattle.comm_core.specs.Row.{rows, with_row};
 ghost use Rattle.comm_core.specs.Tables.{IdleWhere};
 ghost use Rattle.comm_targets.specs.Meaning.{IsIdle};
 ghost use Rattle.comm_manager.specs.Asked.{ready_entry};
+ghost use Rattle.comm_manager.specs.JournalView.{IsShare};
 ghost use Rattle.comm_manager.specs.Log.{HasRoom, HasSeenAll, IsAppended, IsCounted, IsStampOf, IsTotal, IsUnchanged};
 ghost use Rattle.comm_manager.specs.Log.{LogInvariant, register_call};
 ghost use Rattle.comm_manager.specs.UnderLock.{OutboxInvariant};
@@ -37,29 +38,29 @@ pub struct AnsweredChange<M: ManagerId, T: Target> {
     pub ended: Option<Held<T>>,
 }
 
-// Makes the change of this entry and this row pending. Gives the entry twice more, for the history and the queue. Err:
-// memory; nothing is pending.
-fn append<M: ManagerId>(
+// Makes the change of this entry and this row pending. Gives what the history keeps of the entry, and the entry once
+// more, for the queue. Err: memory; nothing is pending.
+fn append<M: ManagerId, S: HistoryStore>(
     writer: &mut VersionWriter<M>,
     entry: Arc<Entry, Global>,
     row: Row,
-) -> Result<(Arc<Entry, Global>, Arc<Entry, Global>), AllocError>
+) -> Result<(Option<Arc<Entry, Global>>, Arc<Entry, Global>), AllocError>
     requires legal { IsLegal M.limits.clients M.limits.comms
         ((writer.old.front ++ writer.old.pending) ++ arc_value entry ∷ []) }
     requires row { with_row row (rows (replay M.limits.comms (writer.old.front ++ writer.old.pending)))
         ≡ rows (replay M.limits.comms
         ((writer.old.front ++ writer.old.pending) ++ arc_value entry ∷ [])) }
-    ensures kept { IfOk result (λ r. arc_value r.0 ≡ arc_value entry) }
+    ensures kept { IfOk result (λ r. IsShare S.keeps_entries r.0 (arc_value entry)) }
     ensures sent { IfOk result (λ r. arc_value r.1 ≡ arc_value entry) }
     ensures front { writer.new.front ≡ writer.old.front }
     ensures pending { MatchResult result
         (λ _. writer.new.pending ≡ writer.old.pending ++ arc_value entry ∷ [])
         (λ _. writer.new.pending ≡ writer.old.pending) }
 {
-    let kept = Arc::try_clone(&entry)?;
+    let share = S::share(&entry)?;
     let sent = Arc::try_clone(&entry)?;
     writer.append(Change::new(entry, row))?;
-    Ok((kept, sent))
+    Ok((share, sent))
 }
 
 // Publishes what is pending, and lets the reader hear of it.
@@ -164,18 +165,18 @@ fn complete<M: ManagerId, S: HistoryStore, R: Wait>(
     log: &mut ChangeLog<M, S>,
     reader: &mut VersionReader<M>,
     seq: &mut ClientSeq<M>,
-    kept: Arc<Entry, Global>,
+    share: Option<Arc<Entry, Global>>,
     sent: Arc<Entry, Global>,
 ) -> (u64, Stamp<M>)
     requires room { (log.old.journal.room ≡ true) × (2 ≤ log.old.outbox.room) }
     requires puts { OutboxInvariant M.queue M.limits log.old.journal.all log.old.outbox }
-    requires one { arc_value sent ≡ arc_value kept }
+    requires kept { IsShare S.keeps_entries share (arc_value sent) }
     requires front { log.old.writer.front ≡ log.old.journal.all }
-    requires pending { log.old.writer.pending ≡ arc_value kept ∷ [] }
+    requires pending { log.old.writer.pending ≡ arc_value sent ∷ [] }
     requires few { length log.old.journal.all < 4294967296 }
     requires number { seq.old.number < 2 ^ 62 }
     requires seen { length reader.old ≤ length log.old.journal.all }
-    ensures history { log.new.journal.all ≡ log.old.journal.all ++ arc_value kept ∷ [] }
+    ensures history { log.new.journal.all ≡ log.old.journal.all ++ arc_value sent ∷ [] }
     ensures limits { log.new.limits ≡ log.old.limits }
     ensures front { (log.new.writer.front ≡ log.new.journal.all) × (log.new.writer.pending ≡ []) }
     ensures stamp { IsStampOf log.new result.0 result.1 }
@@ -185,7 +186,7 @@ fn complete<M: ManagerId, S: HistoryStore, R: Wait>(
     ensures seq { seq.new ≡ seq_view seq.old.client (seq.old.number + 1) }
 {
     let stamp = publish(rt, &mut log.writer, reader);
-    log.journal.add(kept, stamp.copy());
+    log.journal.add(share, stamp.copy());
     log.outbox.put(rt, sent);
     log.totals.increment(seq);
     (stamp.number(), stamp)
@@ -236,10 +237,10 @@ fn carry_out<M: ManagerId, T: Target, S: HistoryStore, R: Wait>(
     legal_histories_grow();
     rows_are_what_entries_change();
     let Recording { change, entry, row } = recording;
-    match append(&mut log.writer, entry, row) {
-        Ok((kept, sent)) => {
+    match append::<M, S>(&mut log.writer, entry, row) {
+        Ok((share, sent)) => {
             let (reply, ended) = core.commit_recorded(change);
-            let (number, stamp) = complete(rt, log, reader, seq, kept, sent);
+            let (number, stamp) = complete(rt, log, reader, seq, share, sent);
             Ok(AnsweredChange {
                 answered: Answered {
                     number,

@@ -11,6 +11,7 @@ ghost use Rattle.comm_core.specs.declared.entry.Entry.TheVariants.{End};
 ghost use Rattle.comm_core.specs.declared.row.Row.TheVariants as row;
 ghost use Rattle.comm_targets.specs.Meaning.{IsIdle};
 ghost use Rattle.comm_manager.specs.Asked.{IsNext};
+ghost use Rattle.comm_manager.specs.JournalView.{IsShare};
 ghost use Rattle.comm_outbox.specs.Sides.{entries_of, new_outbox};
 ghost use Rattle.comm_manager.specs.Log.{register_call};
 ghost use Rattle.comm_manager.specs.UnderLock.{OutboxInvariant, counts};
@@ -254,29 +255,31 @@ pub struct Farewell<S = KeptHistory> {
     pub untaken: Vec<Arc<Entry, Global>>,
 }
 
-// The change of an end, its entry twice more, and an empty list with room for so many entries. Err: memory.
-fn build_end(
+// The change of an end, what the history keeps of its entry, the entry once more, and an empty list with room for so
+// many entries. Err: memory.
+fn build_end<S: HistoryStore>(
     alloc: Global,
     count: usize,
 ) -> Result<
     (
         Change,
-        Arc<Entry, Global>,
+        Option<Arc<Entry, Global>>,
         Arc<Entry, Global>,
         Vec<Arc<Entry, Global>>,
     ),
     AllocError,
 >
     ensures change { IfOk result (λ r. (arc_value r.0.entry ≡ End) × (r.0.row ≡ row.Clear)) }
-    ensures entries { IfOk result (λ r. (arc_value r.1 ≡ End) × (arc_value r.2 ≡ End)) }
+    ensures kept { IfOk result (λ r. IsShare S.keeps_entries r.1 End) }
+    ensures sent { IfOk result (λ r. arc_value r.2 ≡ End) }
     ensures room { IfOk result (λ r. (r.3.items ≡ []) × (count ≤ vec_capacity r.3)) }
 {
     let entry = Arc::new(alloc, Entry::End)?;
-    let kept = Arc::try_clone(&entry)?;
+    let share = S::share(&entry)?;
     let sent = Arc::try_clone(&entry)?;
     let mut room = Vec::new(alloc);
     room.reserve(count)?;
-    Ok((Change::new(entry, Row::Clear), kept, sent, room))
+    Ok((Change::new(entry, Row::Clear), share, sent, room))
 }
 
 // Ends the history, publishes that, and lets it go out. Gives the stamp of the end, and a list with room for all that
@@ -308,11 +311,11 @@ fn end_history<M: ManagerId, S: HistoryStore, R: Wait>(
     journal.reserve()?;
     let all = journal.len() as u64 + 1;
     let left = all.saturating_sub(publisher.taken());
-    let (change, kept, sent, room) = build_end(alloc, left as usize)?;
+    let (change, share, sent, room) = build_end::<S>(alloc, left as usize)?;
     writer.append(change)?;
     writer.publish(rt);
     let stamp = writer.stamp();
-    journal.add(kept, stamp.copy());
+    journal.add(share, stamp.copy());
     outbox.put(rt, sent);
     let _legal = stamp.number();
     Ok((stamp, room))

@@ -1,7 +1,8 @@
 //! The history under the lock, kept or counted.
-ghost use Rattle.std.specs.Prelude.{◌≡◌, ◌++◌, ◌∷◌, [], List, length, true, OnOk};
+ghost use Rattle.std.specs.Prelude.{◌≡◌, ◌++◌, ◌∷◌, [], List, length, true, IfOk, OnOk};
 ghost use Rattle.std.specs.Arc.{arc_value};
 ghost use Rattle.comm_core.specs.declared.entry.Entry.{Entry};
+ghost use Rattle.comm_manager.specs.JournalView.{IsShare};
 
 use crate::manager_id::ManagerId;
 use comm_core::Entry;
@@ -21,6 +22,9 @@ pub trait HistoryStore: Drop {
     // Whether there is room for one more.
     ghost has_room: { Self → Bool };
 
+    // Whether it keeps the entries.
+    ghost keeps_entries: { Bool };
+
     // Whether it is what is left of these entries where the manager has ended.
     ghost leaves: { Self → List Entry → Type 0 };
 
@@ -33,11 +37,15 @@ pub trait HistoryStore: Drop {
         ensures all { (all : List Entry) → keeps self.old all → keeps self.new all }
         ensures room { OnOk result (has_room self.new ≡ true) };
 
-    /// Appends an entry. It takes no memory.
-    fn add(&mut self, entry: Arc<Entry, Global>)
+    /// What it keeps of an entry, which it shares. Err: memory.
+    fn share(entry: &Arc<Entry, Global>) -> Result<Option<Arc<Entry, Global>>, AllocError>
+        ensures { IfOk result (λ s. IsShare keeps_entries s (arc_value entry.now)) };
+
+    /// Appends an entry, by what it keeps of it ([`HistoryStore::share`]). It takes no memory.
+    fn add(&mut self, share: Option<Arc<Entry, Global>>)
         requires { has_room self.old ≡ true }
-        ensures { (all : List Entry) → keeps self.old all
-            → keeps self.new (all ++ arc_value entry ∷ []) };
+        ensures { (all : List Entry) (e : Entry) → IsShare keeps_entries share e
+            → keeps self.old all → keeps self.new (all ++ e ∷ []) };
 
     /// What is left of so many entries.
     fn end(self, count: u64) -> Self
@@ -51,12 +59,14 @@ pub struct KeptHistory {
 }
 
 impl HistoryStore for KeptHistory {
-    ghost use Rattle.std.specs.Prelude.{◌≡◌, vec_len, vec_capacity, nat_lt};
+    ghost use Rattle.std.specs.Prelude.{◌≡◌, vec_len, vec_capacity, nat_lt, true};
     ghost use Rattle.comm_outbox.specs.Sides.{entries_of};
 
     ghost keeps = { λ s all. entries_of s.entries.items ≡ all };
 
     ghost has_room = { λ s. nat_lt (vec_len s.entries) (vec_capacity s.entries) };
+
+    ghost keeps_entries = { true };
 
     ghost leaves = { λ s all. entries_of s.entries.items ≡ all };
 
@@ -70,8 +80,14 @@ impl HistoryStore for KeptHistory {
         self.entries.reserve(1)
     }
 
-    fn add(&mut self, entry: Arc<Entry, Global>) {
-        self.entries.push_reserved(entry);
+    fn share(entry: &Arc<Entry, Global>) -> Result<Option<Arc<Entry, Global>>, AllocError> {
+        Ok(Some(Arc::try_clone(entry)?))
+    }
+
+    fn add(&mut self, share: Option<Arc<Entry, Global>>) {
+        if let Some(entry) = share {
+            self.entries.push_reserved(entry);
+        }
     }
 
     fn end(self, _count: u64) -> KeptHistory {
@@ -88,11 +104,13 @@ pub struct CountedHistory {
 }
 
 impl HistoryStore for CountedHistory {
-    ghost use Rattle.std.specs.Prelude.{◌≡◌, length, true};
+    ghost use Rattle.std.specs.Prelude.{◌≡◌, length, false, true};
 
     ghost keeps = { λ s all. Unit {0} };
 
     ghost has_room = { λ s. true };
+
+    ghost keeps_entries = { false };
 
     ghost leaves = { λ s all. s.count ≡ length all };
 
@@ -104,7 +122,11 @@ impl HistoryStore for CountedHistory {
         Ok(())
     }
 
-    fn add(&mut self, _entry: Arc<Entry, Global>) {}
+    fn share(_entry: &Arc<Entry, Global>) -> Result<Option<Arc<Entry, Global>>, AllocError> {
+        Ok(None)
+    }
+
+    fn add(&mut self, _share: Option<Arc<Entry, Global>>) {}
 
     fn end(self, count: u64) -> CountedHistory {
         CountedHistory { count }
@@ -158,13 +180,14 @@ impl<M: ManagerId, S: HistoryStore> Journal<M, S> {
         self.store.reserve()
     }
 
-    /// Appends an entry, which the stamp is the first to have seen. It takes no memory.
-    pub fn add(&mut self, entry: Arc<Entry, Global>, stamp: Stamp<M>)
+    /// Appends an entry, which the stamp is the first to have seen, by what is kept of it. It takes no memory.
+    pub fn add(&mut self, share: Option<Arc<Entry, Global>>, stamp: Stamp<M>)
         requires room { self.old.room ≡ true }
-        requires seen { stamp ≡ self.old.all ++ arc_value entry ∷ [] }
-        ensures { self.new.all ≡ self.old.all ++ arc_value entry ∷ [] }
+        requires seen { (e : Entry) × IsShare S.keeps_entries share e
+            × (stamp ≡ self.old.all ++ e ∷ []) }
+        ensures { self.new.all ≡ stamp }
     {
-        self.store.add(entry);
+        self.store.add(share);
         self.stamp = stamp;
     }
 

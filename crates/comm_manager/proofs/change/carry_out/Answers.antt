@@ -52,7 +52,7 @@ returns-in-Ok-clause-kept g c =
     let f = c.commit_recorded-reply in
     let n = c.complete-number in
     let done = f.ensures.step ∙ ap (λ (r : Reply). Some (record { reply = r; outgoing = d.outgoing; next = machine f.new.self })) f.ensures.reply in
-    let his = n.ensures.history ∙ ap (λ (e : Entry). log.journal.all ++ e ∷ []) (c.in-Ok.ensures.kept ∙ c.requires.entry) in
+    let his = n.ensures.history ∙ ap (λ (e : Entry). log.journal.all ++ e ∷ []) (c.in-Ok.ensures.sent ∙ c.requires.entry) in
     let kept =
     kept_after g.M.History.limits log.journal.all (undone c.args.core.now) c.args.core.now log.writer log.totals t.client t.number d c.requires.kept.0 c.requires.known.0 c.requires.known.1 c.requires.ready c.requires.same refl
     n.new.log.journal.all f.new.self n.new.log.writer n.new.log.totals c.legal_histories_grow.ensures c.replays_grow.ensures c.requires.below c.requires.room.2 done f.ensures.settled f.ensures.limit his n.ensures.front.0 n.ensures.front.1 n.ensures.totals in
