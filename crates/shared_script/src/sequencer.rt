@@ -114,6 +114,7 @@ impl<M: ManagerId, T: Target> Sequencer<M, T> {
     }
 
     // Keeps the stamp of a change that was made, and says why one wasn't.
+    #[inline(always)]
     fn note(
         &mut self,
         number: u64,
@@ -188,6 +189,7 @@ impl<M: ManagerId, T: Target> Sequencer<M, T> {
 
     /// Does what a line asks for, by its client, that hears of the last change first. Of a change only that is said
     /// why it isn't made; what it is answered is in the history. Err: Memory or NoReader.
+    #[inline(always)]
     pub fn execute<R: Wait>(
         &mut self,
         rt: &R,
