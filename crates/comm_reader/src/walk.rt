@@ -85,7 +85,7 @@ pub fn is_named(key: &str, name: &str) -> bool
     key.len() == name.len() && has_same_bytes(key.as_bytes(), name.as_bytes())
 }
 
-// The same of two texts of one length, byte by byte.
+// Whether two texts of one length have the same bytes.
 #[inline(always)]
 fn has_same_bytes(key: &[u8], name: &[u8]) -> bool
     requires { length key.now ≡ length name.now }

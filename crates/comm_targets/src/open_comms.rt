@@ -1,8 +1,7 @@
-ghost use Rattle.std.specs.Prelude.{◌≡◌, ◌↔◌, [], IsTrue, IsSome, None, Some, OnOk, OnErr};
+ghost use Rattle.std.specs.Prelude.{◌≡◌, ◌↔◌, [], true, IsTrue, IsSome, None, Some, OnOk, OnErr};
 ghost use Rattle.comm_targets.specs.OpenComms.{with_done, with_staged};
 ghost use Rattle.comm_targets.specs.declared.staged_event.StagedEvent.{StagedEvent};
 ghost use Rattle.comm_targets.specs.Meaning.{has_id, without, stages_message};
-ghost use Rattle.std.specs.Prelude.{true};
 
 use crate::answer::Answer;
 use crate::event::Event;

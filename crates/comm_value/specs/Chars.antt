@@ -4,5 +4,5 @@ use Rattle.comm_value.specs.declared.chars.Chars.{Chars}
 use Rattle.comm_value.specs.declared.chars.Chars.TheVariants.{Short, Long}
 
 abbrev pub bytes_in : Chars → List ℕ
-bytes_in (Short s) = s.bytes
+bytes_in (Short s) = s
 bytes_in (Long s) = string_bytes s

@@ -2,13 +2,13 @@
 ghost use Rattle.std.specs.Prelude.{◌≡◌, IfOk};
 ghost use Rattle.comm_value.specs.Chars.{bytes_in};
 
-use arrayvec::ArrayString;
+use crate::short_chars::ShortChars;
 use std::alloc::{AllocError, Global};
 
-/// The characters of a string. Up to 40 bytes stand inline beside the reference count: one allocation instead of two.
+/// The characters of a string. Up to 46 bytes stand inline beside the reference count: one allocation instead of two.
 #[derive(Drop)]
 pub(crate) enum Chars {
-    Short(ArrayString<40>),
+    Short(ShortChars),
     Long(String),
 }
 
@@ -17,9 +17,9 @@ impl Chars {
     pub(crate) fn copy_of(alloc: Global, text: &str) -> Result<Chars, AllocError>
         ensures { IfOk result (λ c. bytes_in c ≡ text.now) }
     {
-        match ArrayString::from(text) {
-            Ok(short) => Ok(Chars::Short(short)),
-            Err(_) => Ok(Chars::Long(String::from_str(alloc, text)?)),
+        match ShortChars::copy_of(text) {
+            Some(short) => Ok(Chars::Short(short)),
+            None => Ok(Chars::Long(String::from_str(alloc, text)?)),
         }
     }
 

@@ -21,7 +21,8 @@ const LONGEST: usize = 40;
 /// 24 bytes are kept, and 1,024 of up to 40, until the owner goes.
 #[derive(Drop)]
 pub struct KnownTexts {
-    places: Vec<Option<Text>>,
+    // None, or one at each place: the empty text where no other was met.
+    places: Vec<Text>,
     keeps: bool,
 }
 
@@ -49,7 +50,7 @@ impl KnownTexts {
         ensures { IfOk result (λ t. t ≡ text.now) }
     {
         let place = place_of(text.as_bytes());
-        if let Some(Some(known)) = self.places.get(place) {
+        if let Some(known) = self.places.get(place) {
             if known.is(text) {
                 return known.copy();
             }
@@ -66,23 +67,30 @@ impl KnownTexts {
             return Text::copy_of(alloc, text);
         }
         let made = Text::copy_of(alloc, text)?;
-        self.keep(place, made.copy()?)?;
+        self.keep(alloc, place, made.copy()?)?;
         Ok(made)
     }
 
     // Keeps a text at a place, in that of the one that is there. Err: out of memory.
-    fn keep(&mut self, place: usize, text: Text) -> Result<(), AllocError> {
+    fn keep(&mut self, alloc: Global, place: usize, text: Text) -> Result<(), AllocError> {
         if self.places.is_empty() {
-            self.places.reserve(2 * PLACES)?;
-            for _ in 0..2 * PLACES {
-                self.places.push(None)?;
-            }
+            self.places = empty_places(alloc)?;
         }
         if let Some(at) = self.places.get_mut(place) {
-            *at = Some(text);
+            *at = text;
         }
         Ok(())
     }
+}
+
+// The empty text, at each place. Err: out of memory.
+fn empty_places(alloc: Global) -> Result<Vec<Text>, AllocError> {
+    let empty = Text::copy_of(alloc, "")?;
+    let mut places = Vec::with_capacity(alloc, 2 * PLACES)?;
+    for _ in 0..2 * PLACES {
+        places.push(empty.copy()?)?;
+    }
+    Ok(places)
 }
 
 // Where a text is kept, by its last four bytes, in which ids differ and numbered keys too, and by its length. The short

@@ -10,9 +10,10 @@ ghost use Rattle.comm_versions.specs.Known.{origin_of};
 ghost use Rattle.comm_versions.specs.Listing.{ListsAlikeSince};
 ghost use Rattle.comm_versions.specs.declared.reads.ReadFault.TheVariants as fault;
 
+use crate::comm_table::CommTable;
 use crate::history::History;
 use crate::raw_front::RawFront;
-use crate::reader_state::{ReaderState, Shown};
+use crate::reader_state::ReaderState;
 use crate::reads::{InfoRead, ReadFault, StateRead};
 use crate::stamp::Stamp;
 use crate::version::{SeeStep, SnapshotReader, Version};
@@ -22,6 +23,7 @@ use comm_value::Text;
 use core::mem::replace_with;
 use std::alloc::{AllocError, Global};
 use std::marker::Model;
+use std::sync::Arc;
 
 /// Reads the comms that are shown. Contracts see the front that it has seen.
 #[derive(Drop)]
@@ -48,76 +50,124 @@ impl<M: History> Model for VersionReader<M> {
         × ((known_at r.snapshots.place).1.origin ≡ origin_of M.book M.limits) };
 }
 
-// A front that is shown, and its version; none where that was read already, and Err where the count of its root
-// couldn't be raised.
-type Found = (RawFront, Option<Result<Version, AllocError>>);
+// A front that is shown, and what was found of the version after it.
+type Found<T> = (RawFront, T);
 
-// The version that is shown; its front includes what was shown before. The one after so many entries was read already:
-// threads that share its count would wait for each other.
+// The front that is shown, and the state after it of the comm of this id. None: nothing is shown any more.
 //
-// A publish waits for readers that are inside, from `enter_as` to `leave`. So nothing is done there but to share the
-// root and to copy the front: no memory is taken, no string compared, nothing else counted. No contract says that.
-fn current_version(snapshots: SnapshotReader, known: Option<u64>) -> (SnapshotReader, Option<Found>)
+// A publish waits for readers that are inside, from `enter_as` to `leave`. So nothing is done there but to search for
+// the comm, to count its state, and to copy the front: no memory is taken, and no count is raised that others raise
+// for other comms. No contract says that.
+fn look_up(
+    snapshots: SnapshotReader,
+    id: &Text,
+) -> (SnapshotReader, Option<Found<Result<StateAnswer, AllocError>>>)
     requires { (view snapshots.place).0 ≡ true }
     ensures knows { ((view result.0.place).0 ≡ true)
         × ((view result.0.place).1.origin ≡ (view snapshots.place).1.origin) }
     ensures found { IfSome result.1 (λ r.
         (r.0.origin ≡ (view snapshots.place).1.origin)
         × IsPrefix (view snapshots.place).1.entries r.0.entries
-        × IfSome r.1 (λ o. IfOk o (λ v. v.front ≡ r.0))) }
+        × IfOk r.1 (λ a. a ≡ state_of (replay r.0.origin.limit r.0.entries) id.now)) }
 {
     match snapshots.enter_as::<SeeStep>() {
         Ok(reading) => {
-            let shown = reading.get();
-            let raw = shown.front.copy();
-            let version = match known {
-                Some(count) if count == raw.len() => None,
-                _ => Some(shown.try_clone()),
-            };
-            (reading.leave(), Some((raw, version)))
+            let found = state_in(reading.get(), id);
+            (reading.leave(), Some(found))
         }
         Err(snapshots) => (snapshots, None),
     }
 }
 
-// Takes note of the version that was found. NoVersion comes only where none was. A version whose root couldn't be
-// shared is want of memory. So is one that lags behind what was seen: there is none, since a stamp is made after its
-// front was published, but no contract says so.
-fn see<M: History>(reader_state: &mut ReaderState<M>, found: Option<Found>) -> Result<(), ReadFault>
-    requires origin { IfSome found (λ r. r.0.origin ≡ origin_of M.book M.limits) }
-    requires version { IfSome found (λ r. IfSome r.1 (λ o. IfOk o (λ v. v.front ≡ r.0))) }
-    ensures later { IsPrefix reader_state.old reader_state.new }
-    ensures nothing { IsErrOf result fault.NoVersion → found ≡ None }
-    ensures none { IsErrOf result fault.NoVersion → reader_state.new ≡ reader_state.old }
+// The front of a version, and the state of the comm of this id in it.
+fn state_in(shown: &Version, id: &Text) -> Found<Result<StateAnswer, AllocError>>
+    ensures front { result.0 ≡ shown.now.front }
+    ensures state { IfOk result.1 (λ a.
+        a ≡ state_of (replay shown.now.front.origin.limit shown.now.front.entries) id.now) }
 {
-    let Some((raw, version)) = found else {
-        return Err(ReadFault::NoVersion);
+    let front = shown.front.copy();
+    let _legal = front.len();
+    replays_are_consistent();
+    comms_in_order_are_the_comms();
+    (front, shown.root.state(id))
+}
+
+// What was found of a version to list its comms.
+#[derive(Drop)]
+struct FoundListing {
+    // Since when its listing is the same.
+    listing_since: u64,
+    // Its table. None: a list that was read after so many entries still holds.
+    root: Option<Result<Arc<CommTable, Global>, AllocError>>,
+}
+
+// The front that is shown, and what its list of comms is made of, if not of the one that was read after so many
+// entries. None: nothing is shown any more. It does no more inside than `look_up` does.
+fn find_listing(
+    snapshots: SnapshotReader,
+    listed_at: Option<u64>,
+) -> (SnapshotReader, Option<Found<FoundListing>>)
+    requires { (view snapshots.place).0 ≡ true }
+    ensures knows { ((view result.0.place).0 ≡ true)
+        × ((view result.0.place).1.origin ≡ (view snapshots.place).1.origin) }
+    ensures found { IfSome result.1 (λ r.
+        (r.0.origin ≡ (view snapshots.place).1.origin)
+        × IsPrefix (view snapshots.place).1.entries r.0.entries
+        × ListsAlikeSince r.0.origin.limit r.1.listing_since r.0.entries
+        × IfSome r.1.root (λ o. IfOk o (λ t.
+        arc_value t ≡ rows (replay r.0.origin.limit r.0.entries)))) }
+{
+    match snapshots.enter_as::<SeeStep>() {
+        Ok(reading) => {
+            let found = listing_in(reading.get(), listed_at);
+            (reading.leave(), Some(found))
+        }
+        Err(snapshots) => (snapshots, None),
+    }
+}
+
+// The front of a version, and what its list of comms is made of.
+fn listing_in(shown: &Version, listed_at: Option<u64>) -> Found<FoundListing>
+    ensures front { result.0 ≡ shown.now.front }
+    ensures settled { ListsAlikeSince shown.now.front.origin.limit result.1.listing_since
+        shown.now.front.entries }
+    ensures root { IfSome result.1.root (λ o. IfOk o (λ t.
+        arc_value t ≡ rows (replay shown.now.front.origin.limit shown.now.front.entries))) }
+{
+    let listing_since = shown.listing_since;
+    let root = match listed_at {
+        Some(count) if listing_since < count => None,
+        _ => {
+            let root: Result<_, _> = Arc::try_clone(&shown.root);
+            Some(root)
+        }
     };
-    let Some(version) = version else {
-        return Ok(());
-    };
+    (
+        shown.front.copy(),
+        FoundListing {
+            listing_since,
+            root,
+        },
+    )
+}
+
+// Takes note of a front that was found. A front that lags behind what was seen is want of memory: there is none, since
+// a stamp is made after its front was published, but no contract says so.
+fn see<M: History>(reader_state: &mut ReaderState<M>, raw: RawFront) -> Result<u64, ReadFault>
+    requires { raw.origin ≡ origin_of M.book M.limits }
+    ensures later { IsPrefix reader_state.old reader_state.new }
+    ensures seen { OnOk result (reader_state.new ≡ raw.entries) }
+    ensures legal { OnOk result (IsLegal M.limits.clients M.limits.comms reader_state.new) }
+    ensures length { IfOk result (λ n. n ≡ length reader_state.new) }
+    ensures version { IsErrOf result fault.NoVersion → ⊥ }
+{
     let front: Stamp<M> = Stamp::from_raw(raw);
     if !reader_state.front().is_prefix_of(&front) {
         return Err(ReadFault::Memory);
     }
-    match version {
-        Ok(version) => {
-            let listing_since = version.listing_since;
-            let root = version.into_root();
-            reader_state.read(
-                front,
-                Shown {
-                    root,
-                    listing_since,
-                },
-            );
-            Ok(())
-        }
-        Err(_) => {
-            reader_state.advance(front);
-            Err(ReadFault::Memory)
-        }
-    }
+    let number = front.number();
+    reader_state.advance(front);
+    Ok(number)
 }
 
 impl<M: History> VersionReader<M> {
@@ -133,52 +183,30 @@ impl<M: History> VersionReader<M> {
         }
     }
 
-    // Sees what is shown now. Its front includes all that was seen before.
-    fn enter(&mut self) -> Result<(), ReadFault>
-        ensures later { IsPrefix self.old self.new }
-        ensures legal { OnOk result (IsLegal M.limits.clients M.limits.comms self.new) }
-        ensures none { IsErrOf result fault.NoVersion → self.new ≡ self.old }
-    {
-        let known = self.reader_state.shown_at();
-        let found = replace_with(
-            &mut self.snapshots,
-            known,
-            |snapshots, known| current_version(snapshots, known),
-        );
-        see(&mut self.reader_state, found)?;
-        let _legal = self.reader_state.front().number();
-        Ok(())
-    }
-
     // The comms that are shown and asked for: the cached list, where no comm opened or closed since it was read. Err:
-    // memory, or nothing was read of what is shown.
-    fn list(&mut self, alloc: Global, asked: Option<&Text>) -> Result<Infos, AllocError>
+    // memory.
+    fn list(
+        &mut self,
+        alloc: Global,
+        asked: Option<&Text>,
+        found: FoundListing,
+    ) -> Result<Infos, AllocError>
+        requires settled { ListsAlikeSince M.limits.comms found.listing_since self.old }
+        requires root { IfSome found.root (λ o. IfOk o (λ t.
+            arc_value t ≡ rows (replay M.limits.comms self.old))) }
         ensures seen { self.new ≡ self.old }
         ensures comms { IfOk result (λ i.
             i ≡ infos (replay M.limits.comms self.old) (option_map (λ t. t.now) asked.entry)) }
     {
-        let Some(shown) = self.reader_state.shown() else {
-            return Err(AllocError);
-        };
-        if let Some(comms) = self.reader_state.cached_infos(shown.listing_since, asked) {
+        if let Some(comms) = self.reader_state.cached_infos(found.listing_since, asked) {
             return comms.copy();
         }
-        let comms = shown.root.infos(alloc, asked)?;
-        self.reader_state.keep(asked, &comms)?;
-        Ok(comms)
-    }
-
-    // The state of the comm of this id that is shown. Err: memory, or nothing was read of what is shown.
-    fn state(&self, id: &Text) -> Result<StateAnswer, AllocError>
-        requires { IsLegal M.limits.clients M.limits.comms self.now }
-        ensures { IfOk result (λ a. a ≡ state_of (replay M.limits.comms self.now) id.now) }
-    {
-        replays_are_consistent();
-        comms_in_order_are_the_comms();
-        let Some(shown) = self.reader_state.shown() else {
+        let Some(root) = found.root else {
             return Err(AllocError);
         };
-        shown.root.state(id)
+        let comms = root?.infos(alloc, asked)?;
+        self.reader_state.keep(asked, &comms)?;
+        Ok(comms)
     }
 
     /// The open comms with the names of their targets, all or those of one target, after the entries that are then
@@ -193,9 +221,17 @@ impl<M: History> VersionReader<M> {
             (option_map (λ t. t.now) asked.entry)) }
         ensures none { IsErrOf result fault.NoVersion → self.new ≡ self.old }
     {
-        self.enter()?;
-        let front = self.reader_state.front().number();
-        match self.list(alloc, asked) {
+        let listed_at = self.reader_state.listed_at(asked);
+        let found = replace_with(
+            &mut self.snapshots,
+            listed_at,
+            |snapshots, listed_at| find_listing(snapshots, listed_at),
+        );
+        let Some((raw, found)) = found else {
+            return Err(ReadFault::NoVersion);
+        };
+        let front = see(&mut self.reader_state, raw)?;
+        match self.list(alloc, asked, found) {
             Ok(comms) => Ok(InfoRead { front, comms }),
             Err(_) => Err(ReadFault::Memory),
         }
@@ -211,9 +247,12 @@ impl<M: History> VersionReader<M> {
             r.answer ≡ state_of (replay M.limits.comms self.new) id.now) }
         ensures none { IsErrOf result fault.NoVersion → self.new ≡ self.old }
     {
-        self.enter()?;
-        let front = self.reader_state.front().number();
-        match self.state(id) {
+        let found = replace_with(&mut self.snapshots, id, |snapshots, id| look_up(snapshots, id));
+        let Some((raw, answer)) = found else {
+            return Err(ReadFault::NoVersion);
+        };
+        let front = see(&mut self.reader_state, raw)?;
+        match answer {
             Ok(answer) => Ok(StateRead { front, answer }),
             Err(_) => Err(ReadFault::Memory),
         }

@@ -56,18 +56,6 @@ impl Version {
         }
     }
 
-    /// The root of its table.
-    pub fn into_root(self) -> Arc<CommTable, Global>
-        ensures { result ≡ self.root }
-    {
-        let Self {
-            root,
-            listing_since: _,
-            front: _front,
-        } = self;
-        root
-    }
-
     /// A copy that shares the root. Err: its count can't be raised.
     pub fn try_clone(&self) -> Result<Version, AllocError>
         ensures front { IfOk result (λ v. v.front ≡ self.now.front) }

@@ -69,8 +69,8 @@ impl<K: Eq + Hash + Drop, V: Drop> Table<K, V> {
         self.live += 1;
     }
 
-    /// Removes a key's entry, which probably stands at this place ([`Table::find`]), where it is sought first, and gives
-    /// its value; the others keep their order. None: no entry has the key. O(1) amortized.
+    /// Removes a key's entry, which probably stands at this place ([`Table::find`]), where it is sought first, and
+    /// gives its value; the others keep their order. None: no entry has the key. O(1) amortized.
     pub fn take_at(&mut self, place: usize, key: &K) -> Option<V>
         ensures taken { result ≡ lookup (K.eq key.now) (entries self.old) }
         ensures entries { entries self.new ≡ remove_entry (K.eq key.now) (entries self.old) }

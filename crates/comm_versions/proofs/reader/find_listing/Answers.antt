@@ -1,5 +1,5 @@
 use Rattle.comm_versions.proofs.Seats.{reads}
-use Rattle.comm_versions.proofs.reader.current_version.Goals as goal
+use Rattle.comm_versions.proofs.reader.find_listing.Goals as goal
 
 pub enter_as-requires : goal.enter_as-requires
 enter_as-requires c x = reads _ _ x
