@@ -38,7 +38,7 @@ appends_known : (now : Option (List ℕ)) (said : List ℕ) → Appends now (app
 appends_known None said = tt
 appends_known (Some xs) said = refl
 
-pub short_chunk : (n : ℕ) (buf : List ℕ) → length buf ≤ 32768 → length (take n buf) ≤ 32768
+pub short_chunk : (n : ℕ) (buf : List ℕ) → length buf ≤ 16384 → length (take n buf) ≤ 16384
 short_chunk n buf few = omega (arith, length-take n buf)
 
 -- ---- by which numbers are values
@@ -191,7 +191,7 @@ module _ (numbers : Numbers) where
 
   -- a piece has come, and none of its lines is answered
   pub pauses_streams : {S : Type 0} (stands : Limits → Standing → S → Type 0) (limits : Limits) (stock : List Registered) (input : List ℕ) (before now left new : Option (List ℕ)) (s : S) (number : ℕ) (pending piece : List ℕ)
-      → Streams stands limits stock input before now left s number pending → has_line_feed pending ≡ false → Consumes left new piece → length piece ≤ 32768 → Pauses numbers limits stock input new before now
+      → Streams stands limits stock input before now left s number pending → has_line_feed pending ≡ false → Consumes left new piece → length piece ≤ 16384 → Pauses numbers limits stock input new before now
   pauses_streams stands limits stock input before now left new s number pending piece h one_line read short =
       let after = left_after left new h.rest piece h.known read in
       record {

@@ -116,7 +116,7 @@ module _ (numbers : Numbers) where
   abbrev pub history_of : Limits → List Registered → List ℕ → List Entry
   history_of limits stock input = (script limits stock input).after.history
 
-  -- The lines are answered that were whole before the last piece was read, which is at most 32,768 bytes. Nothing else
+  -- The lines are answered that were whole before the last piece was read, which is at most 16,384 bytes. Nothing else
   -- is: neither what was cut then, nor the piece, nor the rest, which is left.
   pub record Pauses (limits : Limits) (stock : List Registered) (input : List ℕ) (left before now : Option (List ℕ))
       : Type 0 where
@@ -125,7 +125,7 @@ module _ (numbers : Numbers) where
     pub cut : List ℕ
     pub one_line : has_line_feed cut ≡ false
     pub piece : List ℕ
-    pub short : length piece ≤ 32768
+    pub short : length piece ≤ 16384
     pub rest : List ℕ
     pub known : left ≡ Some rest
     pub is : input ≡ whole ++ (cut ++ (piece ++ rest))

@@ -18,7 +18,7 @@ use std::io::{Read, Write};
 
 /// Plays the script that the reader has, each line as it ends, and writes what is said to it and nothing else.
 ///
-/// What the lines of a chunk of 32 KiB say is written before the next chunk is read. A reader that was called
+/// What the lines of a chunk of 16 KiB say is written before the next chunk is read. A reader that was called
 /// 4,294,967,295 times without ending gives Read, and so does one that fails; a call that was interrupted is made
 /// again. Whatever comes, what was written is the beginning of what the script gives: after Read what the lines give
 /// that were read whole, and after Memory what those give that were whole before the last chunk was read, so that no

@@ -18,8 +18,8 @@ use comm_value::Numbers;
 use std::alloc::Global;
 use std::io::{ErrorKind, Read, Write};
 
-/// How many bytes of a script are read at a time, at most.
-const CHUNK: usize = 32_768;
+/// How many bytes of a script are read at a time, at most. What they say waits in memory until the last is played.
+const CHUNK: usize = 16_384;
 
 // Plays the line that what is pending and its end make; nothing is pending then. A line that lies in one chunk isn't
 // put together so, but played where it is.
@@ -154,7 +154,7 @@ fn play_last<B: Backend, F: Fn(&mut B, u64, u8, Request, &mut Vec<u8>) -> Result
 /// Plays the script that the reader has, each line as it ends, over a backend that has played nothing, and writes
 /// what is said to it.
 ///
-/// What the lines of a chunk of 32 KiB say is written before the next chunk is read. A reader that was called
+/// What the lines of a chunk of 16 KiB say is written before the next chunk is read. A reader that was called
 /// 4,294,967,295 times without ending gives Read, and so does one that fails; a call that was interrupted is made
 /// again.
 pub fn play_script<

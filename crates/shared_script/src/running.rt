@@ -19,7 +19,7 @@ use std::sync::Wait;
 
 /// Plays the script that the reader has over a manager that threads share, each line as it ends.
 ///
-/// What the lines of a chunk of 32 KiB say is written before the next chunk is read. A reader that was called
+/// What the lines of a chunk of 16 KiB say is written before the next chunk is read. A reader that was called
 /// 4,294,967,295 times without ending gives Read, and so does one that fails; a call that was interrupted is made
 /// again. With `Numbers::Any` a number that isn't whole is a value too, by its text. NoReader comes where a client has
 /// no version to read. Whatever comes, each target that was registered is ended, after its comms, and the rest of the

@@ -85,7 +85,7 @@ returns-clause-read g c = λ is limits stock stands.
 
 pub returns-in_err-play_last-in-Ok-eq0-clause-memory : goal.returns-in_err-play_last-in-Ok-eq0-clause-memory
 returns-in_err-play_last-in-Ok-eq0-clause-memory g c =
-    let few : length c.read.new.buf ≤ 32768 = omega arith in
+    let few : length c.read.new.buf ≤ 16384 = omega arith in
     λ is limits stock stands.
     if_some _ _ _
     (λ input h. pauses_streams c.args.numbers g.B.Backend.stands limits stock input _ _ _ _ c.loop.backend c.loop.number c.loop.pending.items _ h c.loop.invariant.one_line c.in-Ok-eq0.ensures.bytes.0 (short_chunk c.in-Ok-eq0.field-0 c.read.new.buf few))
@@ -93,7 +93,7 @@ returns-in_err-play_last-in-Ok-eq0-clause-memory g c =
 
 pub returns-in_err-play_chunk-in-Ok-clause-memory : goal.returns-in_err-play_chunk-in-Ok-clause-memory
 returns-in_err-play_chunk-in-Ok-clause-memory g c =
-    let few : length c.read.new.buf ≤ 32768 = omega arith in
+    let few : length c.read.new.buf ≤ 16384 = omega arith in
     λ is limits stock stands.
     if_some _ _ _
     (λ input h. pauses_streams c.args.numbers g.B.Backend.stands limits stock input _ _ _ _ c.loop.backend c.loop.number c.loop.pending.items _ h c.loop.invariant.one_line c.in-Ok.ensures.bytes.0 (short_chunk c.in-Ok.n c.read.new.buf few))

@@ -8,7 +8,7 @@ use Rattle.comm_script.proofs.stream.play_script.Given as goal
 
 abbrev pub invariant-loop : goal.invariant-loop
 invariant-loop g l = record {
-  room : l.number ≤ 32768 * l.counter;
+  room : l.number ≤ 16384 * l.counter;
   within : g.B.Backend.change_count l.backend ≤ l.number;
   kept : g.B.Backend.is_sound l.clients l.backend;
   one_line : has_line_feed l.pending.items ≡ false;
