@@ -61,7 +61,10 @@ type Found<T> = (RawFront, T);
 fn look_up(
     snapshots: SnapshotReader,
     id: &Text,
-) -> (SnapshotReader, Option<Found<Result<StateAnswer, AllocError>>>)
+) -> (
+    SnapshotReader,
+    Option<Found<Result<StateAnswer, AllocError>>>,
+)
     requires { (view snapshots.place).0 ≡ true }
     ensures knows { ((view result.0.place).0 ≡ true)
         × ((view result.0.place).1.origin ≡ (view snapshots.place).1.origin) }
@@ -247,7 +250,11 @@ impl<M: History> VersionReader<M> {
             r.answer ≡ state_of (replay M.limits.comms self.new) id.now) }
         ensures none { IsErrOf result fault.NoVersion → self.new ≡ self.old }
     {
-        let found = replace_with(&mut self.snapshots, id, |snapshots, id| look_up(snapshots, id));
+        let found = replace_with(
+            &mut self.snapshots,
+            id,
+            |snapshots, id| look_up(snapshots, id),
+        );
         let Some((raw, answer)) = found else {
             return Err(ReadFault::NoVersion);
         };

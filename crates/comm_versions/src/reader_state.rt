@@ -59,10 +59,7 @@ impl<M: History> ReaderState<M> {
     pub fn new(front: Stamp<M>) -> ReaderState<M>
         ensures { result ≡ front }
     {
-        ReaderState {
-            front,
-            last: None,
-        }
+        ReaderState { front, last: None }
     }
 
     /// The front that the reader has seen.
