@@ -25,7 +25,6 @@ use Rattle.comm_versions.specs.contracts.writer.VersionWriter as writer
 use Rattle.comm_versions.proofs.raw_front.RawFront.TheSendSync as RawFront
 use Rattle.comm_versions.proofs.published_front.PublishedFront.TheSendSync as PublishedFront
 use Rattle.comm_versions.specs.contracts.reader_state.ReaderState as reader_state
-use Rattle.comm_versions.specs.contracts.reader_state.Shown as shown
 use Rattle.comm_versions.proofs.history.Head.TheSendSync as Head
 use Rattle.comm_versions.proofs.stamp.Stamp.TheSendSync as Stamp
 use Rattle.comm_versions.specs.contracts.comm_table.CommTable as comm_table
@@ -56,12 +55,6 @@ version_send = search (sendable, crosses, comm_table_send, comm_table_sync, RawF
 
 pub version_sync : IsSync version.the_row
 version_sync = search (sendable, crosses, comm_table_send, comm_table_sync, RawFront.the_sync) depth 40
-
-shown_send : IsSend shown.the_row
-shown_send = search (sendable, crosses, comm_table_send, comm_table_sync) depth 40
-
-shown_field_send : IsSend (option.the_field shown.the_row).row
-shown_field_send = search (sendable, crosses, shown_send) depth 40
 
 pub pending_entry_send : IsSend pending_entry.the_row
 pending_entry_send = search (sendable, crosses, comm_table_send, comm_table_sync, entry_send, entry_sync) depth 40
@@ -95,7 +88,7 @@ table_buffers_send = view_send _ _ _ _ _ (recorded_send (inside.the_field).row _
 
 module _ (M : RattleType) (j : history.Ghosts M.Denot) (sj : IsSend M) (yj : IsSync M) where
   reader_state_send : IsSend (reader_state.the_row M j)
-  reader_state_send = search (sendable, crosses, shown_send, comm_table_send, comm_table_sync, Stamp.the_send) depth 60 fits 20000
+  reader_state_send = search (sendable, crosses, Stamp.the_send) depth 60 fits 20000
 
   pub reader_send : IsSend (reader.the_row M j)
   reader_send = search (sendable, crosses, reader_state_send, version_sync, SnapshotReader.the_field_send) depth 60 fits 20000
