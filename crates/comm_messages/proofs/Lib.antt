@@ -1,4 +1,5 @@
 pub mod ObjectLemmas
+pub mod Base64Text
 pub mod BufferLemmas
 pub mod NoBytes
 pub mod WriteLemmas

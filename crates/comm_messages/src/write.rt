@@ -15,6 +15,7 @@ ghost use Rattle.comm_messages.specs.Parts.{content_text, info_text, metadata_te
 use crate::infos::{Info, Infos};
 use crate::outgoing::{Outgoing, Parent};
 use crate::outgoing_body::OutgoingBody;
+use base64::encoded_len;
 use base64::engine::general_purpose::STANDARD;
 use comm_value::{Buffers, Bytes, Text, write_text};
 use std::alloc::{AllocError, Global};
@@ -29,14 +30,13 @@ pub fn write_message(
     ensures { IfOk result (λ bytes. bytes.items ≡ text message.now parent.now) }
 {
     let mut out = Vec::new(alloc);
-    append_message(alloc, message, parent, &mut out)?;
+    append_message(message, parent, &mut out)?;
     Ok(out)
 }
 
 /// Appends the JSON text of a message, as [`write_message`] gives it. Err: out of memory; `out` may hold a part of
 /// the text.
 pub fn append_message(
-    alloc: Global,
     message: &Outgoing,
     parent: &Parent,
     out: &mut Vec<u8>,
@@ -51,7 +51,7 @@ pub fn append_message(
         return Ok(());
     }
     append(b"{\"buffers\":[", out)?;
-    append_buffers_of(alloc, message, out)?;
+    append_buffers_of(message, out)?;
     append_parent(parent, out)?;
     append(b",\"content\":", out)?;
     append_content(message, out)?;
@@ -293,12 +293,11 @@ fn append_number(number: u64, out: &mut Vec<u8>) -> Result<(), AllocError>
 }
 
 // The items of the list and its closing bracket.
-fn append_buffers_of(alloc: Global, message: &Outgoing, out: &mut Vec<u8>) -> Result<(), AllocError>
+fn append_buffers_of(message: &Outgoing, out: &mut Vec<u8>) -> Result<(), AllocError>
     ensures { OnOk result (GrowsBy out.old.items (buffers_text message.now) out.new.items) }
 {
     match message {
         Outgoing::Open { body, .. } | Outgoing::Msg { body, .. } => append_buffers(
-            alloc,
             body.buffers(),
             out,
         )?,
@@ -309,27 +308,43 @@ fn append_buffers_of(alloc: Global, message: &Outgoing, out: &mut Vec<u8>) -> Re
 
 /// Appends buffers in base64 with padding (RFC 4648, section 4), as the items of a JSON list and its closing bracket.
 /// Err: out of memory; `out` may hold a part of the text.
-pub fn append_buffers(alloc: Global, buffers: &Buffers, out: &mut Vec<u8>) -> Result<(), AllocError>
+pub fn append_buffers(buffers: &Buffers, out: &mut Vec<u8>) -> Result<(), AllocError>
     ensures { OnOk result
         (GrowsBy out.old.items (items_text false (buffer_texts buffers.now)) out.new.items) }
 {
     for (number, buffer) in buffers.as_slice().iter().enumerate() {
-        append_buffer(alloc, number, buffer, out)?;
+        append_buffer(number, buffer, out)?;
     }
     append(b"]", out)
 }
 
-fn append_buffer(
-    alloc: Global,
-    number: usize,
-    buffer: &Bytes,
-    out: &mut Vec<u8>,
-) -> Result<(), AllocError>
+fn append_buffer(number: usize, buffer: &Bytes, out: &mut Vec<u8>) -> Result<(), AllocError>
     ensures { OnOk result (GrowsBy out.old.items
         (comma_if (nat_lt 0 number) ++ quoted (encode_of standard buffer.now)) out.new.items) }
 {
     append_comma(number, out)?;
-    let text = STANDARD.encode(alloc, buffer.as_slice())?;
-    write_text(text.as_str(), out)?;
+    append_base64(buffer.as_slice(), out)?;
+    Ok(())
+}
+
+// Appends bytes in base64 as a JSON string; they are encoded right where they stay. Err: out of memory.
+fn append_base64(bytes: &[u8], out: &mut Vec<u8>) -> Result<(), AllocError>
+    ensures { OnOk result
+        (GrowsBy out.old.items (quoted (encode_of standard bytes.now)) out.new.items) }
+{
+    let Some(len) = encoded_len(bytes.len(), true) else {
+        return Err(AllocError);
+    };
+    append(b"\"", out)?;
+    let start = out.len();
+    let Some(end) = start.checked_add(len) else {
+        return Err(AllocError);
+    };
+    out.resize(end, 0)?;
+    let text = &mut out.as_mut_slice()[start..];
+    if STANDARD.encode_slice(bytes, text).is_err() {
+        unreachable!();
+    }
+    append(b"\"", out)?;
     Ok(())
 }
