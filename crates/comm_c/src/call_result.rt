@@ -129,7 +129,7 @@ impl CallResult {
                     client: *client,
                     front: *front,
                 };
-                append_outs(alloc, sent.as_slice(), &parent, text)?;
+                append_outs(sent.as_slice(), &parent, text)?;
             }
             CallResult::State { front, answer } => append_state_line(alloc, *front, answer, text)?,
             CallResult::Change(made) => {
@@ -137,8 +137,8 @@ impl CallResult {
                     client: made.client,
                     number: made.call,
                 };
-                append_reply(alloc, made.number, &made.reply, text)?;
-                append_outs(alloc, made.sent.as_slice(), &parent, text)?;
+                append_reply(made.number, &made.reply, text)?;
+                append_outs(made.sent.as_slice(), &parent, text)?;
             }
         }
         Ok(())

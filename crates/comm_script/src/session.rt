@@ -63,7 +63,6 @@ impl<T: Target> Session<T> {
     // Counts a change, and says what it came to.
     fn answer(
         &mut self,
-        alloc: Global,
         client: u8,
         reply: &Reply,
         outgoing: &[Outgoing],
@@ -87,8 +86,8 @@ impl<T: Target> Session<T> {
         let i = client as usize;
         self.made[i] += 1;
         let number = self.made[i];
-        append_reply(alloc, self.changes, reply, text)?;
-        append_outs(alloc, outgoing, &Parent::Call { client, number }, text)?;
+        append_reply(self.changes, reply, text)?;
+        append_outs(outgoing, &Parent::Call { client, number }, text)?;
         Ok(())
     }
 
@@ -109,13 +108,7 @@ impl<T: Target> Session<T> {
 
 impl<T: Target> Session<T> {
     // Makes the change that a call asks for, and says what it came to.
-    fn change(
-        &mut self,
-        alloc: Global,
-        client: u8,
-        call: Call,
-        text: &mut Vec<u8>,
-    ) -> Result<(), RunFault>
+    fn change(&mut self, client: u8, call: Call, text: &mut Vec<u8>) -> Result<(), RunFault>
         requires client { client < 4 }
         requires few { self.old.changes < 2 ^ 63 }
         requires sound { IsSound self.old }
@@ -134,7 +127,7 @@ impl<T: Target> Session<T> {
         exact_machines_leave_no_choice();
         steps_keep_machines_exact();
         let (reply, outgoing) = self.core.step(call)?;
-        let answered = self.answer(alloc, client, &reply, &outgoing, text);
+        let answered = self.answer(client, &reply, &outgoing, text);
         drop(reply);
         answered
     }
@@ -142,7 +135,6 @@ impl<T: Target> Session<T> {
     // Registers the first target of the kind that the stock has, and says what that came to.
     fn register(
         &mut self,
-        alloc: Global,
         number: u64,
         client: u8,
         kind: StockKind,
@@ -174,7 +166,7 @@ impl<T: Target> Session<T> {
             }
             Some(target) => match self.core.register(name, target) {
                 Ok((reply, outgoing)) => {
-                    let answered = self.answer(alloc, client, &reply, &outgoing, text);
+                    let answered = self.answer(client, &reply, &outgoing, text);
                     drop(reply);
                     answered
                 }
@@ -186,7 +178,6 @@ impl<T: Target> Session<T> {
     // Says which comms are open.
     fn infos(
         &mut self,
-        alloc: Global,
         client: u8,
         target: Option<&Text>,
         text: &mut Vec<u8>,
@@ -199,7 +190,7 @@ impl<T: Target> Session<T> {
         ensures fault { IfErr result (λ e. e ≡ RunFault.Memory) }
     {
         let comms = self.core.listing(target)?;
-        append_infos(alloc, client, self.changes, comms, text)?;
+        append_infos(client, self.changes, comms, text)?;
         Ok(())
     }
 
@@ -241,11 +232,9 @@ impl<T: Target> Session<T> {
         ensures fault { IfErr result (λ e. e ≡ RunFault.Memory) }
     {
         match request {
-            Request::Change(call) => self.change(alloc, client, call, text),
-            Request::Register { kind, name } => {
-                self.register(alloc, number, client, kind, name, text)
-            }
-            Request::Infos { target } => self.infos(alloc, client, target.as_ref(), text),
+            Request::Change(call) => self.change(client, call, text),
+            Request::Register { kind, name } => { self.register(number, client, kind, name, text) }
+            Request::Infos { target } => self.infos(client, target.as_ref(), text),
             Request::State { id } => self.state(alloc, &id, text),
         }
     }

@@ -82,18 +82,18 @@ fn append_last(key: &str, value: &Val, out: &mut Vec<u8>) -> Result<(), AllocErr
     Ok(())
 }
 
-fn append_custom(alloc: Global, custom: &Custom, out: &mut Vec<u8>) -> Result<(), AllocError>
+fn append_custom(custom: &Custom, out: &mut Vec<u8>) -> Result<(), AllocError>
     ensures { OnOk result (out.new.items ≡ out.old.items ++ compact_text (custom_json custom.now)) }
 {
     append(b"{", out)?;
     append_key("buffers", out)?;
     append(b"[", out)?;
-    append_buffers(alloc, &custom.buffers, out)?;
+    append_buffers(&custom.buffers, out)?;
     append_last("content", &custom.content, out)?;
     Ok(())
 }
 
-fn append_reply_words(alloc: Global, reply: &Reply, out: &mut Vec<u8>) -> Result<(), AllocError>
+fn append_reply_words(reply: &Reply, out: &mut Vec<u8>) -> Result<(), AllocError>
     ensures { OnOk result (out.new.items ≡ out.old.items ++ reply_words reply.now) }
 {
     match reply {
@@ -113,7 +113,7 @@ fn append_reply_words(alloc: Global, reply: &Reply, out: &mut Vec<u8>) -> Result
         Reply::Delivered(None) => append(b"delivered", out),
         Reply::Delivered(Some(custom)) => {
             append(b"custom ", out)?;
-            append_custom(alloc, custom.parts(), out)?;
+            append_custom(custom.parts(), out)?;
             Ok(())
         }
         Reply::Fault(fault) => {
@@ -161,7 +161,7 @@ fn append_parts(
         (member (codes "state") (json_of (tree plain.now)) no_members))))) }
 {
     append_paths(alloc, paths, out)?;
-    append_state_rest(alloc, plain, buffers, out)?;
+    append_state_rest(plain, buffers, out)?;
     Ok(())
 }
 
@@ -176,12 +176,7 @@ fn append_paths(alloc: Global, paths: &[Path], out: &mut Vec<u8>) -> Result<(), 
     written
 }
 
-fn append_state_rest(
-    alloc: Global,
-    plain: &Val,
-    buffers: &Buffers,
-    out: &mut Vec<u8>,
-) -> Result<(), AllocError>
+fn append_state_rest(plain: &Val, buffers: &Buffers, out: &mut Vec<u8>) -> Result<(), AllocError>
     ensures { OnOk result (out.new.items ≡ out.old.items
         ++ members_text true (member (codes "buffers") (array (buffer_texts buffers.now))
         (member (codes "state") (json_of (tree plain.now)) no_members))) }
@@ -189,7 +184,7 @@ fn append_state_rest(
     append(b",", out)?;
     append_key("buffers", out)?;
     append(b"[", out)?;
-    append_buffers(alloc, buffers, out)?;
+    append_buffers(buffers, out)?;
     append_last("state", plain, out)?;
     Ok(())
 }
@@ -246,12 +241,7 @@ fn append_state_words(
 // ---- lines
 
 /// Appends the line of a change's reply, by its number among all changes, from 1.
-pub fn append_reply(
-    alloc: Global,
-    number: u64,
-    reply: &Reply,
-    out: &mut Vec<u8>,
-) -> Result<(), AllocError>
+pub fn append_reply(number: u64, reply: &Reply, out: &mut Vec<u8>) -> Result<(), AllocError>
     ensures { OnOk result (out.new.items ≡ out.old.items ++ reply_line number reply.now) }
 {
     append_counted(b"reply ", number, out)?;
@@ -262,7 +252,7 @@ pub fn append_reply(
         Reply::Closed => append(b" closed\n", out)?,
         _ => {
             append(b" ", out)?;
-            append_reply_words(alloc, reply, out)?;
+            append_reply_words(reply, out)?;
             append(b"\n", out)?;
         }
     }
@@ -297,23 +287,17 @@ pub fn append_state_line(
 }
 
 /// Appends the line of a message that goes out.
-pub fn append_out(
-    alloc: Global,
-    message: &Outgoing,
-    parent: &Parent,
-    out: &mut Vec<u8>,
-) -> Result<(), AllocError>
+pub fn append_out(message: &Outgoing, parent: &Parent, out: &mut Vec<u8>) -> Result<(), AllocError>
     ensures { OnOk result (out.new.items ≡ out.old.items ++ out_line message.now parent.now) }
 {
     append(b"out ", out)?;
-    append_message(alloc, message, parent, out)?;
+    append_message(message, parent, out)?;
     append(b"\n", out)?;
     Ok(())
 }
 
 /// Appends the line of the open comms that a client reads after so many changes.
 pub fn append_infos(
-    alloc: Global,
     client: u8,
     front: u64,
     comms: Infos,
@@ -323,14 +307,13 @@ pub fn append_infos(
         ++ out_line (outgoing.InfoReply comms) (parent.Read client front)) }
 {
     let message = Outgoing::InfoReply { comms };
-    let written = append_out(alloc, &message, &Parent::Read { client, front }, out);
+    let written = append_out(&message, &Parent::Read { client, front }, out);
     drop(message);
     written
 }
 
 /// Appends the lines of messages that go out, in their order.
 pub fn append_outs(
-    alloc: Global,
     messages: &[Outgoing],
     parent: &Parent,
     out: &mut Vec<u8>,
@@ -338,7 +321,7 @@ pub fn append_outs(
     ensures { OnOk result (out.new.items ≡ out.old.items ++ out_lines messages.now parent.now) }
 {
     for message in messages {
-        append_out(alloc, message, parent, out)?;
+        append_out(message, parent, out)?;
     }
     Ok(())
 }

@@ -41,7 +41,7 @@ fn conclude<M: ManagerId, T: Target, R: Wait>(
 ) -> Result<Attempt, RunFault> {
     let full = match made {
         Ok(answered) => {
-            let written = append_reply(shared.alloc, answered.number, &answered.reply, said);
+            let written = append_reply(answered.number, &answered.reply, said);
             shared.publish_stamp(rt, client, answered.stamp);
             return match written {
                 Ok(()) => Ok(Attempt::Changed),

@@ -26,7 +26,7 @@ pub(crate) fn append_seen(
 // A reply's words, and the line's end. They are those of a numbered reply without what stands before them.
 fn append_words(alloc: Global, reply: &Reply, out: &mut Vec<u8>) -> Result<(), AllocError> {
     let mut numbered = Vec::new(alloc);
-    append_reply(alloc, 0, reply, &mut numbered)?;
+    append_reply(0, reply, &mut numbered)?;
     match numbered.get(NUMBERED.len()..) {
         Some(words) => out.extend_from_slice(words),
         None => Ok(()),
@@ -60,12 +60,7 @@ fn append_entry(
             )?;
             out.extend_from_slice(words.as_bytes())?;
             append_words(alloc, reply, out)?;
-            append_outs(
-                alloc,
-                outgoing.as_slice(),
-                &Parent::Call { client, number },
-                out,
-            )
+            append_outs(outgoing.as_slice(), &Parent::Call { client, number }, out)
         }
         Entry::End => Ok(()),
     }

@@ -65,7 +65,7 @@ pub fn append_infos_seen<M: ManagerId>(
 {
     match client.comm_info(alloc, target) {
         Ok(InfoRead { front, comms }) => {
-            append_infos(alloc, client.id(), front, comms, text)?;
+            append_infos(client.id(), front, comms, text)?;
             Ok(())
         }
         Err(fault) => Err(run_fault(fault)),

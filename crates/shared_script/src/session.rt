@@ -22,12 +22,7 @@ pub struct SharedSession<M: ManagerId, T: Target> {
 
 impl<M: ManagerId, T: Target> SharedSession<M, T> {
     // Appends the lines of what goes out, until the last change that was made has.
-    fn publish<R: Wait>(
-        &mut self,
-        rt: &R,
-        alloc: Global,
-        text: &mut Vec<u8>,
-    ) -> Result<(), RunFault>
+    fn publish<R: Wait>(&mut self, rt: &R, text: &mut Vec<u8>) -> Result<(), RunFault>
         ensures clients { self.new.clients ≡ self.old.clients }
         ensures sequencer { self.new.sequencer ≡ self.old.sequencer }
         ensures fault { IfErr result (λ e. e ≡ RunFault.Memory) }
@@ -40,7 +35,7 @@ impl<M: ManagerId, T: Target> SharedSession<M, T> {
             let Some(entry) = self.publisher.take(rt) else {
                 break;
             };
-            append_entry(alloc, self.publisher.taken(), &entry, text)?;
+            append_entry(self.publisher.taken(), &entry, text)?;
         }
         Ok(())
     }
@@ -66,7 +61,7 @@ impl<M: ManagerId, T: Target> SharedSession<M, T> {
         let client = &mut self.clients[usize::from(client)];
         self.sequencer
             .execute(rt, manager, alloc, client, number, request, text)?;
-        self.publish(rt, alloc, text)?;
+        self.publish(rt, text)?;
         Ok(())
     }
 }

@@ -8,7 +8,7 @@ use comm_core::{Entry, Unavailable};
 use comm_manager::ReadFault;
 use comm_messages::Parent;
 use comm_script::{RunFault, append, append_counted, append_outs, append_reply};
-use std::alloc::{AllocError, Global};
+use std::alloc::AllocError;
 
 /// What has no room for a change.
 #[derive(Clone, Copy, Debug, PartialEq, Eq, Drop)]
@@ -78,12 +78,7 @@ pub fn append_full(number: u64, full: Option<Full>, out: &mut Vec<u8>) -> Result
 
 /// Appends the lines of the entry that stands at this place of the history, from 1: its reply, and what it sends. The
 /// end has none. Err: memory.
-pub fn append_entry(
-    alloc: Global,
-    place: u64,
-    entry: &Entry,
-    out: &mut Vec<u8>,
-) -> Result<(), AllocError>
+pub fn append_entry(place: u64, entry: &Entry, out: &mut Vec<u8>) -> Result<(), AllocError>
     ensures { OnOk result (out.new.items ≡ out.old.items ++ entry_lines place entry.now) }
 {
     match entry {
@@ -99,8 +94,8 @@ pub fn append_entry(
                 client: *client,
                 number: *number,
             };
-            append_reply(alloc, place, reply, out)?;
-            append_outs(alloc, outgoing.as_slice(), &parent, out)?;
+            append_reply(place, reply, out)?;
+            append_outs(outgoing.as_slice(), &parent, out)?;
             Ok(())
         }
         Entry::End => Ok(()),

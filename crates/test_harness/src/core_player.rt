@@ -57,12 +57,11 @@ impl<T: Target> CorePlayer<T> {
             client: 0,
             number: self.answered,
         };
-        append_answer(alloc, self.answered, &parent, reply, outgoing, text)?;
+        append_answer(self.answered, &parent, reply, outgoing, text)?;
         let mut again = Vec::new(alloc);
         let outgoing = Outgoings::copy_of(alloc, outgoing)?;
         let reply = reply.copy(alloc)?;
         let done = append_answer(
-            alloc,
             self.answered,
             &parent,
             &reply,
@@ -293,7 +292,7 @@ fn read_comms<T: Target>(
         core.infos(of)?
     };
     let reply = Outgoing::InfoReply { comms };
-    let done = append_out(alloc, &reply, &Parent::Read { client: 2, front }, text);
+    let done = append_out(&reply, &Parent::Read { client: 2, front }, text);
     drop(reply);
     Ok(done?)
 }

@@ -183,7 +183,7 @@ pub(crate) fn append_entry(
         client: *client,
         number: *number,
     };
-    append_answer(alloc, *number, &parent, reply, outgoing.as_slice(), text)
+    append_answer(*number, &parent, reply, outgoing.as_slice(), text)
 }
 
 fn append_state_or_dash(

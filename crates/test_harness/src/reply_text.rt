@@ -2,18 +2,17 @@
 use comm_core::Reply;
 use comm_messages::{Outgoing, Parent};
 use comm_script::{append_outs, append_reply};
-use std::alloc::{AllocError, Global};
+use std::alloc::AllocError;
 
 /// The line `reply <place> <words>`, and a line `out <json>` of each message (docs/FORMATS.md, "The answers").
 pub fn append_answer(
-    alloc: Global,
     place: u64,
     parent: &Parent,
     reply: &Reply,
     outgoing: &[Outgoing],
     text: &mut Vec<u8>,
 ) -> Result<(), AllocError> {
-    append_reply(alloc, place, reply, text)?;
-    append_outs(alloc, outgoing, parent, text)?;
+    append_reply(place, reply, text)?;
+    append_outs(outgoing, parent, text)?;
     Ok(())
 }

@@ -37,7 +37,7 @@ fn count(counts: &mut [u64; 4], client: u8, number: u64) -> bool {
 }
 
 impl HistoryText {
-    fn add(&mut self, alloc: Global, place: u64, entry: &Entry) {
+    fn add(&mut self, place: u64, entry: &Entry) {
         push_entry_line(entry, &mut self.entries);
         let Entry::Change {
             client,
@@ -52,7 +52,7 @@ impl HistoryText {
         let is_next = count(&mut self.counts, *client, *number);
         self.are_numbered = self.are_numbered && is_next;
         if let Some(replies) = self.replies.of_mut(*client) {
-            let done = append_reply(alloc, place, reply, replies.bytes_mut());
+            let done = append_reply(place, reply, replies.bytes_mut());
             replies.note(done);
         }
         let parent = Parent::Call {
@@ -60,7 +60,7 @@ impl HistoryText {
             number: *number,
         };
         let text = self.whole.bytes_mut();
-        let done = append_answer(alloc, place, &parent, reply, outgoing.as_slice(), text);
+        let done = append_answer(place, &parent, reply, outgoing.as_slice(), text);
         self.whole.note(done);
     }
 }
@@ -79,7 +79,7 @@ pub(crate) fn history_text(alloc: Global, entries: &[Arc<Entry, Global>]) -> His
     for (place, entry) in entries.iter().enumerate() {
         is_between = is_between && !text.is_ended;
         text.is_ended = matches!(&**entry, Entry::End);
-        text.add(alloc, (place as u64).saturating_add(1), entry);
+        text.add((place as u64).saturating_add(1), entry);
     }
     text.is_ended = text.is_ended && is_between;
     text

@@ -86,7 +86,7 @@ fn play_entry<T: Target>(
     };
     let (reply, outgoing) = step(alloc, core, call, &mut replay.targets)?;
     let text = replay.whole.bytes_mut();
-    let done = append_answer(alloc, place, &parent, &reply, &outgoing, text);
+    let done = append_answer(place, &parent, &reply, &outgoing, text);
     drop((reply, outgoing));
     replay.whole.note(done);
     let open = core.infos(None)?;

@@ -19,14 +19,10 @@ pub const PARENT: Parent = Parent::Call {
 };
 
 // What a change gave.
-fn push_change(
-    alloc: Global,
-    given: Result<(Reply, Vec<Outgoing>), AllocError>,
-    text: &mut TextBuilder,
-) {
+fn push_change(given: Result<(Reply, Vec<Outgoing>), AllocError>, text: &mut TextBuilder) {
     match given {
         Ok((reply, outgoing)) => {
-            let done = append_answer(alloc, 1, &PARENT, &reply, &outgoing, text.bytes_mut());
+            let done = append_answer(1, &PARENT, &reply, &outgoing, text.bytes_mut());
             drop(reply);
             drop(outgoing);
             text.note(done);
@@ -50,7 +46,7 @@ fn step_line<T: Target>(
     refuse_at(alloc, number);
     let given = core.step(call);
     let is_refused = was_refused_at(alloc, number);
-    push_change(alloc, given, text);
+    push_change(given, text);
     Ok(is_refused)
 }
 
@@ -121,7 +117,7 @@ fn finish<T: Target>(
         None => "",
     };
     let is_refused = was_refused_at(alloc, number);
-    push_change(alloc, Ok((reply, outgoing)), text);
+    push_change(Ok((reply, outgoing)), text);
     text.push(words);
     is_refused
 }
@@ -248,7 +244,7 @@ pub(super) fn register<T: Target>(
         Ok(given) => (Ok(given), None),
         Err((error, target)) => (Err(error), Some(target)),
     };
-    push_change(alloc, given, text);
+    push_change(given, text);
     Ok((is_refused, back))
 }
 

@@ -82,7 +82,7 @@ impl<M: ManagerId, T: Target> ClientPlayer<'_, M, T> {
                     stamp,
                 } = answered;
                 self.stamp = Some(stamp);
-                let done = append_reply(self.alloc, number, &reply, self.answer.bytes_mut());
+                let done = append_reply(number, &reply, self.answer.bytes_mut());
                 drop(reply);
                 self.answer.note(done);
                 self.note_reply(client);

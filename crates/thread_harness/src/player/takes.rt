@@ -24,7 +24,7 @@ impl<M: ManagerId, T: Target> ClientPlayer<'_, M, T> {
                     number: *number,
                 };
                 let text = self.answer.bytes_mut();
-                let done = append_outs(self.alloc, outgoing.as_slice(), &parent, text);
+                let done = append_outs(outgoing.as_slice(), &parent, text);
                 self.answer.note(done);
             }
             _ => push_entry_line(entry, &mut self.answer),
