@@ -55,9 +55,9 @@ type Found<T> = (RawFront, T);
 
 // The front that is shown, and the state after it of the comm of this id. None: nothing is shown any more.
 //
-// A publish waits for readers that are inside, from `enter_as` to `leave`. So nothing is done there but to search for
-// the comm, to count its state, and to copy the front: no memory is taken, and no count is raised that others raise
-// for other comms. No contract says that.
+// A publish waits for each reader between `enter_as` and `leave`. So there the comm is found, its state is shared and
+// the front is copied, no more: nothing is allocated, and of all counts only those of this comm's state change. No
+// contract says that.
 fn look_up(
     snapshots: SnapshotReader,
     id: &Text,
