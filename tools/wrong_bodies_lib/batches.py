@@ -1,8 +1,10 @@
-"""Several wrong bodies in one copy of a crate: one check names each function that is refused, and what the crate stands
-on is read once."""
+"""Several wrong bodies in one copy of a crate: one check of their functions names each that is refused, and what the
+crate stands on is read once."""
 import re
 from dataclasses import dataclass
 from pathlib import Path
+
+from .reach import units_of
 
 SIZE = 8
 HEAD = re.compile(r"^( *)(?:pub(?:\(\w+\))? )?fn (\w+)")
@@ -13,27 +15,48 @@ NAMES = re.compile(r"has no field|is not in scope|has no `|was not admitted")
 
 @dataclass(frozen=True)
 class Function:
-    """A function of a source file, by its first and its last line."""
+    """A function of a source file, by its first and its last line: the prover names the line of its first attribute."""
 
     file: str
     name: str
     first: int
     last: int
     is_only_one: bool  # of its name in the file
+    owner: str | None = None  # the type that it is a function of
+    is_of_trait: bool = False
+
+    def module(self):
+        parts = self.file.removeprefix("src/").removesuffix(".rt").removesuffix("/mod").split("/")
+        return [] if parts in (["lib"], ["main"]) else parts
 
     def folder(self):
         """Where the proofs of the functions of its module stand."""
-        module = self.file.removeprefix("src/").removesuffix(".rt")
-        return "proofs/" if module in ("lib", "main") else f"proofs/{module}/"
+        return "/".join(["proofs", *self.module(), ""])
+
+    def path(self):
+        """The end of the path by which a check of it alone names it; of a trait's function the path of its module.
+        None: there is none."""
+        if self.owner:
+            return f"{self.owner}::{self.name}"  # the module of a type may be another
+        return "::".join([*self.module(), *([] if self.is_of_trait else [self.name])]) or None
+
+    def is_proved_by(self, file):
+        """Whether this file of proofs answers what is asked of it."""
+        at = Path(file)
+        is_of_type = self.owner is not None and at.parent.parent.name == self.owner
+        return self.is_only_one and at.parent.name == self.name and (is_of_type or file.startswith(self.folder()))
 
 
 def functions_in(file, text):
-    lines = text.split("\n")
+    lines, units = text.split("\n"), units_of(file, text)
     heads = [(number, head) for number, head in enumerate(map(HEAD.match, lines), 1) if head]
     names = [head[2] for _, head in heads]
     for number, head in heads:
         last = next((at for at in range(number, len(lines) + 1) if lines[at - 1] == f"{head[1]}}}"), number)
-        yield Function(file, head[2], number, last, names.count(head[2]) == 1)
+        around = [it for it in units if it.first < number <= it.last]
+        own = next((it for it in around if it.kind == "function" and it.name == head[2]), None)
+        first = own.first + 1 if own else number
+        yield Function(file, head[2], first, last, names.count(head[2]) == 1, own and own.owner, own is None)
 
 
 def changed(before, after):
@@ -97,7 +120,6 @@ def is_refused(function, told):
         file, number, said = at[1], int(at[2]), at[3]
         if file == function.file and function.first <= number <= function.last and said.startswith("it is not proved"):
             return True
-        is_own = function.is_only_one and file.startswith(function.folder()) and Path(file).parent.name == function.name
-        if is_own and said.startswith("error: ") and not NAMES.search(said):
+        if function.is_proved_by(file) and said.startswith("error: ") and not NAMES.search(said):
             return True
     return False

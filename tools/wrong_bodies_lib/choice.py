@@ -12,8 +12,8 @@ class Mode(Enum):
 
 
 def shares(edits, most):
-    """The wrong bodies in shares of so many at most, each of one crate, since the check of a crate as it stands is the
-    dear part of a try."""
+    """The wrong bodies in shares of so many at most, each of one crate, since what a crate stands on is read once for
+    several of them."""
     made = []
     for crate in sorted({it.crate for it in edits}):
         own = sorted(

@@ -6,6 +6,7 @@ import functools
 import importlib.machinery
 import importlib.util
 import os
+import re
 import shutil
 import subprocess
 import sys
@@ -28,6 +29,7 @@ NEEDED = (
 )
 BY_NAME = "only because a proof file names what the edit took away"
 ONE_JOB = ["--jobs", "1"]
+ONLY = re.compile(r"only=\d+ proved=\d+$")  # how a check of some functions ends, which gives no verdict on the crate
 
 
 def version():
@@ -108,13 +110,14 @@ class Kit:
         after, _why = self.rt.read_edit(str(path), crate.folder)
         return after or {}, {file: Path(crate.folder, file).read_text() for file in after or {}}
 
-    def refusal(self, name, texts, kept):
-        """The lines in which the prover refuses the crate with these texts; none where it proves it, or can't read
-        them."""
-        ran = self.rt.checked(self.crates[name], texts, ONE_JOB, str(kept))
+    def refusal(self, name, texts, paths, kept):
+        """The lines in which the prover refuses these functions of the crate with these texts; none where it proves
+        them, or can't read the texts."""
+        flags = [*ONE_JOB, *(word for path in paths for word in ("--only", path))]
+        ran = self.rt.checked(self.crates[name], texts, flags, kept and str(kept))
         lines = ran.stdout.rstrip("\n").split("\n")
         is_read = not any(self.rt.unread(it, texts) for it in lines) and not self.rt.rtlib.STALE.search(ran.stdout)
-        return lines if is_read and ran.returncode == 1 and lines[-1].startswith("logic=not-proved") else []
+        return lines if is_read and ran.returncode == 1 and ONLY.match(lines[-1]) else []
 
 
 def are_of_the_gate(root, names):

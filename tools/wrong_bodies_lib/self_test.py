@@ -141,6 +141,18 @@ class Batches(unittest.TestCase):
         found = [(it.name, it.first, it.last, it.is_only_one) for it in batches.functions_in(self.FILE, self.TEXT)]
         self.assertEqual(found, [("one", 1, 3, False), ("two", 6, 10, True), ("one", 12, 14, False)])
 
+    def test_the_path_of_a_function(self):
+        text = "/// One.\n#[must_use]\nfn one() {\n    1\n}\n\nimpl B for A {\n    fn two() {\n        2\n    }\n}\n"
+        one, two = batches.functions_in("src/lib.rt", text)
+        self.assertEqual((one.first, one.path(), one.folder()), (1, "one", "proofs/"))
+        self.assertIsNone(two.path())  # a trait's, at the root
+        [_, two] = batches.functions_in("src/a/mod.rt", text)
+        self.assertEqual((two.path(), two.folder()), ("a", "proofs/a/"))
+        own = self.function("        2", "        4")
+        self.assertEqual((own.path(), own.folder()), ("A::two", "proofs/a/b/"))
+        self.assertTrue(own.is_proved_by("proofs/a/A/two/Answers.antt"))  # the type is of another module
+        self.assertFalse(own.is_proved_by("proofs/a/A/one/Answers.antt"))
+
     def test_the_function_of_an_edit(self):
         self.assertEqual(self.function("        2", "        4").name, "two")
         self.assertEqual(self.function("        3", "        4").first, 12)

@@ -7,9 +7,9 @@ from dataclasses import dataclass, field
 from pathlib import Path
 
 from . import kit as kits
-from .batches import function_of, grouped, is_refused, merged
+from .batches import Function, function_of, grouped, is_refused, merged
 from .choice import SHARE, Mode, chosen, crates_in_turn
-from .edits import FOLDERS, body_fault, edits_below
+from .edits import FOLDERS, Edit, body_fault, edits_below
 from .lanes import Job, in_lanes
 from .record import Record
 from .room import Room
@@ -33,6 +33,24 @@ class Wish:
     by: float | None = None
     after_ci: bool = False
     share: int = SHARE
+
+
+@dataclass(frozen=True)
+class Tried:
+    """A wrong body that changes one function: the texts after it and before, by their file."""
+
+    edit: Edit
+    function: Function
+    after: dict
+    before: dict
+
+
+@dataclass
+class Left:
+    """What of a crate is to be tried over a check of the whole of it, and how many groups are under way before that."""
+
+    edits: list
+    groups: int
 
 
 @dataclass
@@ -149,7 +167,7 @@ class Run:
         cost = {name: sum(it in self.must for it in edits) * self.kit.need(name) for name, edits in by_crate.items()}
         order = sorted(crates_in_turn(by_crate, commits_of(self.wish.root)), key=lambda it: -cost[it])
         self.unreached = {it for edits in by_crate.values() for it in edits}
-        jobs = [self.first(name, by_crate[name]) for name in order]
+        jobs = [job for name in order for job in self.of_crate(name, by_crate[name])]
         deadline = None if self.wish.mode is Mode.ALL else self.began + 60 * self.wish.minutes
         last = None if self.wish.by is None else self.began + 60 * self.wish.by
         in_lanes(jobs, self.lanes, self.kit.free, deadline, last)
@@ -158,12 +176,26 @@ class Run:
         self.told.not_reached = sorted(self.unreached - self.must)
         self.told.stand += len(self.told.not_reached)
 
+    def of_crate(self, name, edits):
+        """Each wrong body that lies in one function is tried by a check of that function, a few together; the others,
+        and those not refused so, over a check of the whole crate."""
+        texts = {it: self.kit.texts_of(it, it.path(self.room.top)) for it in edits}
+        functions = {it: function_of(before, after) for it, (after, before) in texts.items()}
+        alone = [it for it in edits if functions[it] and functions[it].path()]
+        groups = grouped(alone, functions)
+        left = Left([it for it in edits if it not in alone], len(groups))
+        tried = {it: Tried(it, functions[it], *texts[it]) for it in alone}
+        made = [
+            self.job(group, lambda its=group: self.try_alone(name, [tried[it] for it in its], left)) for group in groups
+        ]
+        return made or [self.first(name, left.edits)]
+
     def first(self, name, edits):
         """The check of a crate as it stands, over which its wrong bodies are tried."""
         is_warm = self.room.kept(name).is_dir()
         need = int(self.kit.need(name) * (OVER_KEPT if is_warm else 1))
-        is_alone = len({it.crate for it in self.unreached}) == 1 and self.kit.free() > 2 * need
-        jobs = 1 if is_warm else max(2, self.lanes) if is_alone else 2
+        is_only_one = len({it.crate for it in self.unreached}) == 1 and self.kit.free() > 2 * need
+        jobs = 1 if is_warm else max(2, self.lanes) if is_only_one else 2
 
         def run():
             self.room.kept(name).mkdir(parents=True, exist_ok=True)
@@ -177,48 +209,36 @@ class Run:
                         self.told.failed[edit] = "not tried, since its crate isn't proved as it stands"
                         self.unreached.discard(edit)
                 return []
-            return self.trials(name, [it for it in edits if it in self.must]) + self.trials(
-                name, [it for it in edits if it not in self.must]
-            )
+            return [self.job([it], lambda it=it: self.trial(it)) for it in edits]
 
         return Job(run, need, not any(it in self.must for it in edits))
 
     def job(self, edits, work):
         """The work on these edits of one crate."""
-        return Job(work, int(self.kit.need(edits[0].crate) * OVER_KEPT), edits[0] not in self.must)
+        return Job(work, int(self.kit.need(edits[0].crate) * OVER_KEPT), not any(it in self.must for it in edits))
 
-    def trials(self, name, edits):
-        """The trials of these edits of a crate: a few together where each lies in a function of its own."""
-        texts = {it: self.kit.texts_of(it, it.path(self.room.top)) for it in edits}
-        functions = {it: function_of(before, after) for it, (after, before) in texts.items()}
-        made = []
-        for group in grouped(edits, functions):
-            if len(group) == 1:
-                made.append(self.job(group, lambda it=group[0]: self.trial(it)))
-            else:
-                made.append(
-                    self.job(
-                        group,
-                        lambda its=group: self.trial_together(name, {it: (functions[it], *texts[it]) for it in its}),
-                    )
-                )
-        return made
-
-    def trial_together(self, name, group):
-        """Tries edits in one copy. What isn't told to be refused in its own function is tried alone."""
+    def try_alone(self, name, group, left):
+        """Tries edits in one copy, each by a check of its function alone. What isn't told to be refused there is left
+        for a check of the whole crate, which comes once no group is left."""
         began, number = time.monotonic(), self.next_number()
-        kept = self.room.lane(name, number)
-        before = {file: text for _, _, texts in group.values() for file, text in texts.items()}
+        kept = self.room.lane(name, number) if self.room.kept(name).is_dir() else None
+        before = {file: text for it in group for file, text in it.before.items()}
         try:
-            told = self.kit.refusal(name, merged(before, [after for _, after, _ in group.values()]), kept)
+            told = self.kit.refusal(
+                name, merged(before, [it.after for it in group]), sorted({it.function.path() for it in group}), kept
+            )
         finally:
             self.room.leave(number)
         seconds = (time.monotonic() - began) / len(group)
-        refused = [it for it, (function, _, _) in group.items() if is_refused(function, told)]
         with self.lock:
-            for edit in refused:
-                self.note(edit, "proof", "", seconds)
-        return [self.job([it], lambda it=it: self.trial(it)) for it in group if it not in refused]
+            for it in group:
+                if is_refused(it.function, told):
+                    self.note(it.edit, "proof", "", seconds)
+                else:
+                    left.edits.append(it.edit)
+            left.groups -= 1
+            is_last = left.groups == 0
+        return [self.first(name, left.edits)] if is_last and left.edits else []
 
     def next_number(self):
         with self.lock:
