@@ -48,7 +48,7 @@ pub use laws::{
     replays_are_consistent, replays_grow, rows_are_what_entries_change, some_kinds_have_no_states,
     steps_keep_machines_exact, widgets_have_their_opening_state_merged_with_their_updates,
 };
-pub use limits::{Limits, NewFault};
+pub use limits::{BadCommsLimit, Limits, MOST_COMMS, NewFault};
 pub use manager::Core;
 pub use outgoing::comm_id;
 pub use prepared_change::{Finished, PreparedChange, Ready};
