@@ -1,17 +1,27 @@
 -- Entries and the places that they are kept at, as places are emptied, changed and swept.
-use Rattle.std.proofs.Common.{◌≡◌, ℕ, zero, suc, ◌+◌, ◌-◌, ◌≤◌, Bool, true, false, cond, filter, List, [], ◌∷◌, ◌++◌, length, slice_get, Option, Some, None, Result, Ok, Err, OnOk, IsOk, is_some, refl, ap, sym, subst, ◌∙◌, arith, true≢false}
+use Rattle.std.proofs.Common.{◌≡◌, ℕ, zero, suc, ◌+◌, ◌-◌, ◌*◌, ◌≤◌, Bool, true, false, cond, filter, List, [], ◌∷◌, ◌++◌, length, slice_get, Option, Some, None, is_some, refl, ap, sym, subst, ◌∙◌, arith, true≢false}
 use Rattle.std.specs.List.{AllByRecursion, IsDistinct}
 use Rattle.std.specs.Option.{option_flatten, option_map_or}
 use Rattle.std.specs.Map.{keys_of, values_of, lookup, remove_entry, set_value, IsKeyTest}
 use Rattle.indexmap.specs.IndexMap.{set_value_at}
 use Rattle.std.specs.Map.Calls.{RetainsPairs}
-use Rattle.ordered_table.specs.Table.{IsKept, entry_before, there, at_place}
+use Rattle.ordered_table.specs.Table.{IsKept, HasFewGaps, entry_before, there, at_place}
 
 -- the keys after one that passes do not
 others_fail : {K : Type 0} (eq : K → K → Bool) (test : K → Bool) → IsKeyTest eq test → (k : K) → test k ≡ true
     → (ks : List K) → AllByRecursion (λ y. eq k y ≡ false) ks → AllByRecursion (λ y. test y ≡ false) ks
 others_fail eq test one k hit [] h = tt
 others_fail eq test one k hit (y ∷ ks) h = (one k y hit ∙ h.0, others_fail eq test one k hit ks h.1)
+
+module _ {K V : Type 0} where
+  pub changed_length : (test : K → Bool) (es : List (K × V)) (w : V) → length (set_value test es w) ≡ length es
+  changed_length test [] w = refl
+  changed_length test (e ∷ es) w =
+      let more = changed_length test es w in
+      elim (test e.0) as (λ b. length (cond b ((e.0, w) ∷ es) (e ∷ set_value test es w)) ≡ length (e ∷ es)) [
+        | true ↦ refl
+        | false ↦ omega arith
+      ]
 
 module _ {K V : Type 0} where
   -- no key passes
@@ -181,15 +191,6 @@ module _ {K V : Type 0} where
         | false ↦ λ is. let m = more is in omega arith
       ]) found
 
-  pub changed_length : (test : K → Bool) (es : List (K × V)) (w : V) → length (set_value test es w) ≡ length es
-  changed_length test [] w = refl
-  changed_length test (e ∷ es) w =
-      let more = changed_length test es w in
-      elim (test e.0) as (λ b. length (cond b ((e.0, w) ∷ es) (e ∷ set_value test es w)) ≡ length (e ∷ es)) [
-        | true ↦ refl
-        | false ↦ omega arith
-      ]
-
   -- what a sweep leaves
   pub swept : (ps : List (K × Option V)) → there (filter (λ p. is_some p.1) ps) ≡ there ps
   swept [] = refl
@@ -197,6 +198,15 @@ module _ {K V : Type 0} where
       elim p.1 as (λ o. there (cond (is_some o) ((p.0, o) ∷ filter (λ q. is_some q.1) ps) (filter (λ q. is_some q.1) ps)) ≡ entry_before p.0 o (there ps)) [
         | None ↦ swept ps
         | Some v ↦ ap (λ es. (p.0, v) ∷ es) (swept ps)
+      ]
+
+  pub swept_full : (ps : List (K × Option V)) → length (there ps) ≡ length (filter (λ p. is_some p.1) ps)
+  swept_full [] = refl
+  swept_full (p ∷ ps) =
+      let more = swept_full ps in
+      elim p.1 as (λ o. length (entry_before p.0 o (there ps)) ≡ length (cond (is_some o) ((p.0, o) ∷ filter (λ q. is_some q.1) ps) (filter (λ q. is_some q.1) ps))) [
+        | None ↦ more
+        | Some v ↦ omega (arith, more)
       ]
 
   -- what a choice leaves
@@ -255,26 +265,41 @@ module _ {K V : Type 0} where
       pub value_of : (o : Option (Option V)) → o ≡ lookup test ps → option_flatten o ≡ lookup test (there ps)
       value_of o found = ap option_flatten found ∙ sym (lookup_there eq test one ps is.unique)
 
+      -- as many places, and as many entries
+      few_still : (new : List (K × Option V)) (o : Option V) → new ≡ set_value test ps o → length (there new) ≡ length (there ps) → HasFewGaps new
+      few_still new o same as_many =
+          let places : length new ≡ length ps = ap length same ∙ changed_length test ps o in
+          let before : length ps ≤ 2 * length (there ps) + 1 = is.few in
+          omega (arith, places, as_many, before)
+
       module _ (new : List (K × Option V)) (unique : IsDistinct eq (keys_of new)) where
         pub gap_kept : new ≡ set_value test ps None → option_flatten (lookup test ps) ≡ None → IsKept eq live new
         gap_kept same none =
             let gone : there new ≡ remove_entry test (there ps) = ap there same ∙ emptied_there eq test one ps is.unique in
             let nothing : lookup test (there ps) ≡ None = lookup_there eq test one ps is.unique ∙ none in
-            record { count = is.count ∙ ap length (sym (gone ∙ remove_none test (there ps) nothing)); unique = unique }
+            let kept : there new ≡ there ps = gone ∙ remove_none test (there ps) nothing in
+            record { count = is.count ∙ ap length (sym kept); few = few_still new None same (ap length kept); unique = unique }
 
-        pub taken_kept : (left : List (K × Option V)) (v : V) → new ≡ set_value test ps None → there left ≡ there new → IsDistinct eq (keys_of left)
-            → option_flatten (lookup test ps) ≡ Some v → (1 ≤ live) × IsKept eq (live - 1) left
-        taken_kept left v same same_there left_unique some =
-            let gone : there left ≡ remove_entry test (there ps) = same_there ∙ ap there same ∙ emptied_there eq test one ps is.unique in
+        -- an entry that is taken out is one less
+        pub taken_count : (v : V) → new ≡ set_value test ps None → option_flatten (lookup test ps) ≡ Some v
+            → (1 ≤ live) × (live - 1 ≡ length (there new))
+        taken_count v same some =
+            let gone : there new ≡ remove_entry test (there ps) = ap there same ∙ emptied_there eq test one ps is.unique in
             let less = removed_length test (there ps) v (lookup_there eq test one ps is.unique ∙ some) in
             let count = is.count in
-            let l : length (there left) + 1 ≡ live = ap (λ es. length es + 1) gone ∙ less ∙ sym count in
-            (omega (arith, l), record { count = omega (arith, l); unique = left_unique })
+            let l : length (there new) + 1 ≡ live = ap (λ es. length es + 1) gone ∙ less ∙ sym count in
+            (omega (arith, l), omega (arith, l))
+
+        pub taken_kept : (left : List (K × Option V)) (v : V) → new ≡ set_value test ps None → there left ≡ there new → HasFewGaps left
+            → IsDistinct eq (keys_of left) → option_flatten (lookup test ps) ≡ Some v → IsKept eq (live - 1) left
+        taken_kept left v same same_there few left_unique some =
+            record { count = (taken_count v same some).1 ∙ sym (ap length same_there); few = few; unique = left_unique }
 
         pub changed_kept : (v w : V) → new ≡ set_value test ps (Some w) → lookup test ps ≡ Some (Some v) → IsKept eq live new × (there new ≡ set_value test (there ps) w)
         changed_kept v w same found =
             let now : there new ≡ set_value test (there ps) w = ap there same ∙ changed_there eq test one ps v w is.unique found in
-            (record { count = is.count ∙ sym (ap length now ∙ changed_length test (there ps) w); unique = unique }, now)
+            let as_many : length (there new) ≡ length (there ps) = ap length now ∙ changed_length test (there ps) w in
+            (record { count = is.count ∙ sym as_many; few = few_still new (Some w) same as_many; unique = unique }, now)
 
       -- a gap that is emptied shows nothing
       pub gap_at : (new : List (K × Option V)) → new ≡ set_value test ps None → option_flatten (lookup test ps) ≡ None → there new ≡ there ps

@@ -1,5 +1,5 @@
 -- What a table stands for: its places, and the entries at them.
-use Rattle.std.specs.Prelude.{◌≡◌, ℕ, Bool, false, length, List, [], ◌∷◌, Option, None, Some, refl}
+use Rattle.std.specs.Prelude.{◌≡◌, ◌≤◌, ◌+◌, ◌*◌, ℕ, Bool, false, length, List, [], ◌∷◌, Option, None, Some, refl}
 use Rattle.std.specs.Borrow.{Bor}
 use Rattle.std.specs.List.{IsDistinct}
 use Rattle.std.specs.Map.{keys_of}
@@ -40,7 +40,12 @@ module _ {K V : Type 0} where
   abbrev pub at_place : (K × V → Bool) → K × Option V → Bool
   at_place test p = option_map_or (λ v. test (p.0, v)) p.1 false
 
--- the invariant of a table: its count is the number of entries, and each key has one place
+-- at most about half of the places are gaps
+abbrev pub HasFewGaps : {K V : Type 0} → List (K × Option V) → Type 0
+HasFewGaps places = length places ≤ 2 * length (there places) + 1
+
+-- the invariant of a table: its count is the number of entries, few places are gaps, and each key has one place
 pub record IsKept {K V : Type 0} (eq : K → K → Bool) (live : ℕ) (places : List (K × Option V)) : Type 0 where
   pub count : live ≡ length (there places)
+  pub few : HasFewGaps places
   pub unique : IsDistinct eq (keys_of places)

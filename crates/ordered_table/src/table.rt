@@ -1,8 +1,8 @@
-ghost use Rattle.std.specs.Prelude.{◌≡◌, ◌<◌, ◌≤◌, ◌++◌, [], ◌∷◌, Bool, IsTrue, OnOk, None, Some, Option};
+ghost use Rattle.std.specs.Prelude.{◌≡◌, ◌<◌, ◌≤◌, ◌+◌, ◌++◌, [], ◌∷◌, Bool, IsTrue, OnOk, None, Some, Option};
 ghost use Rattle.std.specs.Prelude.{true, filter, is_some, length, slice_get};
 ghost use Rattle.std.specs.Option.{option_flatten};
 ghost use Rattle.std.specs.Map.{lookup, remove_entry, set_value};
-ghost use Rattle.ordered_table.specs.Table.{Computes, at_place, entries, there};
+ghost use Rattle.ordered_table.specs.Table.{Computes, HasFewGaps, at_place, entries, there};
 ghost use Rattle.indexmap.specs.IndexMap.{IsUnique, spare};
 
 mod reads;
@@ -151,6 +151,7 @@ fn put_last<K: Eq + Hash + Drop, V: Drop>(rows: &mut IndexMap<K, Option<V>>, key
     ensures last { (k : K) × (K.eq key k ≡ true)
         × (there rows.new.entries ≡ there rows.old.entries ++ (k, value) ∷ []) }
     ensures fits { length (there rows.old.entries) < 18446744073709551615 }
+    ensures places { length rows.new.entries ≤ length rows.old.entries + 1 }
     ensures unique { IsUnique K.eq rows.new }
 {
     match rows.insert_full(key, Some(value)) {
@@ -212,6 +213,8 @@ fn empty_at<K: Eq + Hash, V: Drop>(
 
 // Removes the gaps where more than about half of the places are gaps.
 fn sweep<K: Eq + Hash + Drop, V: Drop>(rows: &mut IndexMap<K, Option<V>>, live: usize)
+    requires count { live ≡ length (there rows.old.entries) }
+    ensures few { HasFewGaps rows.new.entries }
     ensures entries { there rows.new.entries ≡ there rows.old.entries }
     ensures room { spare rows.old ≤ spare rows.new }
     ensures unique { IsUnique K.eq rows.new }

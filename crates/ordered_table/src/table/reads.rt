@@ -1,5 +1,5 @@
 //! Reading a table.
-ghost use Rattle.std.specs.Prelude.{◌≡◌, ◌↔◌, ◌<◌, [], IsTrue, IfSome, IfNone, None, Some};
+ghost use Rattle.std.specs.Prelude.{◌≡◌, ◌↔◌, ◌<◌, ◌≤◌, ◌+◌, ◌*◌, [], IsTrue, IfSome, IfNone, None, Some};
 ghost use Rattle.std.specs.Prelude.{length, is_some, option_map, slice_get};
 ghost use Rattle.std.specs.Map.{lookup};
 ghost use Rattle.ordered_table.specs.Table.{entries};
@@ -57,9 +57,11 @@ impl<K: Eq + Hash + Drop, V: Drop> Table<K, V> {
         }
     }
 
-    /// The number of places, gaps included: what an iteration by [`Table::at`] goes over.
+    /// The number of places, gaps included: what an iteration by [`Table::at`] goes over. There is at most one more
+    /// than twice as many as entries.
     pub fn places(&self) -> usize
-        ensures { result ≡ length self.now.places }
+        ensures places { result ≡ length self.now.places }
+        ensures few { result ≤ 2 * length (entries self.now) + 1 }
     {
         self.rows.len()
     }

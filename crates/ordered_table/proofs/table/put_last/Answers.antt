@@ -1,4 +1,4 @@
-use Rattle.std.proofs.Common.{◌≡◌, ◌∙◌, ◌<◌, ◌+◌, refl, ap, sym, Some, None, arith}
+use Rattle.std.proofs.Common.{◌∙◌, ap, sym, Some, arith}
 use Rattle.ordered_table.specs.Table.{there}
 use Rattle.ordered_table.proofs.Gaps.{there_within, there_push}
 use Rattle.ordered_table.proofs.Last.{moved}

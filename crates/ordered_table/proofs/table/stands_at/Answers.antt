@@ -1,4 +1,4 @@
-use Rattle.std.proofs.Common.{◌∙◌, sym, ap}
+use Rattle.std.proofs.Common.{◌∙◌, sym}
 use Rattle.ordered_table.proofs.table.stands_at.Goals as goal
 
 pub returns-in-Some : goal.returns-in-Some

@@ -1,7 +1,7 @@
 use Rattle.std.proofs.Common.{◌∙◌, refl, sym, ap}
 use Rattle.std.specs.Map.{lookup, remove_entry}
 use Rattle.ordered_table.specs.Table.{Places, entries}
-use Rattle.ordered_table.proofs.Gaps.{value_of, gap_kept, taken_kept, emptied_at}
+use Rattle.ordered_table.proofs.Gaps.{value_of, gap_kept, taken_count, taken_kept, emptied_at}
 use Rattle.ordered_table.proofs.table.Table.take_at.Goals as goal
 
 pub invariant_of-self : goal.invariant_of-self
@@ -22,13 +22,16 @@ returns-in_err-value-clause-entries g c =
 
 pub overflow_sub-self : goal.overflow_sub-self
 overflow_sub-self g c =
-    (taken_kept g.K.PartialEq.eq (g.K.PartialEq.eq c.args.key.now) (g.met.K.Eq.laws.congr c.args.key.now) c.self.inside.rows.entries c.self.inside.live c.self.invariant _ c.empty_at.ensures.unique _ _ c.empty_at.ensures.entries refl
-    c.empty_at.ensures.unique (sym c.in_ok-value.ensures.taken)).0
+    (taken_count g.K.PartialEq.eq (g.K.PartialEq.eq c.args.key.now) (g.met.K.Eq.laws.congr c.args.key.now) c.self.inside.rows.entries c.self.inside.live c.self.invariant _ c.empty_at.ensures.unique _ c.empty_at.ensures.entries (sym c.in_ok-value.ensures.taken)).0
+
+pub sweep-requires : goal.sweep-requires
+sweep-requires g c =
+    record { count = (taken_count g.K.PartialEq.eq (g.K.PartialEq.eq c.args.key.now) (g.met.K.Eq.laws.congr c.args.key.now) c.self.inside.rows.entries c.self.inside.live c.self.invariant _ c.empty_at.ensures.unique _ c.empty_at.ensures.entries (sym c.in_ok-value.ensures.taken)).1 }
 
 pub invariant_of-self-2 : goal.invariant_of-self-2
 invariant_of-self-2 g c =
-    (taken_kept g.K.PartialEq.eq (g.K.PartialEq.eq c.args.key.now) (g.met.K.Eq.laws.congr c.args.key.now) c.self.inside.rows.entries c.self.inside.live c.self.invariant _ c.empty_at.ensures.unique _ _ c.empty_at.ensures.entries
-    c.sweep.ensures.entries c.sweep.ensures.unique (sym c.in_ok-value.ensures.taken)).1
+    taken_kept g.K.PartialEq.eq (g.K.PartialEq.eq c.args.key.now) (g.met.K.Eq.laws.congr c.args.key.now) c.self.inside.rows.entries c.self.inside.live c.self.invariant _ c.empty_at.ensures.unique _ _ c.empty_at.ensures.entries
+    c.sweep.ensures.entries c.sweep.ensures.few c.sweep.ensures.unique (sym c.in_ok-value.ensures.taken)
 
 pub returns-clause-taken : goal.returns-clause-taken
 returns-clause-taken g c =
