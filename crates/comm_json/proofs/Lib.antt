@@ -2,3 +2,4 @@ pub mod Wholes
 pub mod LookUp
 pub mod MemberOrder
 pub mod LineNumbers
+pub mod SameTexts

@@ -22,6 +22,6 @@ mod reading;
 pub use in_order::{MemberRef, MembersInOrder};
 pub use json_number::{NumberRef, is_decimal, number_in};
 pub use json_ref::{ItemsRef, JsonKind, JsonRef, LineMembers, LineValue, ObjectRef};
-pub use laws::lines_have_numbers_in_range;
+pub use laws::{compact_texts_are_the_same, lines_have_numbers_in_range};
 pub use ranges::numbers_are_in_range;
 pub use reading::{JsonFault, ParseArena, TextScratch, read_among, read_line};
