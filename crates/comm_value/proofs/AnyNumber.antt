@@ -1,10 +1,9 @@
 -- Each value of a line is taken, where any number is.
-use Rattle.std.proofs.Common.{◌≡◌, ℕ, List, [], Bool, true, false, cond, Option, Some, None, option_map, option_and_then, refl, ap, ◌∙◌}
+use Rattle.std.proofs.Common.{◌≡◌, ℕ, List, true, false, cond, Option, Some, None, option_map, option_and_then, refl, ap, ◌∙◌}
 use Rattle.std.specs.Prelude.{is_some, unwrap_or, ◌&&◌}
 use Rattle.json.specs.Json as json
 use Rattle.json.specs.Json.{Json}
 use Rattle.json.specs.Print.{IsNumber}
-use Rattle.json.specs.Word.{after_number}
 use Rattle.serde_json.specs.Data.{Num, unsigned, negative, float}
 use Rattle.serde_json.specs.Find.{as_integer, is_float}
 use Rattle.serde_json.specs.Read.{number_of as number_read}

@@ -6,7 +6,7 @@ use Rattle.std.specs.Result.{result_ok}
 use Rattle.json.specs.Token.{Token}
 use Rattle.json.specs.Json as json
 use Rattle.json.specs.Json.{Json, value, items, members, item, no_items, member, no_members, parse_map, read_key, after_end_array}
-use Rattle.json.proofs.Grammar.{after_end_array-shorter, read_key-shorter, items_end, items_more, members_end, members_more}
+use Rattle.json.proofs.Grammar.{items_end, items_more, members_end, members_more}
 use Rattle.comm_json.specs.Behind.{in_range, items_in_range, members_in_range, tidy, tidy_items, tidy_members, put}
 use Rattle.comm_value.specs.Tree.{Tree, Members}
 use Rattle.comm_value.specs.Tree as values

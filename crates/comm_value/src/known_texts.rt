@@ -1,8 +1,10 @@
 //! Texts that were met before.
-ghost use Rattle.std.specs.Prelude.{◌≡◌, IfOk};
+ghost use Rattle.std.specs.Prelude.{◌≡◌, ◌≤◌, [], IfOk, length};
+ghost use Rattle.comm_value.specs.KnownTexts.{AreFewAndShort};
 
 use crate::text::Text;
 use std::alloc::{AllocError, Global};
+use std::marker::Model;
 
 /// How many short texts are kept at most, and as many longer ones; two to the power of [`PLACE_BITS`].
 const PLACES: usize = 1024;
@@ -18,7 +20,7 @@ const LONGEST: usize = 40;
 /// Texts that were met before, so that the keys and the id of one message are shared with those of the last.
 ///
 /// It is memory alone: [`KnownTexts::text`] gives what it is asked for, whatever is kept. At most 1,024 texts of up to
-/// 24 bytes are kept, and 1,024 of up to 40, until the owner goes.
+/// 24 bytes are kept, and 1,024 of up to 40, until the owner goes. Contracts see the texts that are kept.
 #[derive(Drop)]
 pub struct KnownTexts {
     // None, or one at each place: the empty text where no other was met.
@@ -26,9 +28,22 @@ pub struct KnownTexts {
     keeps: bool,
 }
 
+impl Model for KnownTexts {
+    ghost use Rattle.std.specs.Prelude.{List, ℕ};
+    ghost use Rattle.comm_value.specs.KnownTexts.{AreFewAndShort};
+
+    ghost Value = { List (List ℕ) };
+
+    ghost view = { λ t. t.places.items };
+
+    ghost invariant = { λ t. AreFewAndShort t.places.items };
+}
+
 impl KnownTexts {
     /// None yet; it takes memory when it keeps its first text.
-    pub fn new(alloc: Global) -> KnownTexts {
+    pub fn new(alloc: Global) -> KnownTexts
+        ensures { result ≡ [] }
+    {
         KnownTexts {
             places: Vec::new(alloc),
             keeps: true,
@@ -36,7 +51,9 @@ impl KnownTexts {
     }
 
     /// One that stays without any, for what is read once.
-    pub fn none(alloc: Global) -> KnownTexts {
+    pub fn none(alloc: Global) -> KnownTexts
+        ensures { result ≡ [] }
+    {
         KnownTexts {
             places: Vec::new(alloc),
             keeps: false,
@@ -47,7 +64,8 @@ impl KnownTexts {
     /// 40 bytes. Err: out of memory, or a reference count at its maximum.
     #[inline(always)]
     pub fn text(&mut self, alloc: Global, text: &str) -> Result<Text, AllocError>
-        ensures { IfOk result (λ t. t ≡ text.now) }
+        ensures text { IfOk result (λ t. t ≡ text.now) }
+        ensures kept { AreFewAndShort self.new }
     {
         let place = place_of(text.as_bytes());
         if let Some(known) = self.places.get(place) {
@@ -61,7 +79,8 @@ impl KnownTexts {
     // A text that isn't at its place, where it is kept if it is short. Err: out of memory.
     #[inline(never)]
     fn unknown(&mut self, alloc: Global, text: &str, place: usize) -> Result<Text, AllocError>
-        ensures { IfOk result (λ t. t ≡ text.now) }
+        ensures text { IfOk result (λ t. t ≡ text.now) }
+        ensures kept { AreFewAndShort self.new }
     {
         if text.len() > LONGEST || !self.keeps {
             return Text::copy_of(alloc, text);
@@ -72,7 +91,10 @@ impl KnownTexts {
     }
 
     // Keeps a text at a place, in that of the one that is there. Err: out of memory.
-    fn keep(&mut self, alloc: Global, place: usize, text: Text) -> Result<(), AllocError> {
+    fn keep(&mut self, alloc: Global, place: usize, text: Text) -> Result<(), AllocError>
+        requires short { length text ≤ 40 }
+        ensures kept { AreFewAndShort self.new }
+    {
         if self.places.is_empty() {
             self.places = empty_places(alloc)?;
         }
@@ -84,7 +106,9 @@ impl KnownTexts {
 }
 
 // The empty text, at each place. Err: out of memory.
-fn empty_places(alloc: Global) -> Result<Vec<Text>, AllocError> {
+fn empty_places(alloc: Global) -> Result<Vec<Text>, AllocError>
+    ensures { IfOk result (λ places. AreFewAndShort places.items) }
+{
     let empty = Text::copy_of(alloc, "")?;
     let mut places = Vec::with_capacity(alloc, 2 * PLACES)?;
     for _ in 0..2 * PLACES {

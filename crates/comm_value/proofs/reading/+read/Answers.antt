@@ -11,7 +11,7 @@ use Rattle.comm_value.specs.Reading.{ReadsItems, ReadsMembers}
 use Rattle.comm_value.specs.View.{tree, items_of as items_view, members_of as members_view}
 use Rattle.comm_value.proofs.FromJsonLemmas.{items_ordered_push}
 use Rattle.comm_value.proofs.Keys.{whole, ordered_insert}
-use Rattle.comm_value.proofs.ReadingLemmas.{no_item, no_item_yet, one_item_more, all_items, no_member_yet, one_member_more, all_members, more_members, HasMembers, whole_object, some_of_ok, as_member, as_end, ordered_inside, if_some, number_read}
+use Rattle.comm_value.proofs.ReadingLemmas.{no_item, one_item_more, all_items, no_member_yet, one_member_more, all_members, more_members, HasMembers, whole_object, some_of_ok, as_member, as_end, ordered_inside, if_some, number_read}
 use Rattle.comm_value.proofs.reading.+read.Goals as goal
 
 pub read_members-returns-in_default-clause-reads : goal.read_members-returns-in_default-clause-reads
