@@ -30,3 +30,6 @@ pub mod Crossing
 pub mod Ordered
 pub mod Rows
 pub mod Planning
+pub mod NoDecimals
+pub mod Integers
+pub mod SendingIntegers

@@ -18,3 +18,4 @@ pub mod Evaluated
 pub mod Planned
 pub mod Code
 pub mod ReadyCode
+pub mod Integers

@@ -1,5 +1,6 @@
 //! Laws of the definitions. Each is the contract of a function that does nothing.
 ghost use Rattle.std.specs.Prelude.{◌≡◌, ℕ, List, [], ◌∷◌, ◌++◌, Option, Some, map, true, false};
+ghost use Rattle.std.specs.List.{AllByRecursion};
 ghost use Rattle.std.specs.List.Sorted.{IsStrictlySortedBy};
 ghost use Rattle.std.specs.Map.{keys_of};
 ghost use Rattle.std.specs.Ordering.{nat_cmp};
@@ -13,6 +14,7 @@ ghost use Rattle.comm_core.specs.declared.entry.Entry.{Entry};
 ghost use Rattle.comm_core.specs.Row.{row_of, rows, with_row};
 ghost use Rattle.comm_core.specs.Reads.{in_order, infos};
 ghost use Rattle.comm_core.specs.RunLaws.{ListsThoseLeftOpen, HasStatesGivenLast, HasNoOtherStates};
+ghost use Rattle.comm_core.specs.Integers.{AsksForIntegers, HoldsIntegers, SendsIntegers};
 ghost use Rattle.comm_core.specs.RunLaws.{MergesUpdates, LeavesSomeStateless};
 ghost use Rattle.comm_core.specs.declared.call.Call.{Call};
 
@@ -119,4 +121,13 @@ pub fn rows_are_what_entries_change()
         → IsLegal clients comms (es ++ e ∷ [])
         → with_row (row_of (replay comms es) e) (rows (replay comms es))
         ≡ rows (replay comms (es ++ e ∷ [])) }
+{}
+
+/// A manager of integers sends no decimal: where no call brings one and no Free target is registered, no message that
+/// goes out has one, and no comm's state.
+pub fn no_decimal_goes_out_where_none_came_in()
+    ensures sent { (clients comms : ℕ) (h : List Entry) → IsLegal clients comms h
+        → AllByRecursion AsksForIntegers h → AllByRecursion SendsIntegers h }
+    ensures states { (clients comms : ℕ) (h : List Entry) → IsLegal clients comms h
+        → AllByRecursion AsksForIntegers h → HoldsIntegers (replay comms h) }
 {}

@@ -44,8 +44,9 @@ pub use laws::{
     an_end_comes_last, comms_are_listed_in_the_order_of_ids,
     comms_have_the_state_that_they_were_given_last, comms_in_order_are_the_comms,
     comms_that_are_listed_were_left_open, exact_machines_leave_no_choice, legal_histories_grow,
-    nothing_follows_an_end, prefixes_of_legal_histories_are_legal, refused_calls_change_nothing,
-    replays_are_consistent, replays_grow, rows_are_what_entries_change, some_kinds_have_no_states,
+    no_decimal_goes_out_where_none_came_in, nothing_follows_an_end,
+    prefixes_of_legal_histories_are_legal, refused_calls_change_nothing, replays_are_consistent,
+    replays_grow, rows_are_what_entries_change, some_kinds_have_no_states,
     steps_keep_machines_exact, widgets_have_their_opening_state_merged_with_their_updates,
 };
 pub use limits::{BadCommsLimit, Limits, MOST_COMMS, NewFault};

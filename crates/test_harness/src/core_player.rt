@@ -6,11 +6,12 @@ ghost use Rattle.comm_core.specs.Tables.{IdleWhere};
 
 use crate::call_log::CallLog;
 use crate::call_words::{call_of, split_word};
+use crate::core_of_limit::core_of_limit;
 use crate::entry_text::{append_entry, append_row};
 use crate::reply_text::append_answer;
 use crate::test_fault::{TestFault, holds};
 use crate::value_text::append_words;
-use comm_core::{Core, Entry, Finished, Limits, Outgoings, Ready, Reply, Row};
+use comm_core::{Core, Entry, Finished, Outgoings, Ready, Reply, Row};
 use comm_messages::{Outgoing, Parent};
 use comm_script::{append_out, append_state_line};
 use comm_targets::Target;
@@ -377,13 +378,7 @@ pub fn play_over_core<T: Target>(
     mut player: CorePlayer<T>,
     lines: &str,
 ) -> Result<Vec<u8>, TestFault> {
-    let limits = Limits {
-        clients: 4,
-        comms,
-        history: 1_000_000,
-        outbox: 64,
-    };
-    let mut core = Core::new(alloc, limits)?;
+    let mut core = core_of_limit(alloc, comms)?;
     let mut text = Vec::new(alloc);
     let played = play_lines(alloc, &mut core, &mut player, lines, &mut text);
     let ended = core.stop_all();

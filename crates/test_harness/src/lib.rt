@@ -7,6 +7,7 @@ mod call_log;
 mod call_words;
 mod cases;
 mod comparison;
+mod core_of_limit;
 mod core_player;
 mod entry_text;
 mod manager_kind;
