@@ -1,5 +1,5 @@
 -- A run in which no decimal comes in sends none.
-use Rattle.std.proofs.Common.{◌≡◌, ℕ, Bool, true, false, not, cond, List, [], ◌∷◌, ◌++◌, map, Option, None, Some, Ok, Err, IfSome, refl, ap, sym, ◌∙◌, subst}
+use Rattle.std.proofs.Common.{◌≡◌, ℕ, Bool, true, false, cond, List, Option, None, Some, Ok, Err, IfSome, refl, subst}
 use Rattle.std.specs.Prelude.{codes, Result, unwrap_or}
 use Rattle.std.specs.Str.{bytes_eq}
 use Rattle.std.specs.List.{AllByRecursion}
@@ -7,15 +7,12 @@ use Rattle.std.specs.Result.{result_map_both}
 use Rattle.comm_value.specs.Tree.{Tree, text, dict, Members, no_members, member}
 use Rattle.comm_value.specs.Node.{Path, get}
 use Rattle.comm_value.specs.Gives.{◌>>=◌}
-use Rattle.comm_value.specs.Merge.{merged}
 use Rattle.comm_value.specs.Paths.{read_paths}
 use Rattle.comm_value.specs.Put.{placed_in}
-use Rattle.comm_value.specs.Places.{member_paths, plain_members}
+use Rattle.comm_value.specs.Places.{member_paths}
 use Rattle.comm_value.specs.Decimals.{HasNoDecimal, MembersHaveNoDecimal}
 use Rattle.comm_value.specs.declared.fault.ValueFault.{ValueFault}
 use Rattle.comm_messages.specs.Content.{Content}
-use Rattle.comm_messages.specs.declared.outgoing.Outgoing.{Outgoing}
-use Rattle.comm_messages.specs.declared.outgoing.Outgoing.TheVariants as out
 use Rattle.comm_targets.specs.Answers.{answer_of, echo_of, count_answer, plain_of}
 use Rattle.comm_targets.specs.Widget as widget
 use Rattle.comm_targets.specs.Widget.{state_of, with_buffers, fault_of, given_state, opening_state, is_supported, state_message, update_of, echoes, nothing, one_message, new_state, answer_with, merge_answer, push_answer, update_answer, custom_answer, method_answer, message_answer}
@@ -80,7 +77,7 @@ state_so (dict ms) c s h is = with_so (read_paths (get (codes "buffer_paths") c.
 state_so t c s h is = no_state BadState s is
 
 message_so : (method : List ℕ) (u : Members) → MembersHaveNoDecimal u → MembersHaveNoDecimal (state_message method u).content
-message_so method u h = (paths_so (member_paths u), tt, plain_members_so u h, tt)
+message_so method u h = (paths_so (member_paths u), (tt, (plain_members_so u h, tt)))
 
 echoes_so : (echoing : Bool) (u : Members) → MembersHaveNoDecimal u → BodiesAreSo (echoes echoing u)
 echoes_so echoing no_members h = tt
@@ -123,7 +120,7 @@ method_so : (echoing : Bool) (o p : Option Tree) (now : Members) (c : Content) (
     → ◌≡◌ {A = Gave} (cond {A = Gave} b (update_answer echoing o now c) (cond {A = Gave} d (Ok (one_message (update_of now))) (cond {A = Gave} e (Ok (custom_answer p c.buffers)) (Err UnknownMethod)))) (Ok a)
     → AnswerIsSo a
 method_so echoing o p now c a true d e h hs is = updated_so echoing o now c a h hs is
-method_so echoing o p now c a false true e h hs is = answer_is (one_message (update_of now)) a is (tt, message_so (codes "update") now hs, tt)
+method_so echoing o p now c a false true e h hs is = answer_is (one_message (update_of now)) a is (tt, (message_so (codes "update") now hs, tt))
 method_so echoing o p now c a false false true h hs is = answer_is (custom_answer p c.buffers) a is (custom_so p c.buffers)
 method_so echoing o p now c a false false false h hs is = no_answer UnknownMethod a is
 
@@ -141,20 +138,20 @@ widget_so echoing now (event.Open id version body) a h hs is =
 widget_so echoing now (event.Msg id body) a h hs is = told_so echoing (get (codes "method") body.content) now body a h hs is
 widget_so echoing now (event.Launch id state) a h hs is = answer_is (new_state state) a is (h, tt)
 widget_so echoing now (event.Push id state) a h hs is =
-    answer_is (push_answer now state) a is (merged_so now state hs h, message_so (codes "update") state h, tt)
+    answer_is (push_answer now state) a is (merged_so now state hs h, (message_so (codes "update") state h, tt))
 
 state_or_none : (now : Option Members) → StateIsSo now → MembersHaveNoDecimal (unwrap_or now no_members)
 state_or_none None h = tt
 state_or_none (Some s) h = h
 
 echo_so : (e : Event) → EventIsSo e → AnswerIsSo (echo_of e)
-echo_so (event.Msg id body) h = (tt, h, tt)
+echo_so (event.Msg id body) h = (tt, (h, tt))
 echo_so (event.Open id version body) h = (tt, tt)
 echo_so (event.Launch id state) h = (tt, tt)
 echo_so (event.Push id state) h = (tt, tt)
 
 count_so : (n : ℕ) (e : Event) → AnswerIsSo (count_answer n e)
-count_so n (event.Msg id body) = (tt, (tt, tt), tt)
+count_so n (event.Msg id body) = (tt, ((tt, tt), tt))
 count_so n (event.Open id version body) = (tt, tt)
 count_so n (event.Launch id state) = (tt, tt)
 count_so n (event.Push id state) = (tt, tt)

@@ -1,5 +1,5 @@
 -- What the tests of a call that may ask a target come to.
-use Rattle.std.proofs.Common.{◌≡◌, ℕ, true, false, List, [], Option, None, Some, Result, Ok, Err, IfOk, sym, subst}
+use Rattle.std.proofs.Common.{◌≡◌, ℕ, true, false, List, Option, None, Some, Result, Ok, Err, IfOk, sym, subst}
 use Rattle.std.specs.declared.alloc.AllocError.{AllocError}
 use Rattle.comm_value.specs.Tree.{Members}
 use Rattle.comm_messages.specs.Content.{Content}

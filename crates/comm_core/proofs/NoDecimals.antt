@@ -1,5 +1,5 @@
 -- Values without decimals stay so: where members are put in, merged, or given buffers.
-use Rattle.std.proofs.Common.{◌≡◌, ℕ, zero, suc, Bool, true, false, cond, List, [], ◌∷◌, Option, None, Some, Ok, Err, Ordering, Less, Equal, Greater, option_map, option_and_then, map, refl, ap, sym, ◌∙◌, subst}
+use Rattle.std.proofs.Common.{◌≡◌, ℕ, zero, suc, true, false, cond, List, [], ◌∷◌, Option, None, Some, Ok, Err, Less, Equal, Greater, option_map, option_and_then, map, refl, subst}
 use Rattle.std.specs.Prelude.{Result}
 use Rattle.std.specs.Ordering.{is_eq, match_ordering}
 use Rattle.comm_value.specs.Order.{key_cmp}
@@ -8,7 +8,7 @@ use Rattle.comm_value.specs.Node.{Path, get, get_item, child}
 use Rattle.comm_value.specs.Places.{plain, plain_items, plain_members}
 use Rattle.comm_value.specs.Put.{insert, replace, with_child, put, placed_next, placed_from, placed, members_in, placed_in}
 use Rattle.comm_value.specs.Merge.{merged}
-use Rattle.comm_value.specs.Paths.{items_from, step_tree, path_tree, paths_tree}
+use Rattle.comm_value.specs.Paths.{items_from, step_tree, path_tree}
 use Rattle.comm_value.specs.Decimals.{HasNoDecimal, ItemsHaveNoDecimal, MembersHaveNoDecimal}
 use Rattle.comm_value.specs.declared.path.Step.{Step}
 use Rattle.comm_value.specs.declared.path.Step.TheVariants.{Key, Index}

@@ -1,11 +1,9 @@
 -- A run in which no decimal comes in, step by step.
-use Rattle.std.proofs.Common.{◌≡◌, ℕ, Bool, true, false, not, cond, List, [], ◌∷◌, ◌++◌, map, Option, None, Some, Ok, Err, IfSome, refl, ap, sym, ◌∙◌, subst}
-use Rattle.std.specs.Prelude.{codes}
+use Rattle.std.proofs.Common.{◌≡◌, ℕ, Bool, true, false, not, cond, List, [], ◌∷◌, ◌++◌, map, Option, None, Some, Ok, Err, refl, subst}
 use Rattle.std.specs.Str.{bytes_eq}
 use Rattle.std.specs.List.{AllByRecursion}
 use Rattle.comm_value.specs.Tree.{Members}
 use Rattle.comm_value.specs.Places.{member_paths}
-use Rattle.comm_value.specs.Decimals.{MembersHaveNoDecimal}
 use Rattle.comm_messages.specs.Content.{Content}
 use Rattle.comm_messages.specs.declared.outgoing.Outgoing.{Outgoing}
 use Rattle.comm_messages.specs.declared.outgoing.Outgoing.TheVariants as out
@@ -14,8 +12,8 @@ use Rattle.comm_targets.specs.declared.event.Event.TheVariants as event
 use Rattle.comm_targets.specs.declared.answer.Answer.{Answer}
 use Rattle.comm_targets.specs.declared.fault.TargetFault.{TargetFault}
 use Rattle.comm_core.specs.Machine.{Name, Registered, Machine, empty, at, has, with_at, without, ids_of, others}
-use Rattle.comm_core.specs.Step.{Outcome, Stepped, Verdict, Done, AskTarget, asks, judged, request_of, step, stepped, answer_step, refusal_step, messages_of, stated, of_comm, is_full, holds_widget, comm_id}
-use Rattle.comm_core.specs.Exact.{is_exact, outcome_by, outcome_at, exact_outcome}
+use Rattle.comm_core.specs.Step.{Outcome, Stepped, Verdict, Done, AskTarget, judged, request_of, stepped, answer_step, refusal_step, messages_of, stated, of_comm, is_full, holds_widget, comm_id}
+use Rattle.comm_core.specs.Exact.{is_exact, outcome_by, outcome_at}
 use Rattle.comm_core.specs.History.{applied, replay_from, replay, IsLegal}
 use Rattle.comm_core.specs.Integers.{BringsNoDecimal, AsksForIntegers, HasIntegersAlone, SendsIntegers, HoldsIntegers}
 use Rattle.comm_core.specs.declared.comm.Comm.{Comm}
@@ -25,7 +23,7 @@ use Rattle.comm_core.specs.declared.target_request.TargetRequest.{TargetRequest}
 use Rattle.comm_core.specs.declared.call.Call.{Call}
 use Rattle.comm_core.specs.declared.call.Call.TheVariants.{Register, Open, Msg, Close, Unregister, Launch, Push, Send, HangUp}
 use Rattle.comm_core.proofs.Exacting.{no_choice, step_keeps}
-use Rattle.comm_core.proofs.Running.{Steps, Runs, legal_runs}
+use Rattle.comm_core.proofs.Running.{Runs, legal_runs}
 use Rattle.comm_core.proofs.Stepping.{some_same, none_stepped}
 use Rattle.comm_core.proofs.NoDecimals.{plain_members_so, paths_so}
 use Rattle.comm_core.proofs.Integers.{StateIsSo, BodiesAreSo, AnswerIsSo, EventIsSo, answered_so}
@@ -122,7 +120,7 @@ answer_step_so : (m : Machine) (name : Name) (e : Event) (a : Answer) → EventI
 answer_step_so m name (event.Open id version body) a b w h = (so_messages id a.messages w.1, so_append m.comms _ h w.0)
 answer_step_so m name (event.Msg id body) a b w h = (so_messages id a.messages w.1, so_stated m.comms id name a.state h w.0)
 answer_step_so m name (event.Launch id state) a b w h =
-    (((paths_so (member_paths state), plain_members_so state b, tt), tt), so_append m.comms _ h w.0)
+    (((paths_so (member_paths state), (plain_members_so state b, tt)), tt), so_append m.comms _ h w.0)
 answer_step_so m name (event.Push id state) a b w h = (so_messages id a.messages w.1, so_stated m.comms id name a.state h w.0)
 
 is_stepped : (x s : Stepped) → Some x ≡ Some s → StepIsSo x.outgoing x.next → StepIsSo s.outgoing s.next

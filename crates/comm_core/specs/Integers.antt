@@ -1,5 +1,5 @@
 -- Runs in which no decimal comes in.
-use Rattle.std.specs.Prelude.{◌≡◌, ℕ, false, List, Some, IfSome, ⊤}
+use Rattle.std.specs.Prelude.{◌≡◌, false, Some, IfSome, ⊤}
 use Rattle.std.specs.List.{AllByRecursion}
 use Rattle.comm_value.specs.Decimals.{MembersHaveNoDecimal}
 use Rattle.comm_messages.specs.declared.outgoing.Outgoing.{Outgoing}

@@ -11,7 +11,7 @@ use Rattle.comm_targets.specs.declared.event.Event.TheVariants as event
 use Rattle.comm_targets.specs.declared.fault.TargetFault.{TargetFault}
 use Rattle.comm_targets.specs.declared.fault.TargetFault.TheVariants as fault
 use Rattle.comm_core.specs.Machine.{Name, Machine, at, has}
-use Rattle.comm_core.specs.Step.{Outcome, Verdict, Done, AskTarget, Stepped, step, asks, judged, stepped}
+use Rattle.comm_core.specs.Step.{Outcome, Done, AskTarget, Stepped, step, asks, judged, stepped}
 use Rattle.comm_core.specs.Step.{answer_step, with_target, with_another, without_target, without_comm}
 use Rattle.comm_core.specs.Step.{holds_widget, Allowed}
 use Rattle.comm_core.specs.Tables.{Targets, Opens, Agrees, AnswerIsStaged, HaveStaged, unstaged, emptied}

@@ -1,4 +1,4 @@
-use Rattle.std.proofs.Common.{◌≡◌, ◌⊎◌, ℕ, true, List, [], ◌∷◌, Option, Some, Ok, Err, option_map, refl, ap, sym, ◌∙◌, subst, true≢false}
+use Rattle.std.proofs.Common.{◌≡◌, ◌⊎◌, ℕ, true, List, [], ◌∷◌, Option, Some, Ok, option_map, refl, ap, sym, ◌∙◌, subst, true≢false}
 use Rattle.comm_value.specs.Tree.{Members}
 use Rattle.comm_messages.specs.Content.{Content}
 use Rattle.comm_messages.specs.declared.outgoing.Outgoing.{Outgoing}
@@ -16,7 +16,7 @@ use Rattle.comm_core.specs.Step.{Stepped, answer_step, holds_widget, messages_of
 use Rattle.comm_core.specs.Tables.{Targets, machine_of, registered_of, targets_of}
 use Rattle.comm_core.specs.Told.{asked, bodies_in}
 use Rattle.comm_core.specs.declared.reply.Reply.{Reply}
-use Rattle.comm_core.specs.Plans.{CanAsk, HasAnswered, SuitsKind}
+use Rattle.comm_core.specs.Plans.{HasAnswered, SuitsKind}
 use Rattle.comm_core.specs.declared.target_request.TargetRequest.{TargetRequest}
 use Rattle.comm_core.specs.declared.table_update.TableUpdate.TheVariants.{Commit}
 use Rattle.comm_core.proofs.Names.{has_target, target_at}

@@ -1,7 +1,7 @@
-use Rattle.std.proofs.Common.{◌≡◌, [], None, refl, ap, sym, ◌∙◌, subst}
+use Rattle.std.proofs.Common.{None, refl, ap, sym, ◌∙◌}
 use Rattle.std.proofs.lemmas.Result.{IfOk-weaker}
 use Rattle.comm_core.specs.Machine.{Name}
-use Rattle.comm_core.specs.Step.{AskTarget, Done, judged}
+use Rattle.comm_core.specs.Step.{AskTarget}
 use Rattle.comm_core.specs.Tables.{machine_of}
 use Rattle.comm_core.specs.Told.{asked}
 use Rattle.comm_core.specs.declared.call.Call.TheVariants as call

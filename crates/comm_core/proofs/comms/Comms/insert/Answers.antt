@@ -1,4 +1,4 @@
-use Rattle.std.proofs.Common.{◌≡◌, ◌∙◌, ◌++◌, ◌∷◌, [], ap, sym}
+use Rattle.std.proofs.Common.{◌∙◌, ◌++◌, ◌∷◌, [], ap, sym}
 use Rattle.ordered_table.specs.Table.{entries}
 use Rattle.comm_core.specs.Machine.{Name}
 use Rattle.comm_core.specs.Tables.{Table}

@@ -1,7 +1,7 @@
 use Rattle.std.proofs.Common.{None, ◌∙◌, ap, sym, subst}
 use Rattle.comm_core.specs.Evaluated.{evaluated}
 use Rattle.comm_core.specs.Planned.{updated_row}
-use Rattle.comm_core.specs.Ready.{Readied, HasStagedAnswer, IsReady, row_at}
+use Rattle.comm_core.specs.Ready.{Readied, HasStagedAnswer, IsReady}
 use Rattle.comm_core.specs.declared.call.Call.{Call}
 use Rattle.comm_core.proofs.Planning.{planned_is}
 use Rattle.comm_core.proofs.manager.Core.record.Goals as goal
