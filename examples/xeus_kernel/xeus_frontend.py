@@ -12,9 +12,9 @@ sys.path.insert(0, str(pathlib.Path(__file__).resolve().parent.parent / "kernel"
 import frontend
 from checks import check, counted
 from frontend import Frontend, Message
-from number_texts import Number, dumps
+from number_texts import Number, dumps, loads
 
-__all__ = ["Number", "XeusFrontend", "cell", "check", "counted", "said", "update"]
+__all__ = ["Number", "XeusFrontend", "cell", "check", "counted", "loads", "said", "update"]
 frontend.SECONDS = 60
 
 
