@@ -1,7 +1,6 @@
 """The test kernel with shell and control on two threads: what comes on control while a cell runs. `test_threads.py
 KERNELS SECONDS`: the folder of the kernelspecs, and how long the storm takes. The last line is 'N passed, M failed'."""
 
-import json
 import sys
 import time
 import traceback
@@ -59,40 +58,58 @@ def without_a_cell(front):
     check("an open on control is the kernel's", front.info(), {"e": "listens"})
 
 
-def storm(front, seconds):
-    """Comms are opened, used and ended by a cell, while control asks, opens, sends and closes."""
+def answered_beside_a_storm(front, seconds):
+    """A cell opens, uses and ends comms, while control asks what the manager answers alone."""
     widget(front)
-    running, posted, infos = execute(front, ["storm", 20, float(seconds)]), [], []
-    end = time.monotonic() + float(seconds)
-    for number in range(10**9):
-        if time.monotonic() > end:
-            break
+    running, posted = execute(front, ["storm", 20, seconds]), []
+    end = time.monotonic() + seconds
+    while time.monotonic() < end:
+        info = front.post("comm_info_request", {}, "control")
+        posted += [info, on_control(front, "w", method="request_state")]
+        comms = front.reply(info, "control")["comms"]
+        check("comm_info has the widget", comms.get("w"), {"target_name": "jupyter.widget"})
+    came, ended = front.gather(running, *posted)
+    check("all end, the cell last or nearly", (len(ended), running in ended[-4:]), (1 + len(posted), True))
+    states = [said(came[each]) for each in posted[1::2]]
+    check("each state", [each for each in states if each != [("comm_msg", update(value=1))]], [])
+    print(f"{len(posted)} requests on control answered beside a cell's storm")
+
+
+def left_to_the_shell(front, seconds):
+    """The same storm, while control opens, sends and closes: that waits, and nothing of it is lost."""
+    widget(front)
+    running, posted = execute(front, ["storm", 20, seconds]), []
+    end, number = time.monotonic() + seconds, 0
+    while time.monotonic() < end:
         comm_id = f"c{number % 7}"
-        infos.append(front.post("comm_info_request", {}, "control"))
         posted.append(front.post("comm_open", {"comm_id": comm_id, "target_name": "echo", "data": {}}, "control"))
-        posted += [on_control(front, comm_id, n=number), on_control(front, "w", method="request_state")]
-        posted += [on_control(front, "w", **update(value=number)), on_control(front, "nobody", n=1)]
+        posted += [on_control(front, comm_id, n=number), on_control(front, "w", **update(value=number))]
         posted.append(front.post("comm_close", {"comm_id": comm_id, "data": {}}, "control"))
-        check("each comm_info is answered", "comms" in front.reply(infos[-1], "control"), True)
-        time.sleep(0.02)
-    came, ended = front.gather(running, *posted, *infos)
-    check("all end", len(ended), 1 + len(posted) + len(infos))
-    echoes = [said(came[each]) for each in posted[1::6]]
-    check("each echo", echoes, [[("comm_msg", {"n": number})] for number in range(len(infos))])
-    check("the kernel's code ran on one thread at a time", front.run(cell(["at_once"]))[0], "0")
-    check("the rest of the storm is open", set(front.info()) - {"w"}, {each for each in front.info() if "storm" in each})
+        number += 1
+        time.sleep(0.005)
+    came, ended = front.gather(running, *posted)
+    check("all end, in their order", ended, [running, *posted])
+    echoes = [said(came[each]) for each in posted[1::4]]
+    check("each comm answers", echoes, [[("comm_msg", {"n": each})] for each in range(number)])
+    heard = [each[2]["state"]["value"] for each in front.heard() if each[1] == "w"]
+    check("the widget hears each move, in order", heard, list(range(number)))
+    left = front.info()
+    check("what the storm left is open", [each for each in left if not each.startswith("storm")], ["w"])
     front.run(cell(["reset"]))
     check("it ends with the kernel's", front.info(), {})
-    print(f"{len(infos)} rounds on control beside the cell")
+    print(f"{len(posted)} messages on control taken after a cell's storm")
 
 
 def main(kernels, seconds):
     front = XeusFrontend(kernels, "two_threads")
-    for part in (beside_a_cell, without_a_cell, lambda front: storm(front, seconds)):
+    parts = [(beside_a_cell,), (without_a_cell,)]
+    parts += [(answered_beside_a_storm, float(seconds)), (left_to_the_shell, float(seconds))]
+    for part, *more in parts:
         try:
-            part(front)
+            part(front, *more)
         except Exception:
-            check("no error", traceback.format_exc(), None)
+            check(f"{part.__name__} ends in no error", traceback.format_exc(), None)
+    check("the kernel's code ran on one thread at a time", front.run(cell(["at_once"]))[0], "0")
     check("the kernel ends in order", front.end(), 0)
     return counted()
 
