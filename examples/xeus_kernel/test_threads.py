@@ -58,6 +58,16 @@ def without_a_cell(front):
     check("an open on control is the kernel's", front.info(), {"e": "listens"})
 
 
+def stock_runs_both(front):
+    """What stock does: the kernel's code for a message on control runs beside the cell's."""
+    front.opens("e", "listens")
+    running = execute(front, ["sleep", 1])
+    moved = on_control(front, "e", n=1)
+    ended = front.gather(running, moved)[1]
+    check("stock: a message on control doesn't wait", ended, [moved, running])
+    check("stock: two threads run the kernel's code", front.run(cell(["at_once"]))[0], "1")
+
+
 def answered_beside_a_storm(front, seconds):
     """A cell opens, uses and ends comms, while control asks what the manager answers alone."""
     widget(front)
@@ -101,16 +111,17 @@ def left_to_the_shell(front, seconds):
 
 
 def main(kernels, seconds):
-    front = XeusFrontend(kernels, "two_threads")
-    parts = [(beside_a_cell,), (without_a_cell,)]
-    parts += [(answered_beside_a_storm, float(seconds)), (left_to_the_shell, float(seconds))]
-    for part, *more in parts:
+    front, stock = XeusFrontend(kernels, "two_threads"), XeusFrontend(kernels, "stock_two_threads")
+    parts = [(stock_runs_both, stock), (beside_a_cell, front), (without_a_cell, front)]
+    parts += [(part, front, float(seconds)) for part in (answered_beside_a_storm, left_to_the_shell)]
+    for part, *taken in parts:
         try:
-            part(front, *more)
+            part(*taken)
         except Exception:
             check(f"{part.__name__} ends in no error", traceback.format_exc(), None)
     check("the kernel's code ran on one thread at a time", front.run(cell(["at_once"]))[0], "0")
     check("the kernel ends in order", front.end(), 0)
+    stock.close()
     return counted()
 
 
