@@ -1,4 +1,4 @@
-ghost use Rattle.std.specs.Prelude.{◌≡◌, Ok, IfOk, true};
+ghost use Rattle.std.specs.Prelude.{◌≡◌, ◌-◌, Ok, IfOk, true};
 ghost use Rattle.std.specs.BTreeMap.{insert_entry};
 ghost use Rattle.json.specs.Value.{members_view};
 ghost use Rattle.json.specs.Json.{no_members};
@@ -35,9 +35,6 @@ impl<'v, 'a> MembersInOrder<'v, 'a> {
         }
     }
 }
-
-// The most members that an insertion moves.
-const NEAR: usize = 64;
 
 impl<'v, 'a> ObjectRef<'v, 'a> {
     /// Its members in the order of their keys' bytes, each key once. O(n) where they are nearly in order, else
@@ -96,7 +93,7 @@ fn insert_near_end<'v, 'a>(
         → all.new.items ≡ insert_entry text_cmp all.old.items key.entry value.entry }
 {
     let mut place = all.len();
-    let least = place.saturating_sub(NEAR);
+    let least = lowest_near(place);
     while place > least {
         match key.cmp(all[place - 1].0) {
             Ordering::Greater => {
@@ -115,6 +112,13 @@ fn insert_near_end<'v, 'a>(
     }
     all.insert(0, (key, value))?;
     Ok(true)
+}
+
+// The lowest place that is near the end: the last 64 members are the most that an insertion moves.
+fn lowest_near(len: usize) -> usize
+    ensures { result ≡ len - 64 }
+{
+    len.saturating_sub(64)
 }
 
 fn by_map<'v, 'a>(

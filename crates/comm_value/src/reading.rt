@@ -1,6 +1,6 @@
 //! Dicts that are read straight from the tokens of a text, with no tree of the text beside.
 ghost use Rattle.std.specs.Prelude.{◌≡◌, ◌<◌, true, is_some, Some, IfSome, IfOk, OnOk, OnSome, option_map};
-ghost use Rattle.std.specs.Prelude.{[], ◌∷◌, ◌++◌, length};
+ghost use Rattle.std.specs.Prelude.{[], ◌∷◌, ◌++◌, length, nat_le};
 ghost use Rattle.serde_json.specs.Read.{number_of};
 ghost use Rattle.comm_value.specs.FromJson.{taken_as};
 ghost use Rattle.comm_value.specs.Order.{is_ordered, members_ordered};
@@ -17,9 +17,6 @@ use comm_json::NumberRef;
 use json::{Reader, Token};
 use std::alloc::{AllocError, Global};
 use std::cmp::Ordering;
-
-/// The most items of a list, and members of an object, that are read one by one.
-const MOST: usize = 64;
 
 impl Dict {
     /// Reads the members of an object that has begun, in which values nest at most so deep; short texts are shared with
@@ -104,10 +101,18 @@ fn read_items(
         if reader.take_end_array() {
             return Items::new(alloc, found).ok();
         }
-        if found.len() == MOST {
+        if is_many(found.len()) {
             return None;
         }
     }
+}
+
+// Whether so many items of a list, or members of an object, are the most that are read one by one.
+#[inline(always)]
+fn is_many(count: usize) -> bool
+    ensures { result ≡ nat_le 64 count }
+{
+    64 <= count
 }
 
 // With room to spare the item is pushed where this is called.
@@ -207,7 +212,7 @@ fn read_rest(
 {
     let mut found = before;
     while let Some(member) = read_member(alloc, numbers, texts, reader, depth)? {
-        if found.len() == MOST {
+        if is_many(found.len()) {
             return None;
         }
         found = put_member(found, member).ok()?;
