@@ -1,5 +1,5 @@
 //! What each fault says.
-use comm_core::NewFault;
+use comm_core::{BadCommsLimit, NewFault};
 use comm_messages::{Field, MessageFault};
 use comm_targets::TargetFault;
 use comm_value::ValueFault;
@@ -119,6 +119,11 @@ const NEW: [(NewFault, &str); 2] = [
     (NewFault::Memory, "memory ran out"),
 ];
 
+const LIMITS: [(BadCommsLimit, &str); 1] = [(
+    BadCommsLimit,
+    "the limit of comms is out of bounds: 1 to 1048576",
+)];
+
 // What each of these faults says, a line each.
 fn say<F: Display>(rt: &HostRuntime, name: &str, rows: &[(F, &str)]) -> Result<(), TestFault> {
     let alloc = rt.alloc();
@@ -137,5 +142,6 @@ fn each_fault_says_what_was_wrong_and_where(rt: HostRuntime) -> Result<(), Fail>
     say(&rt, "faults of values", &VALUES)?;
     say(&rt, "faults of messages", &MESSAGES)?;
     say(&rt, "faults of targets", &TARGETS)?;
-    Ok(say(&rt, "faults of new managers", &NEW)?)
+    say(&rt, "faults of new managers", &NEW)?;
+    Ok(say(&rt, "a bad limit of comms", &LIMITS)?)
 }
