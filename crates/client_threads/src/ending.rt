@@ -1,7 +1,7 @@
 //! The end of a manager whose threads are done.
 ghost use Rattle.std.specs.Prelude.{◌≡◌, ◌++◌, length, All, IfOk};
 ghost use Rattle.comm_core.specs.History.{IsLegal};
-ghost use Rattle.comm_manager.specs.Mine.{IsSettled};
+ghost use Rattle.comm_versions.specs.Mine.{IsSettled};
 ghost use Rattle.comm_outbox.specs.Sides.{entries_of};
 
 use comm_manager::{

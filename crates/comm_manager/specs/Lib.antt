@@ -1,11 +1,7 @@
-pub mod Asked
-pub mod Code
 pub mod JournalView
 pub mod Log
 pub mod UnderLock
-pub mod Mine
 pub mod Names
 pub mod SeqView
 pub mod SeqShares
-pub mod ClientView
 pub mod Why

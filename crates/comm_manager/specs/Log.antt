@@ -11,7 +11,7 @@ use Rattle.comm_core.specs.declared.call.Call.TheVariants.{Register}
 use Rattle.comm_core.specs.declared.entry.Entry.{Entry}
 use Rattle.comm_core.specs.declared.limits.Limits.{Limits}
 use Rattle.comm_core.specs.declared.reply.Reply.{Reply}
-use Rattle.comm_manager.specs.Asked.{IsNext}
+use Rattle.comm_versions.specs.Asked.{IsNext}
 use Rattle.comm_manager.specs.SeqView.{SeqView, seq_view}
 use Rattle.comm_manager.specs.UnderLock.{LockInvariant, OutboxInvariant}
 use Rattle.comm_manager.specs.declared.change_log.ChangeLog.{ChangeLog}

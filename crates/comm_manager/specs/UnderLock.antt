@@ -1,25 +1,19 @@
 -- What the lock keeps.
-use Rattle.std.specs.Prelude.{ℕ, ◌≡◌, ◌≤◌, ◌+◌, true, false, List, [], ◌∷◌, length}
+use Rattle.std.specs.Prelude.{ℕ, ◌≡◌, ◌≤◌, ◌+◌, false, List, [], ◌∷◌, length}
 use Rattle.comm_core.specs.Limits.{AreAllowed}
-use Rattle.comm_core.specs.History.{IsLegal, has_end, mine, replay}
-use Rattle.comm_core.specs.Ready.{CoreValue, machine}
+use Rattle.comm_core.specs.History.{IsLegal, has_end, mine}
+use Rattle.comm_core.specs.Ready.{CoreValue}
 use Rattle.comm_core.specs.declared.entry.Entry.{Entry}
 use Rattle.comm_core.specs.declared.limits.Limits.{Limits}
 use Rattle.atomic_table.specs.Seated.{TableId}
 use Rattle.comm_outbox.specs.Sides.{OutboxView, PublisherView}
+use Rattle.comm_versions.specs.Asked.{Rests}
 use Rattle.comm_versions.specs.Known.{WriterValue}
 
 -- how many entries of each client there are, of the clients 0 to 3
 abbrev pub counts : List Entry → List ℕ
 counts history =
     length (mine history 0) ∷ length (mine history 1) ∷ length (mine history 2) ∷ length (mine history 3) ∷ []
-
--- No change stands ready, so the targets mean the machine and nothing is staged (`Core::settled`), and the machine is
--- that after the history.
-pub record Rests (limit : ℕ) (history : List Entry) (core : CoreValue) : Type 0 where
-  pub settled : core.settled ≡ true
-  pub limit_is : core.limit ≡ limit
-  pub machine_is : machine core ≡ replay limit history
 
 -- The side of the queue that puts, once it has put the history: one place more than entries may wait is there, and
 -- one at least was found free, for an end.

@@ -11,7 +11,7 @@ use Rattle.comm_core.specs.declared.unavailable.Unavailable.{Unavailable}
 use Rattle.comm_core.specs.declared.unavailable.Unavailable.TheVariants.{Memory, HistoryFull, OutboxFull}
 use Rattle.comm_manager.specs.declared.shared.Cause.{Cause}
 use Rattle.comm_manager.specs.declared.shared.Cause.TheVariants as cause
-use Rattle.comm_manager.specs.ClientView.{ClientView}
+use Rattle.comm_versions.specs.ClientView.{ClientView}
 
 -- the stamp's front is a whole history, of as many changes as it may have; as many entries wait as may, or more
 abbrev pub IsReason : Limits → Unavailable (List Entry) → Type 0

@@ -3,7 +3,7 @@ ghost use Rattle.std.specs.Prelude.{◌≡◌, ◌≤◌, ◌++◌, [], ◌∷�
 ghost use Rattle.std.specs.Prelude.{if◌then◌else◌};
 ghost use Rattle.comm_core.specs.Limits.{AreAllowed};
 ghost use Rattle.comm_manager.specs.SeqView.{seq_view};
-ghost use Rattle.comm_manager.specs.ClientView.{client_view, all_new};
+ghost use Rattle.comm_versions.specs.ClientView.{client_view, all_new};
 ghost use Rattle.comm_manager.specs.Why.{IsBarred};
 
 use crate::client::Client;

@@ -8,7 +8,7 @@ ghost use Rattle.comm_core.specs.Ready.{HandsNothingIn, IsReady, machine, row_at
 ghost use Rattle.comm_core.specs.Row.{rows, with_row};
 ghost use Rattle.comm_core.specs.Tables.{IdleWhere};
 ghost use Rattle.comm_targets.specs.Meaning.{IsIdle};
-ghost use Rattle.comm_manager.specs.Asked.{ready_entry};
+ghost use Rattle.comm_versions.specs.Asked.{ready_entry};
 ghost use Rattle.comm_manager.specs.JournalView.{IsShare};
 ghost use Rattle.comm_manager.specs.Log.{HasRoom, HasSeenAll, IsAppended, IsCounted, IsStampOf, IsTotal, IsUnchanged};
 ghost use Rattle.comm_manager.specs.Log.{LogInvariant, register_call};

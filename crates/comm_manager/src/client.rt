@@ -8,8 +8,8 @@ ghost use Rattle.comm_core.specs.Ready.{HandsNothingIn};
 ghost use Rattle.comm_core.specs.Tables.{IdleWhere};
 ghost use Rattle.comm_core.specs.declared.call.Call.TheVariants as call;
 ghost use Rattle.comm_manager.specs.UnderLock.{counts};
-ghost use Rattle.comm_manager.specs.Mine.{IsAnswered, IsSettled, made};
-ghost use Rattle.comm_manager.specs.ClientView.{client_view};
+ghost use Rattle.comm_versions.specs.Mine.{IsAnswered, IsSettled, made};
+ghost use Rattle.comm_versions.specs.ClientView.{client_view};
 ghost use Rattle.comm_manager.specs.Why.{IsReason};
 ghost use Rattle.comm_versions.specs.declared.reads.ReadFault.TheVariants as fault;
 
@@ -40,8 +40,8 @@ pub struct Client<M: ManagerId> {
 impl<M: ManagerId> Model for Client<M> {
     ghost use Rattle.std.specs.Prelude.{◌<◌, ◌≤◌, length};
     ghost use Rattle.comm_core.specs.History.{mine};
-    ghost use Rattle.comm_manager.specs.Code.{client_code};
-    ghost use Rattle.comm_manager.specs.ClientView.{ClientView, client_view};
+    ghost use Rattle.comm_versions.specs.Code.{client_code};
+    ghost use Rattle.comm_versions.specs.ClientView.{ClientView, client_view};
 
     ghost Value = { ClientView };
 

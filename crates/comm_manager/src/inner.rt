@@ -10,12 +10,12 @@ ghost use Rattle.comm_core.specs.Ready.{HandsNothingIn, state};
 ghost use Rattle.comm_core.specs.declared.entry.Entry.TheVariants.{End};
 ghost use Rattle.comm_core.specs.declared.row.Row.TheVariants as row;
 ghost use Rattle.comm_targets.specs.Meaning.{IsIdle};
-ghost use Rattle.comm_manager.specs.Asked.{IsNext};
+ghost use Rattle.comm_versions.specs.Asked.{IsNext};
 ghost use Rattle.comm_manager.specs.JournalView.{IsShare};
 ghost use Rattle.comm_outbox.specs.Sides.{entries_of, new_outbox};
 ghost use Rattle.comm_manager.specs.Log.{register_call};
 ghost use Rattle.comm_manager.specs.UnderLock.{OutboxInvariant, counts};
-ghost use Rattle.comm_manager.specs.Mine.{IsAnswered, IsSettled};
+ghost use Rattle.comm_versions.specs.Mine.{IsAnswered, IsSettled};
 ghost use Rattle.comm_manager.specs.Why.{IsReason, IsHistoryFirst};
 
 use crate::change::{self, AnsweredChange};

@@ -10,7 +10,7 @@
 //! A history is a list of entries, and it is legal where each entry is what the one-thread manager answers there
 //! (`IsLegal`, in `comm_core`'s `specs/History`). A front is a prefix of it. Contracts see a client as its number,
 //! how many changes it made, and the front that it has seen (`ClientView`); its answered changes are the first so
-//! many of its entries in that front (`made`, in `specs/Mine`).
+//! many of its entries in that front (`made`, in `comm_versions`' `specs/Mine`).
 //!
 //! *One history that holds each answered change once*:
 //!

@@ -4,9 +4,9 @@ ghost use Rattle.comm_core.specs.History.{IsLegal};
 ghost use Rattle.comm_core.specs.declared.entry.Entry.{Entry};
 ghost use Rattle.comm_core.specs.declared.entry.Entry.TheVariants.{End};
 ghost use Rattle.comm_outbox.specs.Sides.{entries_of};
-ghost use Rattle.comm_manager.specs.Mine.{IsSettled};
+ghost use Rattle.comm_versions.specs.Mine.{IsSettled};
 ghost use Rattle.comm_manager.specs.Names.{Named};
-ghost use Rattle.comm_manager.specs.ClientView.{all_new};
+ghost use Rattle.comm_versions.specs.ClientView.{all_new};
 ghost use Rattle.comm_manager.specs.Why.{IsMissing, all_here, is_here};
 
 use crate::builder::{ManagerBuilder, first_clients};

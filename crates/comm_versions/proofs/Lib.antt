@@ -11,3 +11,5 @@ pub mod Relisting
 pub mod Crossing
 pub mod Positions
 pub mod IdPrefixes
+pub mod Growing
+pub mod Made

@@ -1,5 +1,5 @@
 -- What lists of comms show, and since when the same comms are listed; for private clauses.
-use Rattle.std.specs.Prelude.{ℕ, ◌≡◌, ◌<◌, List, Option, map, filter, length}
+use Rattle.std.specs.Prelude.{ℕ, ◌≡◌, ◌<◌, List, Option, Some, map, filter, length}
 use mathlib.Core.List.{IsPrefix}
 use Rattle.comm_messages.specs.declared.infos.Info.{Info}
 use Rattle.comm_core.specs.History.{replay}
@@ -29,3 +29,19 @@ pub record WasListed (limit count : ℕ) (asked : Option Name) (comms : List Inf
   pub begins : IsPrefix before front
   pub counted : count ≡ length before
   pub lists : comms ≡ listed_infos (rows (replay limit before)) asked
+
+-- what a reader has seen, and of the list that it read last after how many entries and with which filter it was read
+pub record ReaderView : Type 0 where
+  pub front : List Entry
+  pub listed : Option (ℕ × Option Name)
+
+abbrev pub reader_view : List Entry → Option (ℕ × Option Name) → ReaderView
+reader_view front listed = record { front = front; listed = listed }
+
+-- the list with this filter was read last, after so many entries
+abbrev pub WasListedAfter : ReaderView → (count : ℕ) → (asked : Option Name) → Type 0
+WasListedAfter r count asked = r.listed ≡ Some (count, asked)
+
+-- a list was read after so many entries, and lists the same since
+abbrev pub IsListedSince : Option ℕ → (listing_since : ℕ) → Type 0
+IsListedSince listed_at listing_since = (count : ℕ) × (listed_at ≡ Some count) × (listing_since < count)

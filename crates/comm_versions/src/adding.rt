@@ -11,9 +11,8 @@ use crate::change::Change;
 use crate::comm_table::CommTable;
 use crate::history::{Head, History};
 use crate::published_front::PublishedFront;
-use crate::row_effect::RowEffect;
 use crate::showing::{enqueue, show, stop};
-use crate::table_buffers::TableBuffers;
+use crate::table_buffers::{NextTable, TableBuffers};
 use crate::version::SnapshotWriter;
 use comm_core::{Entry, prefixes_of_legal_histories_are_legal};
 use std::alloc::{AllocError, Global};
@@ -45,11 +44,10 @@ pub fn prepare(
     ensures err { OnErr result (table_buffers.new ≡ table_buffers.old) }
 {
     let Change { entry, row } = change;
-    let RowEffect {
-        position,
+    let NextTable {
+        root,
         changes_listing,
-    } = table_buffers.last().effect_of(&row);
-    let root = table_buffers.follow(alloc, row, position)?;
+    } = table_buffers.change(alloc, row)?;
     Ok(PendingEntry {
         entry,
         root,

@@ -1,6 +1,6 @@
 //! The one history, which exists in proofs alone.
 ghost use Rattle.std.specs.Prelude.{◌≡◌, []};
-ghost use Rattle.comm_versions.specs.Rules.{head_of};
+ghost use Rattle.comm_versions.specs.Known.{known, origin};
 
 use crate::raw_front::RawFront;
 use crate::stamp::Stamp;
@@ -57,6 +57,19 @@ impl Gain<Entry, u64> for NoOffer {
     ghost after = { λ names about answer. ftrue };
 }
 
+/// What tells an entry of the history. The entry itself needn't be made: the history exists in proofs alone.
+pub trait EntrySource {
+    ghost use Rattle.comm_core.specs.declared.entry.Entry.{Entry};
+
+    ghost entry: { Self → Entry };
+}
+
+impl EntrySource for Arc<Entry, Global> {
+    ghost use Rattle.std.specs.Arc.{arc_value};
+
+    ghost entry = { λ shared. arc_value shared };
+}
+
 /// The step that appends an entry.
 pub struct AppendStep;
 
@@ -66,13 +79,12 @@ impl Play<Entry, u64> for AppendStep {
     ghost then = { Adds };
 }
 
-impl Plain<Arc<Entry, Global>, Entry, u64> for AppendStep {
+impl<X: EntrySource> Plain<X, Entry, u64> for AppendStep {
     ghost use Rattle.std.specs.Prelude.{None};
-    ghost use Rattle.std.specs.Arc.{arc_value};
 
-    ghost ask = { λ entry. arc_value entry };
+    ghost ask = { λ source. X.entry source };
 
-    ghost state = { λ entry. None };
+    ghost state = { λ source. None };
 }
 
 /// An empty history that has no name yet. Contracts see what it is to be named by.
@@ -106,25 +118,67 @@ impl BlankHistory {
         }
     }
 
+    /// The word with the history's length, and the front that has seen nothing, where at most so many clients make
+    /// changes, and so many comms are open at a time.
+    pub fn open_raw(self, clients: usize, comms: usize) -> (RawHead, RawFront)
+        ensures head { result.0 ≡ self }
+        ensures front { result.1 ≡ known (origin self clients comms) [] }
+    {
+        let BlankHistory { head, seen } = self;
+        (
+            RawHead { word: head },
+            RawFront::first(clients, comms, seen),
+        )
+    }
+
     /// Names the history: gives the word with its length, and the front that has seen nothing.
     pub(crate) fn open<M: History>(self, clients: u8, comms: usize) -> (Head<M>, Stamp<M>)
         requires book { self ≡ M.book }
         requires limits { (clients ≡ M.limits.clients) × (comms ≡ M.limits.comms) }
         ensures { result.1 ≡ [] }
     {
-        let BlankHistory { head, seen } = self;
+        let (raw, front) = self.open_raw(clients as usize, comms);
         let head = Head {
-            head,
+            raw,
             of: PhantomData,
         };
-        (head, Stamp::from_raw(RawFront::first(clients, comms, seen)))
+        (head, Stamp::from_raw(front))
     }
 }
 
-/// The one word of the history that a program has: its length, in entries.
+/// The one word of a history that a program has: its length, in entries. Contracts see which history it is.
+#[derive(Drop)]
+pub struct RawHead {
+    pub(crate) word: Word<Entry, u64, HistoryRule>,
+}
+
+impl Model for RawHead {
+    ghost use Rattle.std.specs.Prelude.{◌≡◌};
+    ghost use Rattle.logbook.specs.Pages.{Book, book_coded};
+    ghost use Rattle.comm_versions.specs.Rules.{head_of};
+
+    ghost Value = { Book };
+
+    ghost coded = { book_coded };
+
+    ghost view = { λ h. h.word.book };
+
+    ghost invariant = { λ h. h.word ≡ head_of h.word.book };
+}
+
+/// The word of the one history, which a type names.
 #[derive(Drop)]
 pub struct Head<M: History> {
-    pub(crate) head: Word<Entry, u64, HistoryRule>,
+    raw: RawHead,
     of: PhantomData<M>,
-    ghost head_is: { head ≡ head_of M.book },
+    ghost head_is: { raw ≡ M.book },
+}
+
+impl<M: History> Head<M> {
+    /// The word without the type parameter.
+    pub(crate) fn raw(&self) -> &RawHead
+        ensures { result.now ≡ M.book }
+    {
+        &self.raw
+    }
 }

@@ -8,6 +8,9 @@
 //! A version is one shared root, under which the comms stand in the byte order of their ids. The next version is one
 //! that no reader looks at any more, brought up to date, or else a copy that shares what didn't change. A reader
 //! caches the list of comms that it read last, and gives it again until a comm opens or closes.
+//!
+//! Whoever shows versions in another way makes them of the same parts: a [`RawHead`] and a [`RawFront`], which carry
+//! the name of their history as a value, [`TableBuffers`] for the tables, and a [`Version`] of both.
 #![tactic(auto)]
 
 mod adding;
@@ -33,9 +36,13 @@ mod version;
 mod writer;
 
 pub use change::Change;
-pub use history::{BlankHistory, History};
+pub use comm_table::CommTable;
+pub use history::{BlankHistory, EntrySource, History, RawHead};
 pub use opening::{OpeningFault, versions};
+pub use raw_front::RawFront;
 pub use reader::VersionReader;
 pub use reads::{InfoRead, ReadFault, StateRead};
 pub use stamp::Stamp;
+pub use table_buffers::{NextTable, TableBuffers};
+pub use version::Version;
 pub use writer::VersionWriter;

@@ -2,16 +2,13 @@
 //! version.
 ghost use Rattle.std.specs.Prelude.{◌≡◌, ◌<◌, ◌^◌, ◌++◌, ◌∷◌, [], length, true, MatchBool};
 ghost use mathlib.Core.List.{IsPrefix};
-ghost use Rattle.std.specs.Arc.{arc_value};
 ghost use Rattle.comm_core.specs.History.{has_end, IsLegal};
 ghost use Rattle.comm_versions.specs.Known.{known, origin};
 
-use crate::history::{AppendStep, Head, History, HistoryRule, NoOffer};
+use crate::history::{AppendStep, EntrySource, HistoryRule, NoOffer, RawHead};
 use comm_core::{Entry, an_end_comes_last};
 use logbook::{Offer, Seen};
-use std::alloc::Global;
 use std::marker::Model;
-use std::sync::Arc;
 
 /// A prefix of some history that was seen. Contracts see which history it is, its limits, and the entries.
 #[derive(Drop)]
@@ -39,13 +36,17 @@ impl Model for RawFront {
 
 impl RawFront {
     /// The empty prefix of a new history, with the limits by which that is legal.
-    pub fn first(clients: u8, comms: usize, seen: Seen<Entry, u64, HistoryRule>) -> RawFront
+    pub(crate) fn first(
+        clients: usize,
+        comms: usize,
+        seen: Seen<Entry, u64, HistoryRule>,
+    ) -> RawFront
         requires { seen.log ≡ [] }
         ensures { result ≡ known (origin seen.book clients comms) [] }
     {
         RawFront {
             count: 0,
-            clients: clients as usize,
+            clients,
             comms,
             seen,
         }
@@ -95,27 +96,27 @@ impl RawFront {
         both.learn(&other.seen);
     }
 
-    /// Appends an entry, and says whether it did: not where the history is longer than this prefix.
+    /// Appends an entry, and says whether it did: not where the history is longer than this prefix. It takes no memory.
     #[must_use]
-    pub fn extend<M: History>(&mut self, head: &Head<M>, entry: &Arc<Entry, Global>) -> bool
-        requires book { self.old.origin.book ≡ M.book }
+    pub fn extend<X: EntrySource>(&mut self, head: &RawHead, source: &X) -> bool
+        requires book { self.old.origin.book ≡ head.now }
         requires room { length self.old.entries < 2 ^ 62 }
         requires legal { IsLegal self.old.origin.clients self.old.origin.limit
-            (self.old.entries ++ arc_value entry.now ∷ []) }
+            (self.old.entries ++ X.entry source.now ∷ []) }
         ensures { MatchBool result
-            (self.new ≡ known self.old.origin (self.old.entries ++ arc_value entry.now ∷ []))
+            (self.new ≡ known self.old.origin (self.old.entries ++ X.entry source.now ∷ []))
             (self.new ≡ self.old) }
     {
         let mut seen = self.seen.again();
         let mut offer: Offer<Entry, u64, HistoryRule, NoOffer> = seen.plain::<
             NoOffer,
-            Arc<Entry, Global>,
+            X,
             AppendStep,
-        >(entry);
+        >(source);
         let mut pen = seen.no_pen();
         let count = self.count;
         let found = head
-            .head
+            .word
             .compare_exchange::<AppendStep, NoOffer>(
                 count,
                 count + 1,

@@ -1,5 +1,6 @@
 //! Readers, which take no lock.
-ghost use Rattle.std.specs.Prelude.{◌≡◌, ◌⊎◌, length, true, None, IfOk, IfSome, OnOk, IsErrOf, option_map};
+ghost use Rattle.std.specs.Prelude.{◌≡◌, ◌⊎◌, ◌<◌, ℕ, length, true, None, Some, IfOk, IfSome, OnErr, OnOk, IsErrOf};
+ghost use Rattle.std.specs.Prelude.{option_map};
 ghost use mathlib.Core.List.{IsPrefix};
 ghost use Rattle.std.specs.Arc.{arc_value};
 ghost use Rattle.left_right.specs.Sides.{view};
@@ -7,7 +8,7 @@ ghost use Rattle.comm_core.specs.History.{has_end, IsLegal, replay};
 ghost use Rattle.comm_core.specs.Reads.{infos, state_of};
 ghost use Rattle.comm_core.specs.Row.{rows};
 ghost use Rattle.comm_versions.specs.Known.{origin_of};
-ghost use Rattle.comm_versions.specs.Listing.{ListsAlikeSince};
+ghost use Rattle.comm_versions.specs.Listing.{IsListedSince, ListsAlikeSince, WasListedAfter};
 ghost use Rattle.comm_versions.specs.declared.reads.ReadFault.TheVariants as fault;
 
 use crate::comm_table::CommTable;
@@ -43,7 +44,7 @@ impl<M: History> Model for VersionReader<M> {
 
     ghost coded = { entries_code };
 
-    ghost view = { λ r. r.reader_state };
+    ghost view = { λ r. r.reader_state.front };
 
     ghost invariant = { λ r.
         ((known_at r.snapshots.place).0 ≡ true)
@@ -119,6 +120,7 @@ fn find_listing(
         × ListsAlikeSince r.0.origin.limit r.1.listing_since r.0.entries
         × IfSome r.1.root (λ o. IfOk o (λ t.
         arc_value t ≡ rows (replay r.0.origin.limit r.0.entries)))) }
+    ensures shared { IfSome result.1 (λ r. r.1.root ≡ None → IsListedSince listed_at r.1.listing_since) }
 {
     match snapshots.enter_as::<SeeStep>() {
         Ok(reading) => {
@@ -136,6 +138,7 @@ fn listing_in(shown: &Version, listed_at: Option<u64>) -> Found<FoundListing>
         shown.now.front.entries }
     ensures root { IfSome result.1.root (λ o. IfOk o (λ t.
         arc_value t ≡ rows (replay shown.now.front.origin.limit shown.now.front.entries))) }
+    ensures shared { result.1.root ≡ None → IsListedSince listed_at result.1.listing_since }
 {
     let listing_since = shown.listing_since;
     let root = match listed_at {
@@ -158,11 +161,14 @@ fn listing_in(shown: &Version, listed_at: Option<u64>) -> Found<FoundListing>
 // a stamp is made after its front was published, but no contract says so.
 fn see<M: History>(reader_state: &mut ReaderState<M>, raw: RawFront) -> Result<u64, ReadFault>
     requires { raw.origin ≡ origin_of M.book M.limits }
-    ensures later { IsPrefix reader_state.old reader_state.new }
-    ensures seen { OnOk result (reader_state.new ≡ raw.entries) }
-    ensures legal { OnOk result (IsLegal M.limits.clients M.limits.comms reader_state.new) }
-    ensures length { IfOk result (λ n. n ≡ length reader_state.new) }
+    ensures later { IsPrefix reader_state.old.front reader_state.new.front }
+    ensures seen { OnOk result (reader_state.new.front ≡ raw.entries) }
+    ensures listed { reader_state.new.listed ≡ reader_state.old.listed }
+    ensures legal { OnOk result
+        (IsLegal M.limits.clients M.limits.comms reader_state.new.front) }
+    ensures length { IfOk result (λ n. n ≡ length reader_state.new.front) }
     ensures version { IsErrOf result fault.NoVersion → ⊥ }
+    ensures lags { OnErr result (length raw.entries < length reader_state.old.front) }
 {
     let front: Stamp<M> = Stamp::from_raw(raw);
     if !reader_state.front().is_prefix_of(&front) {
@@ -171,6 +177,35 @@ fn see<M: History>(reader_state: &mut ReaderState<M>, raw: RawFront) -> Result<u
     let number = front.number();
     reader_state.advance(front);
     Ok(number)
+}
+
+// The comms that are shown and asked for: the cached list, where no comm opened or closed since it was read. Err:
+// memory.
+fn list<M: History>(
+    reader_state: &mut ReaderState<M>,
+    alloc: Global,
+    asked: Option<&Text>,
+    found: FoundListing,
+) -> Result<Infos, AllocError>
+    requires settled { ListsAlikeSince M.limits.comms found.listing_since reader_state.old.front }
+    requires root { IfSome found.root (λ o. IfOk o (λ t.
+        arc_value t ≡ rows (replay M.limits.comms reader_state.old.front))) }
+    requires cached { found.root ≡ None → (count : ℕ)
+        × WasListedAfter reader_state.old count (option_map (λ t. t.now) asked)
+        × (found.listing_since < count) }
+    ensures seen { reader_state.new.front ≡ reader_state.old.front }
+    ensures comms { IfOk result (λ i. i ≡ infos (replay M.limits.comms reader_state.old.front)
+        (option_map (λ t. t.now) asked.entry)) }
+{
+    if let Some(comms) = reader_state.cached_infos(found.listing_since, asked) {
+        return comms.copy();
+    }
+    let Some(root) = found.root else {
+        unreachable!()
+    };
+    let comms = root?.infos(alloc, asked)?;
+    reader_state.keep(asked, &comms)?;
+    Ok(comms)
 }
 
 impl<M: History> VersionReader<M> {
@@ -184,32 +219,6 @@ impl<M: History> VersionReader<M> {
             snapshots,
             reader_state: ReaderState::new(front),
         }
-    }
-
-    // The comms that are shown and asked for: the cached list, where no comm opened or closed since it was read. Err:
-    // memory.
-    fn list(
-        &mut self,
-        alloc: Global,
-        asked: Option<&Text>,
-        found: FoundListing,
-    ) -> Result<Infos, AllocError>
-        requires settled { ListsAlikeSince M.limits.comms found.listing_since self.old }
-        requires root { IfSome found.root (λ o. IfOk o (λ t.
-            arc_value t ≡ rows (replay M.limits.comms self.old))) }
-        ensures seen { self.new ≡ self.old }
-        ensures comms { IfOk result (λ i.
-            i ≡ infos (replay M.limits.comms self.old) (option_map (λ t. t.now) asked.entry)) }
-    {
-        if let Some(comms) = self.reader_state.cached_infos(found.listing_since, asked) {
-            return comms.copy();
-        }
-        let Some(root) = found.root else {
-            return Err(AllocError);
-        };
-        let comms = root?.infos(alloc, asked)?;
-        self.reader_state.keep(asked, &comms)?;
-        Ok(comms)
     }
 
     /// The open comms with the names of their targets, all or those of one target, after the entries that are then
@@ -234,7 +243,7 @@ impl<M: History> VersionReader<M> {
             return Err(ReadFault::NoVersion);
         };
         let front = see(&mut self.reader_state, raw)?;
-        match self.list(alloc, asked, found) {
+        match list(&mut self.reader_state, alloc, asked, found) {
             Ok(comms) => Ok(InfoRead { front, comms }),
             Err(_) => Err(ReadFault::Memory),
         }

@@ -96,6 +96,6 @@ impl<M: History> Stamp<M> {
         ensures { MatchBool result (self.new ≡ self.old ++ arc_value entry.now ∷ [])
             (self.new ≡ self.old) }
     {
-        self.raw.extend(head, entry)
+        self.raw.extend(head.raw(), entry)
     }
 }

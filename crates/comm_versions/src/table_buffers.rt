@@ -1,12 +1,14 @@
 //! Triple buffering: the table that is shown last, and the two before it, which are brought up to date in place once
 //! nobody else has them.
-ghost use Rattle.std.specs.Prelude.{◌≡◌, IfOk, OnErr, OnOk, MatchOption};
+ghost use Rattle.std.specs.Prelude.{◌≡◌, false, IfOk, OnErr, OnOk, MatchOption};
 ghost use Rattle.std.specs.Arc.{arc_value};
 ghost use Rattle.comm_core.specs.Row.{with_row};
+ghost use Rattle.comm_versions.specs.Listing.{ListAlike};
 ghost use Rattle.comm_versions.specs.TableBuffers.{StaleLeadsTo, LeadsTo};
 
 use crate::comm_table::CommTable;
 use crate::position::Position;
+use crate::row_effect::RowEffect;
 use comm_core::Row;
 use core::mem;
 use std::alloc::{AllocError, Global};
@@ -19,6 +21,13 @@ pub struct StaleTable {
     pub root: Arc<CommTable, Global>,
     pub row: Row,
     pub position: Option<Position>,
+}
+
+/// The table after a row, shared, and whether it may list other comms than the one before.
+#[derive(Drop)]
+pub struct NextTable {
+    pub root: Arc<CommTable, Global>,
+    pub changes_listing: bool,
 }
 
 /// The last table, and the two before it. Readers are shown the last; `left_right`'s other copy has the one before.
@@ -138,16 +147,28 @@ impl TableBuffers {
         }
     }
 
-    /// The last table.
-    pub fn last(&self) -> &CommTable
-        ensures { result.now ≡ self.now }
+    /// Makes the table after this row the last, and gives it too. Err: memory; the last table stays.
+    pub fn change(&mut self, alloc: Global, row: Row) -> Result<NextTable, AllocError>
+        ensures last { OnOk result (self.new ≡ with_row row self.old) }
+        ensures given { IfOk result (λ n. arc_value n.root ≡ with_row row self.old) }
+        ensures lists { IfOk result (λ n.
+            n.changes_listing ≡ false → ListAlike self.old (with_row row self.old)) }
+        ensures err { OnErr result (self.new ≡ self.old) }
     {
-        &self.last
+        let RowEffect {
+            position,
+            changes_listing,
+        } = self.last.effect_of(&row);
+        let root = self.follow(alloc, row, position)?;
+        Ok(NextTable {
+            root,
+            changes_listing,
+        })
     }
 
-    /// Makes the table after this row the last, and gives it too. The position is where the row changes the last
-    /// table, if that is known. Err: memory; the last table stays.
-    pub fn follow(
+    // Makes the table after this row the last, and gives it too. The position is where the row changes the last
+    // table, if that is known. Err: memory; the last table stays.
+    fn follow(
         &mut self,
         alloc: Global,
         row: Row,

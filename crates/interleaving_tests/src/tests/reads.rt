@@ -132,7 +132,7 @@ fn nothing_waits_for_a_target(rt: HostRuntime) -> Result<(), Fail> {
     Ok(())
 }
 
-const READ: [Scenario; 2] = [
+const READ: [Scenario; 3] = [
     Scenario {
         name: "an entry that was taken can be read by who heard of nothing",
         limits: (4, 4_096, 10_000, 65_536),
@@ -146,6 +146,22 @@ take => took 0 # ~ none
 3 keeps_up => keeps_up",
         ],
         after: "3 seen => seen 3000",
+        ..Scenario::NOTHING
+    },
+    Scenario {
+        name: "lists of two targets are read in turn, and neither is taken for the other",
+        targets: 2,
+        before: r#"0 register t => registered
+0 register u => registered
+0 open a t - => opened
+0 open b u - => opened
+1 infos t => infos 4 a t
+1 infos u => infos 4 b u
+1 infos => infos 4 a t b u
+1 infos t => infos 4 a t
+1 infos t => infos 4 a t
+1 infos v => infos 4
+1 infos u => infos 4 b u"#,
         ..Scenario::NOTHING
     },
     Scenario {

@@ -8,7 +8,7 @@ use Rattle.comm_core.specs.Row.{row_in, row_of, rows, with_row}
 use Rattle.comm_core.specs.declared.entry.Entry.{Entry}
 use Rattle.comm_core.specs.declared.reply.Reply.{Reply}
 use Rattle.comm_core.specs.declared.row.Row.{Row}
-use Rattle.comm_manager.specs.Asked.{ready_entry}
+use Rattle.comm_versions.specs.Asked.{ready_entry}
 use Rattle.comm_manager.proofs.Growing.{count_is, small, machine_there, may_follow, kept_after}
 use Rattle.comm_manager.proofs.change.carry_out.Goals as goal
 

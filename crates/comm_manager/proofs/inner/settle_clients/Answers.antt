@@ -1,8 +1,8 @@
 use Rattle.std.proofs.lemmas.List.{append-nil, nil_from_length}
 use Rattle.std.proofs.Common.{arith, ◌≡◌, ◌++◌, [], List, ap, sym, subst, ◌∙◌}
 use Rattle.std.specs.Prelude.{All}
-use Rattle.comm_manager.specs.Mine.{IsSettled}
-use Rattle.comm_manager.specs.ClientView.{ClientView}
+use Rattle.comm_versions.specs.Mine.{IsSettled}
+use Rattle.comm_versions.specs.ClientView.{ClientView}
 use Rattle.comm_manager.proofs.Gathering.{gathered}
 use Rattle.comm_manager.proofs.inner.settle_clients.Goals as goal
 

@@ -1,8 +1,8 @@
 use Rattle.std.proofs.Common.{◌≡◌, ◌++◌, List, length}
 use Rattle.std.specs.Prelude.{All}
 use Rattle.comm_manager.specs.UnderLock.{counts}
-use Rattle.comm_manager.specs.Mine.{IsSettled}
-use Rattle.comm_manager.specs.ClientView.{ClientView}
+use Rattle.comm_versions.specs.Mine.{IsSettled}
+use Rattle.comm_versions.specs.ClientView.{ClientView}
 use Rattle.comm_manager.proofs.inner.settle_clients.Given as goal
 
 abbrev pub decreases-loop-client : goal.decreases-loop-client

@@ -1,7 +1,7 @@
 use Rattle.std.proofs.Common.{◌≡◌, ◌+◌, ◌≤◌, ℕ, zero, suc, [], ◌∷◌, ◌++◌, length, refl, ap, ◌∙◌, subst, arith}
 use Rattle.std.proofs.lemmas.List.{length-append}
 use Rattle.comm_core.specs.Limits.{AreAllowed}
-use Rattle.comm_manager.specs.ClientView.{all_new, client_view}
+use Rattle.comm_versions.specs.ClientView.{all_new, client_view}
 use Rattle.shared_script.proofs.running.run_named.Goals as goal
 
 so_many : (n : ℕ) → length (all_new n) ≡ n

@@ -1,6 +1,6 @@
 use Rattle.std.proofs.Common.{◌≡◌, List, subst}
-use Rattle.comm_manager.specs.Mine.{IsSettled}
-use Rattle.comm_manager.specs.ClientView.{ClientView}
+use Rattle.comm_versions.specs.Mine.{IsSettled}
+use Rattle.comm_versions.specs.ClientView.{ClientView}
 use Rattle.comm_manager.proofs.Growing.{known}
 use Rattle.comm_manager.proofs.Made.{all_made, view_of}
 use Rattle.comm_manager.proofs.client.Client.settle.Goals as goal

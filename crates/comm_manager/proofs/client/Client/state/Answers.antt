@@ -1,5 +1,5 @@
 use Rattle.std.proofs.Common.{refl}
-use Rattle.comm_manager.proofs.Made.{made_stays}
+use Rattle.comm_versions.proofs.Made.{made_stays}
 use Rattle.comm_manager.proofs.client.Client.state.Goals as goal
 
 pub invariant_of-self : goal.invariant_of-self

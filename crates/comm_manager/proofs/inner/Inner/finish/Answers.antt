@@ -5,8 +5,8 @@ use Rattle.comm_core.specs.History.{has_end}
 use Rattle.comm_core.specs.declared.entry.Entry.{Entry}
 use Rattle.comm_manager.specs.UnderLock.{counts}
 use Rattle.comm_manager.specs.declared.change_log.ChangeLog.{ChangeLog}
-use Rattle.comm_manager.specs.Mine.{IsSettled}
-use Rattle.comm_manager.specs.ClientView.{ClientView}
+use Rattle.comm_versions.specs.Mine.{IsSettled}
+use Rattle.comm_versions.specs.ClientView.{ClientView}
 use Rattle.comm_manager.proofs.Growing.{has_end-end, counts-end}
 use Rattle.comm_manager.proofs.inner.Inner.finish.Goals as goal
 

@@ -1,8 +1,8 @@
 use Rattle.std.proofs.Common.{◌<◌, ℕ, subst, sym}
 use Rattle.std.specs.Prelude.{IfOk}
 use Rattle.comm_manager.specs.Log.{register_call}
-use Rattle.comm_manager.specs.Mine.{IsAnswered}
-use Rattle.comm_manager.specs.ClientView.{ClientView, client_view}
+use Rattle.comm_versions.specs.Mine.{IsAnswered}
+use Rattle.comm_versions.specs.ClientView.{ClientView, client_view}
 use Rattle.comm_manager.proofs.Made.{after_change, view_of}
 use Rattle.comm_manager.proofs.inner.Inner.register.Goals as goal
 

@@ -2,8 +2,8 @@ use Rattle.std.proofs.Common.{List, sym, subst}
 use Rattle.std.specs.Prelude.{All}
 use Rattle.comm_core.specs.History.{IsLegal}
 use Rattle.comm_core.specs.declared.entry.Entry.{Entry}
-use Rattle.comm_manager.specs.Mine.{IsSettled}
-use Rattle.comm_manager.specs.ClientView.{ClientView}
+use Rattle.comm_versions.specs.Mine.{IsSettled}
+use Rattle.comm_versions.specs.ClientView.{ClientView}
 use Rattle.comm_manager.proofs.shared.Manager.shutdown.Goals as goal
 
 pub returns-in-Ok-clause-history : goal.returns-in-Ok-clause-history

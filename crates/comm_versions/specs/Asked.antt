@@ -1,8 +1,9 @@
--- What comes of what a client asks for.
-use Rattle.std.specs.Prelude.{ℕ, ◌≡◌, List, [], ◌∷◌, ◌++◌, Option}
+-- What comes of what a client asks for, and what is true of a manager's tables between two changes.
+use Rattle.std.specs.Prelude.{ℕ, ◌≡◌, true, List, [], ◌∷◌, ◌++◌, Option}
 use Rattle.comm_messages.specs.declared.outgoing.Outgoing.{Outgoing}
 use Rattle.comm_core.specs.Step.{Outcome}
-use Rattle.comm_core.specs.Ready.{Readied}
+use Rattle.comm_core.specs.History.{replay}
+use Rattle.comm_core.specs.Ready.{CoreValue, Readied, machine}
 use Rattle.comm_core.specs.declared.call.Call.{Call}
 use Rattle.comm_core.specs.declared.entry.Entry.{Entry}
 use Rattle.comm_core.specs.declared.entry.Entry.TheVariants.{Change}
@@ -22,3 +23,10 @@ pub record IsNext (before after : List Entry) (client number : ℕ) (asked : Cal
   pub came : Entry
   pub is_call : IsCall came client number asked reply
   pub history_is : after ≡ before ++ came ∷ []
+
+-- No change stands ready, so the targets mean the machine and nothing is staged (`Core::settled`), and the machine is
+-- that after the history.
+pub record Rests (limit : ℕ) (history : List Entry) (core : CoreValue) : Type 0 where
+  pub settled : core.settled ≡ true
+  pub limit_is : core.limit ≡ limit
+  pub machine_is : machine core ≡ replay limit history

@@ -6,8 +6,8 @@ use Rattle.comm_core.specs.declared.call.Call.{Call}
 use Rattle.comm_core.specs.declared.entry.Entry.{Entry}
 use Rattle.comm_core.specs.declared.limits.Limits.{Limits}
 use Rattle.comm_core.specs.declared.reply.Reply.{Reply}
-use Rattle.comm_manager.specs.Asked.{IsCall}
-use Rattle.comm_manager.specs.ClientView.{ClientView, client_view}
+use Rattle.comm_versions.specs.Asked.{IsCall}
+use Rattle.comm_versions.specs.ClientView.{ClientView, client_view}
 
 -- the answered changes of a client
 abbrev pub made : ClientView → List Entry
