@@ -1,0 +1,3 @@
+pub mod Standing
+pub mod Clients
+pub mod Opening
