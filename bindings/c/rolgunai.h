@@ -23,7 +23,7 @@
  *   for a `comm_close`: it is the message 0 that the call sends then.
  * - An answer is several calls (the message, then its parts), so a lock has to be held over all of them. In a language
  *   with finalizers it has to be one that the same thread may take again: a `__del__` may send in the middle of a call.
- * - Register a name once and keep it: each register spends a number of 4,294,967,295.
+ * - A target stays registered under its name until another is, or it is unregistered; either closes its comms.
  *
  * A handle is a struct of yours that holds one pointer. Set it to zero before the first call, and then neither read nor
  * write nor copy it: only the library does. Calls may come in any order: a handle that has no manager, since it never
