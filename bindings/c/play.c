@@ -5,6 +5,7 @@
 #include <stdio.h>
 #include <stdlib.h>
 #include <string.h>
+#include <sys/types.h>
 
 /* A buffer that grows to the longest answer. It begins short, so that the first answers take the way by
  * rolgunai_last_text. */
@@ -28,41 +29,32 @@ static uint32_t played(rolgunai_handle *handle, const uint8_t *line, size_t leng
   return status;
 }
 
-static int play(rolgunai_handle *handle, const uint8_t *text, size_t length) {
-  for (size_t from = 0; from < length;) {
-    const uint8_t *end = memchr(text + from, '\n', length - from);
-    size_t to = end ? (size_t)(end - text) : length, size;
-    if (played(handle, text + from, to - from, &size) != ROLGUNAI_OK) return 2;
-    if (fwrite(out, 1, size, stdout) != size) return 1;
-    from = to + 1;
+static int play(rolgunai_handle *handle, FILE *script) {
+  char *line = NULL;
+  size_t line_room = 0, size;
+  ssize_t length;
+  int status = 0;
+  while (!status && (length = getline(&line, &line_room, script)) > 0) {
+    if (line[length - 1] == '\n') length--;
+    if (played(handle, (const uint8_t *)line, (size_t)length, &size) != ROLGUNAI_OK) status = 2;
+    else if (fwrite(out, 1, size, stdout) != size) status = 1;
   }
-  return 0;
-}
-
-static uint8_t *whole(const char *name, size_t *length) {
-  FILE *file = fopen(name, "rb");
-  if (!file) return NULL;
-  fseek(file, 0, SEEK_END);
-  long end = ftell(file);
-  rewind(file);
-  uint8_t *text = end < 0 ? NULL : malloc((size_t)end + 1);
-  *length = text ? fread(text, 1, (size_t)end, file) : 0;
-  fclose(file);
-  return text;
+  if (!status && !feof(script)) status = 1;
+  free(line);
+  return status;
 }
 
 int main(int count, char **words) {
   const int decimals = count == 3 && strcmp(words[1], "--decimals") == 0;
   if (count != 2 + decimals) return 3;
-  size_t length;
-  uint8_t *text = whole(words[1 + decimals], &length);
+  FILE *script = fopen(words[1 + decimals], "rb");
   out = malloc(room);
-  if (!text || !out) return 1;
+  if (!script || !out) return 1;
   rolgunai_handle handle = {0};
   if ((decimals ? rolgunai_new_with_decimals : rolgunai_new)(&handle, 4096) != ROLGUNAI_OK) return 2;
-  int status = play(&handle, text, length);
+  int status = play(&handle, script);
   rolgunai_free(&handle);
   free(out);
-  free(text);
+  fclose(script);
   return status;
 }

@@ -8,12 +8,14 @@
      REFUSED      from here on no request is refused; granted if one was refused since REFUSE or ABOVE
      LEAKED       granted if more blocks are held than at MARK
    A program says no word: with REFUSE_AT=n in the environment the request of number n of the whole process is refused,
-   once. At the end of the process one line goes to the descriptor REFUSE_TO: 'asked=A refused=R', A being the words
-   REFUSE + n and ABOVE + n, and R the refusals. It needs no header, so that the kit's clang alone compiles it. */
+   once. At the end of the process one line goes to the descriptor REFUSE_TO: 'asked=A refused=R peak=P', A being the
+   words REFUSE + n and ABOVE + n, R the refusals, and P the most bytes that were held at a time. It needs no header, so
+   that the kit's clang alone compiles it. */
 typedef unsigned long size;
 extern void *__libc_malloc(size), *__libc_calloc(size, size), *__libc_realloc(void *, size);
 extern void *__libc_memalign(size, size);
 extern void __libc_free(void *);
+extern size malloc_usable_size(void *);
 extern char *getenv(const char *);
 extern long write(int, const void *, size);
 extern int *__errno_location(void);
@@ -28,7 +30,7 @@ static const int NO_MEMORY = 12, BAD_ALIGNMENT = 22;
 static char granted[64] __attribute__((aligned(64)));
 
 static _Atomic long refused_number, requests, held, words, refusals;
-static _Atomic size most;
+static _Atomic size most, bytes, peak;
 static _Atomic int counts, was_refused;
 
 /* From here on the request of this number is refused, and each that is larger. */
@@ -76,8 +78,16 @@ static int refuses(size n) {
 }
 
 static void *counted(void *block) {
-    if (block) held++;
+    if (!block) return 0;
+    held++;
+    const size now = bytes += malloc_usable_size(block);
+    if (now > peak) peak = now;
     return block;
+}
+
+static void uncounted(void *block) {
+    held--;
+    bytes -= malloc_usable_size(block);
 }
 
 void *malloc(size n) {
@@ -92,8 +102,13 @@ void *calloc(size n, size m) {
 
 void *realloc(void *block, size n) {
     if (block == granted || refuses(n)) return 0;
+    const size before = block ? malloc_usable_size(block) : 0;
     void *moved = __libc_realloc(block, n);
-    return block ? moved : counted(moved);
+    if (moved && block) {
+        held--;
+        bytes -= before;
+    }
+    return counted(moved);
 }
 
 void *memalign(size to, size n) {
@@ -114,7 +129,7 @@ int posix_memalign(void **block, size to, size n) {
 
 void free(void *block) {
     if (!block || block == granted) return;
-    held--;
+    uncounted(block);
     __libc_free(block);
 }
 
@@ -148,6 +163,7 @@ static __attribute__((destructor)) void tell(void) {
     if (file < 0) return;
     to = put(to, "asked=", words);
     to = put(to, " refused=", refusals);
+    to = put(to, " peak=", peak);
     *to++ = '\n';
     if (write(file, line, to - line) < 0) return;
 }
