@@ -1,6 +1,6 @@
 /* Much of one thing: targets beyond a thousand, 4,096 comms of one target that go at once, and buffers beyond 200,000 in
- * one message, by its parts and by a line. The last line is 'N passed, M failed', and the status is 1 where one
- * failed. */
+ * one message, by its parts and by a line. `test_many large` sends one buffer of 400 MB, for which it takes 1.5 GB. The
+ * last line is 'N passed, M failed', and the status is 1 where one failed. */
 #include "rolgunai.h"
 
 #include <stdio.h>
@@ -140,9 +140,10 @@ static void check_buffers(int are_sent, const char *what) {
         what);
 }
 
+static const char letters[] = "ABCDEFGHIJKLMNOPQRSTUVWXYZabcdefghijklmnopqrstuvwxyz0123456789+/";
+
 /* The base64 of one byte that is 0 to 63. */
 static void put_buffer(char *to, uint8_t byte) {
-  const char *letters = "ABCDEFGHIJKLMNOPQRSTUVWXYZabcdefghijklmnopqrstuvwxyz0123456789+/";
   const char text[] = {'"', letters[byte >> 2], letters[(byte & 3) << 4], '=', '=', '"', ','};
   memcpy(to, text, sizeof text);
 }
@@ -182,11 +183,49 @@ static void many_buffers(void) {
   by_a_line();
 }
 
-int main(void) {
+enum { LARGE = 400 * 1000 * 1000 };
+
+/* Whether the text begins with the base64 of whole groups of three of these bytes. */
+static int is_base64(const uint8_t *text, const uint8_t *of, size_t count) {
+  for (size_t i = 0; i + 2 < count; i += 3, text += 4) {
+    const uint32_t group = (uint32_t)of[i] << 16 | (uint32_t)of[i + 1] << 8 | of[i + 2];
+    for (int k = 0; k < 4; k++)
+      if (text[k] != letters[group >> (18 - 6 * k) & 63]) return 0;
+  }
+  return 1;
+}
+
+/* A large buffer goes through, as bytes and, in base64, in a text. */
+static void a_large_buffer(void) {
+  const size_t room = LARGE / 3 * 4 + 1000, length = LARGE;
+  uint8_t *large = malloc(LARGE), *out = malloc(room);
+  check(large && out, "room for a large buffer");
+  if (!large || !out) return;
+  for (size_t i = 0; i < LARGE; i++) large[i] = (uint8_t)(i * 7);
+  came(registered(ROLGUNAI_PLAIN, "plain"), ROLGUNAI_REPLY_REGISTERED, 0, "a plain target");
+  came(opened("p", "plain"), ROLGUNAI_REPLY_OPENED, 0, "a plain comm");
+  came(rolgunai_send(&handle, 0, bytes("p"), 1, bytes("{}"), 2, large, LARGE, &length, 1, &reply, &sent),
+       ROLGUNAI_REPLY_DELIVERED, 1, "a large buffer is sent");
+  check(rolgunai_sent_part(&handle, 0, ROLGUNAI_PART_BUFFERS, out, room, &size) == ROLGUNAI_OK && size == LARGE
+            && memcmp(out, large, LARGE) == 0,
+        "a large buffer's bytes");
+  check(rolgunai_last_text(&handle, out, room, &size) == ROLGUNAI_OK && size > LARGE / 3 * 4, "a large buffer's text");
+  const uint8_t *list = memchr(out, '[', size);
+  check(list && size - (size_t)(list - out) > LARGE / 3 * 4 && is_base64(list + 2, large, LARGE), "it is in base64");
+  free(large);
+  free(out);
+}
+
+int main(int count, char **words) {
+  const int is_large = count == 2 && strcmp(words[1], "large") == 0;
+  if (count != 1 + is_large) return 3;
   check(rolgunai_new(&handle, COMMS) == ROLGUNAI_OK, "a new manager");
-  many_targets();
-  many_comms();
-  many_buffers();
+  if (is_large) a_large_buffer();
+  else {
+    many_targets();
+    many_comms();
+    many_buffers();
+  }
   check(rolgunai_free(&handle) == ROLGUNAI_OK, "the end");
   printf("%d passed, %d failed\n", passed, failed);
   return failed != 0;
