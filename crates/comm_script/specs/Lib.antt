@@ -7,3 +7,4 @@ pub mod Played
 pub mod Player
 pub mod Session
 pub mod Status
+pub mod Reads

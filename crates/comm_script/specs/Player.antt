@@ -36,9 +36,14 @@ TakesTurn stands turns old new =
 abbrev pub IsBackendFault : RunFault → Type 0
 IsBackendFault fault = (fault ≡ run.Memory) ⊎ (fault ≡ run.NoReader)
 
+-- why a script ends over a backend, of which `stops_by` tells why it can't play on
+abbrev pub IsScriptFault : (RunFault → Type 0) → RunFault → Type 0
+IsScriptFault stops_by fault = (fault ≡ run.Read) ⊎ (fault ≡ run.Write) ⊎ stops_by fault
+
 -- what comes of a request
 pub record IsExecuted {S : Type 0}
     (stands : Limits → Standing → S → Type 0) (sound : S → Type 0) (follows : S → S → Type 0) (count : S → ℕ)
+    (stops_by : RunFault → Type 0)
     (number client : ℕ) (request : Request) (s t : S) (old new : List ℕ) (r : Result ⊤ RunFault) : Type 0 where
   pub text : OnOk r (AppendsTurn stands (request_turn number client request) s old new)
   pub moved : OnOk r (TakesTurn stands (request_turn number client request) s t)
@@ -46,6 +51,7 @@ pub record IsExecuted {S : Type 0}
   pub kept : sound t
   pub later : follows s t
   pub fault : IfErr r IsBackendFault
+  pub stops : IfErr r stops_by
 
 -- a call of f executes a request of one of so many clients
 pub record Executes {F S : Type 0}
@@ -53,7 +59,7 @@ pub record Executes {F S : Type 0}
     (MutBor S × (ℕ × (ℕ × (Request × (MutBor (Vec ℕ Global) × Unit {0})))))
     (Result ⊤ RunFault × (MutBor S × (MutBor (Vec ℕ Global) × Unit {0}))))
     (f : F) (stands : Limits → Standing → S → Type 0) (sound : S → Type 0) (follows : S → S → Type 0)
-    (count : S → ℕ) (clients : ℕ) : Type 0 where
+    (count : S → ℕ) (stops_by : RunFault → Type 0) (clients : ℕ) : Type 0 where
   pub callable : (s : MutBor S) (number client : ℕ) (request : Request) (text : MutBor (Vec ℕ Global))
       → sound s.now → client < clients → count s.now < 2 ^ 63 → HandsNothing request
       → g.pre f (s, (number, (client, (request, (text, tt)))))
@@ -61,7 +67,7 @@ pub record Executes {F S : Type 0}
       (r : Result ⊤ RunFault)
       → sound s.now → client < clients → count s.now < 2 ^ 63 → HandsNothing request → number < 2 ^ 64
       → g.post f (s, (number, (client, (request, (text, tt))))) (r, (t, (said, tt)))
-      → IsExecuted stands sound follows count number client request s.now t.now text.now.items said.now.items r
+      → IsExecuted stands sound follows count stops_by number client request s.now t.now text.now.items said.now.items r
 
 -- ---- lines, one after another, by which numbers are values
 

@@ -2,6 +2,8 @@
 ghost use Rattle.std.specs.Prelude.{◌≡◌, ℕ};
 ghost use Rattle.comm_core.specs.declared.limits.Limits.{Limits};
 ghost use Rattle.comm_script.specs.Played.{Standing};
+ghost use Rattle.comm_script.specs.declared.fault.RunFault.{RunFault};
+ghost use Rattle.comm_script.specs.declared.fault.RunFault.TheVariants.{Memory};
 
 /// A manager with its stock of targets, as contracts of the player see it. What it does for a request of a line is a
 /// function that the player is handed beside it (`Executes` of `specs/Player.antt`).
@@ -20,6 +22,11 @@ pub trait Backend {
 
     // At least as many as the changes that it counts for one client or for all.
     ghost change_count: { Self → ℕ };
+
+    // Why it can't play on.
+    ghost stops_by: { RunFault → Type 0 };
+
+    ghost stops_by_memory: { stops_by Memory };
 
     ghost follows_itself: { (s : Self) → follows s s };
 

@@ -23,6 +23,7 @@ mod laws;
 mod line;
 mod lines;
 mod player;
+mod reads;
 mod running;
 mod session;
 mod status;

@@ -47,7 +47,7 @@ pub fn play_line<B: Backend, F: Fn(&mut B, u64, u8, Request, &mut Vec<u8>) -> Re
     requires sound { B.is_sound clients backend.old }
     requires few { B.change_count backend.old < 2 ^ 63 }
     requires executes { Executes F.Fn execute.now B.stands (B.is_sound clients) B.follows
-        B.change_count clients }
+        B.change_count B.stops_by clients }
     ensures text { OnOk result (AppendsTurn B.stands (line_turn numbers number line.now)
         backend.old text.old.items text.new.items) }
     ensures turn { OnOk result (TakesTurn B.stands (line_turn numbers number line.now)
@@ -56,6 +56,7 @@ pub fn play_line<B: Backend, F: Fn(&mut B, u64, u8, Request, &mut Vec<u8>) -> Re
     ensures kept { B.is_sound clients backend.new }
     ensures later { B.follows backend.old backend.new }
     ensures fault { IfErr result IsBackendFault }
+    ensures stops { IfErr result B.stops_by }
 {
     if is_blank(line) {
         return Ok(());

@@ -1,5 +1,5 @@
 //! A whole script over a manager of one thread, from its opening to its end.
-ghost use Rattle.std.specs.Prelude.{◌≡◌, ◌↔◌, ◌<◌, ◌^◌, map, OnOk, IfSome, IsErrOf};
+ghost use Rattle.std.specs.Prelude.{◌≡◌, ◌↔◌, ◌<◌, ◌^◌, map, ◌≢◌, OnOk, IfErr, IfSome, IsErrOf};
 ghost use Rattle.std.specs.Io.KnownBytes.{Appends};
 ghost use Rattle.comm_core.specs.Limits.{AreAllowed};
 ghost use Rattle.comm_script.specs.Command.{HandsNothing};
@@ -49,6 +49,7 @@ pub fn run_with<R: Read, W: Write, T: Target>(
         Pauses numbers limits (shelved (map T.means stock.items)) input
         (R.remaining reader.new) (W.contents writer.old) (W.contents writer.new)) }
     ensures bad_limits { IsErrOf result RunFault.BadLimits ↔ ¬ (AreAllowed limits) }
+    ensures fault { IfErr result (λ e. e ≢ RunFault.NoReader) }
 {
     match Session::new(alloc, limits, stock) {
         Ok(mut session) => {
@@ -95,6 +96,7 @@ pub fn run<R: Read, W: Write>(
         Pauses Numbers.Whole limits (shelved (map (λ b. means b) stock.items)) input
         (R.remaining reader.new) (W.contents writer.old) (W.contents writer.new)) }
     ensures bad_limits { IsErrOf result RunFault.BadLimits ↔ ¬ (AreAllowed limits) }
+    ensures fault { IfErr result (λ e. e ≢ RunFault.NoReader) }
 {
     run_with(alloc, reader, writer, limits, Numbers::Whole, stock)
 }

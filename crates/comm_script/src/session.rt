@@ -242,6 +242,7 @@ impl<T: Target> Session<T> {
 
 impl<T: Target> Backend for Session<T> {
     ghost use Rattle.std.proofs.Common.{ap, refl, sym, ◌∙◌};
+    ghost use Rattle.comm_script.specs.declared.fault.RunFault.TheVariants.{Memory};
 
     ghost is_sound = { λ clients s. IsSound s × (s.limits.clients ≡ clients) };
 
@@ -250,6 +251,10 @@ impl<T: Target> Backend for Session<T> {
     ghost follows = { λ old new. new.limits ≡ old.limits };
 
     ghost change_count = { λ s. s.changes };
+
+    ghost stops_by = { λ fault. fault ≡ Memory };
+
+    ghost stops_by_memory = { refl };
 
     ghost follows_itself = { λ s. refl };
 

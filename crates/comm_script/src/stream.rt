@@ -6,7 +6,7 @@ ghost use Rattle.comm_core.specs.declared.limits.Limits.{Limits};
 ghost use Rattle.comm_core.specs.Machine.{Registered};
 ghost use Rattle.comm_script.specs.Lines.{has_line_feed};
 ghost use Rattle.comm_script.specs.Played.{played, Begins, Stops, Pauses};
-ghost use Rattle.comm_script.specs.Player.{line_turn, AppendsTurn, TakesTurn, Says, Cuts, Executes, IsBackendFault};
+ghost use Rattle.comm_script.specs.Player.{line_turn, AppendsTurn, TakesTurn, Says, Cuts, Executes, IsBackendFault, IsScriptFault};
 
 use crate::asked::Request;
 use crate::backend::Backend;
@@ -14,6 +14,7 @@ use crate::fault::RunFault;
 use crate::line::LineMemory;
 use crate::lines::split_line;
 use crate::player::play_line;
+use crate::reads::max_reads;
 use comm_value::Numbers;
 use std::alloc::Global;
 use std::io::{ErrorKind, Read, Write};
@@ -39,7 +40,7 @@ fn play_joined<B: Backend, F: Fn(&mut B, u64, u8, Request, &mut Vec<u8>) -> Resu
     requires sound { B.is_sound clients backend.old }
     requires few { B.change_count backend.old < 2 ^ 63 }
     requires executes { Executes F.Fn execute.now B.stands (B.is_sound clients) B.follows
-        B.change_count clients }
+        B.change_count B.stops_by clients }
     ensures text { OnOk result (AppendsTurn B.stands
         (line_turn numbers number (pending.old.items ++ end.now))
         backend.old text.old.items text.new.items) }
@@ -49,6 +50,7 @@ fn play_joined<B: Backend, F: Fn(&mut B, u64, u8, Request, &mut Vec<u8>) -> Resu
     ensures kept { B.is_sound clients backend.new }
     ensures empty { OnOk result (pending.new.items ≡ []) }
     ensures fault { IfErr result IsBackendFault }
+    ensures stops { IfErr result B.stops_by }
 {
     pending.extend_from_slice(end)?;
     play_line(
@@ -74,7 +76,7 @@ fn play_chunk<B: Backend, F: Fn(&mut B, u64, u8, Request, &mut Vec<u8>) -> Resul
     requires some { 0 < clients }
     requires sound { B.is_sound clients backend.old }
     requires executes { Executes F.Fn execute.now B.stands (B.is_sound clients) B.follows
-        B.change_count clients }
+        B.change_count B.stops_by clients }
     requires within { B.change_count backend.old ≤ number.old }
     requires few { number.old + length chunk.now < 2 ^ 62 }
     requires small { length chunk.now ≤ CHUNK }
@@ -87,6 +89,7 @@ fn play_chunk<B: Backend, F: Fn(&mut B, u64, u8, Request, &mut Vec<u8>) -> Resul
     ensures kept { B.is_sound clients backend.new }
     ensures one_line { OnOk result (has_line_feed pending.new.items ≡ false) }
     ensures fault { IfErr result IsBackendFault }
+    ensures stops { IfErr result B.stops_by }
 {
     let mut rest = chunk;
     let mut n = *number;
@@ -123,7 +126,7 @@ fn play_last<B: Backend, F: Fn(&mut B, u64, u8, Request, &mut Vec<u8>) -> Result
     requires some { 0 < clients }
     requires sound { B.is_sound clients backend.old }
     requires executes { Executes F.Fn execute.now B.stands (B.is_sound clients) B.follows
-        B.change_count clients }
+        B.change_count B.stops_by clients }
     requires within { B.change_count backend.old ≤ number }
     requires few { number < 2 ^ 62 }
     requires one_line { has_line_feed pending.now ≡ false }
@@ -133,6 +136,7 @@ fn play_last<B: Backend, F: Fn(&mut B, u64, u8, Request, &mut Vec<u8>) -> Result
         → written ++ text.new.items ≡ played numbers limits stock input) }
     ensures kept { B.is_sound clients backend.new }
     ensures fault { IfErr result IsBackendFault }
+    ensures stops { IfErr result B.stops_by }
 {
     if pending.is_empty() {
         return Ok(());
@@ -174,7 +178,7 @@ pub fn play_script<
     requires some { 0 < clients }
     requires sound { B.is_sound clients backend.old }
     requires executes { Executes F.Fn execute.now B.stands (B.is_sound clients) B.follows
-        B.change_count clients }
+        B.change_count B.stops_by clients }
     requires fresh { B.change_count backend.old ≡ 0 }
     ensures played { OnOk result ((limits : Limits) (stock : List Registered)
         → B.stands limits (record { history = []; stock = stock }) backend.old
@@ -198,13 +202,15 @@ pub fn play_script<
         (W.contents writer.old) (W.contents writer.new)) }
     ensures kept { B.is_sound clients backend.new }
     ensures fault { IfErr result (λ e. e ≢ RunFault.BadLimits) }
+    ensures stops { IfErr result (IsScriptFault B.stops_by) }
 {
     let mut memory = LineMemory::new(alloc);
     let mut number = 0u64;
     let mut pending = Vec::new(alloc);
     let mut text = Vec::new(alloc);
     let mut chunk = [0u8; CHUNK];
-    for _ in 0..u32::MAX {
+    let most = max_reads();
+    for _ in 0..most {
         match reader.read(&mut chunk) {
             Ok(0) => {
                 play_last(

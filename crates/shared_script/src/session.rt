@@ -67,6 +67,7 @@ impl<M: ManagerId, T: Target> SharedSession<M, T> {
 }
 
 impl<M: ManagerId, T: Target> Backend for SharedSession<M, T> {
+    ghost use Rattle.std.proofs.Common.{inl, refl};
     ghost use Rattle.shared_script.specs.Heard.{later_self};
 
     ghost is_sound = { λ clients s. vec_len s.clients ≡ clients };
@@ -77,6 +78,10 @@ impl<M: ManagerId, T: Target> Backend for SharedSession<M, T> {
     ghost follows = { λ old new. IsLater old.sequencer.last new.sequencer.last };
 
     ghost change_count = { λ _. 0 };
+
+    ghost stops_by = { IsBackendFault };
+
+    ghost stops_by_memory = { inl refl };
 
     ghost follows_itself = { λ s. later_self s.sequencer.last };
 
