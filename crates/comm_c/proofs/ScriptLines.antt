@@ -1,9 +1,13 @@
 -- A line, and any other call, does what the definitions of scripts say, over a stock that has enough targets.
 use Rattle.std.proofs.Common.{◌≡◌, ℕ, ◌+◌, ◌<◌, List, [], ◌∷◌, ◌++◌, length, get_or, Bool, true, false, Option, None, Some, Ok, Err, refl, sym, ap, subst, ◌∙◌, inl, inr, append-nil, length-append, length-set, arith}
-use Rattle.std.specs.Prelude.{if◌then◌else◌}
+use Rattle.std.specs.Prelude.{◌==◌, if◌then◌else◌, pos}
 use Rattle.std.proofs.lemmas.Bool.Decides.{eqb_tells}
+use Rattle.comm_messages.specs.Fields.{below}
+use Rattle.comm_messages.specs.Gives as message
 use Rattle.comm_messages.specs.declared.outgoing.Outgoing.TheVariants as out
 use Rattle.comm_messages.specs.declared.outgoing.Parent.TheVariants as parent
+use Rattle.comm_targets.specs.declared.kind.Kind.{Kind}
+use Rattle.comm_targets.specs.declared.kind.Kind.TheVariants as kind
 use Rattle.comm_core.specs.declared.call.Call.{Call}
 use Rattle.comm_core.specs.declared.call.Call.TheVariants.{Register, Open, Msg, Close, Unregister, Launch, Push, Send, HangUp}
 use Rattle.comm_core.specs.Exact.{exact_outcome, is_exact, is_free, registers_free}
@@ -21,6 +25,7 @@ use Rattle.comm_value.specs.declared.from_json.Numbers.{Numbers}
 use Rattle.comm_script.specs.Played.{Standing, Turn, says, called, changed, registered, executed, answered, turn, played_from, played}
 use Rattle.comm_script.specs.Stock.{first_of, has_kind, rest_of}
 use Rattle.comm_script.specs.Words.{bad_line, reply_line, out_line, out_lines, state_line}
+use Rattle.comm_script.specs.declared.asked.LineFault.TheVariants.{Message}
 use Rattle.comm_script.specs.declared.asked.Request.{Request}
 use Rattle.comm_script.specs.declared.asked.Request.TheVariants as asks_for
 use Rattle.comm_script.specs.declared.stock.StockKind.{StockKind}
@@ -28,9 +33,11 @@ use Rattle.comm_script.specs.declared.stock.StockKind.TheVariants as stock_kind
 use Rattle.comm_c.specs.CountedCore.{Changes, Registers, fresh_counted_core}
 use Rattle.comm_c.specs.ManagerState.{ManagerState, limits_of, new_manager}
 use Rattle.comm_c.specs.CallResult.{result_text}
-use Rattle.comm_c.specs.Handles.{AnswersIf, AnswersReading, Executes, GivesOnly, Handles, closes_of, target_kind}
+use Rattle.comm_c.specs.Codes.{kind_numbered}
+use Rattle.comm_c.specs.Exports.{RegistersKind}
+use Rattle.comm_c.specs.Handles.{AnswersIf, AnswersReading, Executes, GivesOnly, Handles, RegistersBy, closes_of, target_kind}
 use Rattle.comm_c.specs.Inputs.{line_asked, line_input}
-use Rattle.comm_c.specs.Scripts.{CallsPlayScripts, HasEnough, LinesPlayScripts, PlayedCall, PlayedLine, Runs, RunsCalls, inputs_in, lines_in, one_if, registered_by, registered_by_inputs, registered_by_reading, registered_by_request, registered_if, said_from, said_in, said_to, stock_of, turn_if}
+use Rattle.comm_c.specs.Scripts.{AsksFor, CallRequest, CallsPlayScripts, HasEnough, LinesPlayScripts, PlayedCall, PlayedLine, PlaysCall, RegistersNew, Runs, RunsCalls, call_turn, lines_in, new_target_turn, one_if, register_turn, registered_by, registered_by_call, registered_by_calls, registered_by_reading, registered_by_request, registered_if, requests_in, said_from, said_in, said_to, stock_of, turn_if}
 use Rattle.comm_c.specs.declared.call_result.CallResult.{CallResult}
 use Rattle.comm_c.specs.declared.call_result.CallResult.TheVariants as call_result
 use Rattle.comm_c.specs.declared.counted_core.CountedCore.{CountedCore}
@@ -135,11 +142,11 @@ kind_exact stock_kind.Counter = refl
 kind_exact stock_kind.Widget = refl
 kind_exact stock_kind.WidgetEcho = refl
 
-register_turn : NoChoice → KeepsExact → Grows → (numbers : Numbers) (comms : ℕ) (more : StockKind → ℕ) (now : Standing) (d : CountedCore) (number client : ℕ) (w : StockKind) (name : Name)
+stock_turn : NoChoice → KeepsExact → Grows → (numbers : Numbers) (comms : ℕ) (more : StockKind → ℕ) (now : Standing) (d : CountedCore) (number client : ℕ) (w : StockKind) (name : Name)
     (after : CountedCore) (result : CallResult) → StandsAt numbers comms now d → HasEnough now.stock (λ v. one_if (has_kind v (target_kind w)) + more v)
     → Registers d client (target_kind w) name after result
     → Turned numbers comms more (registered (limits_of comms) now number client w name (first_of w now.stock)) after result
-register_turn law keeps grows numbers comms more now d number client w name after result stands enough ch =
+stock_turn law keeps grows numbers comms more now d number client w name after result stands enough ch =
     rw (first_is_fresh w now.stock more enough)
     (change_turn law keeps grows numbers comms more now d client (Register name (target_kind w) 0) after result (rest_of w now.stock) stands (kind_exact w) ch
     (rest_has_enough w now.stock more enough))
@@ -156,7 +163,7 @@ request_turn law keeps grows numbers comms more now d number client (asks_for.Ch
     change_turn law keeps grows numbers comms more now d client c after result now.stock stands (handless_free c o.0) o.1
     (without_request (asks_for.Change c) more now.stock enough)
 request_turn law keeps grows numbers comms more now d number client (asks_for.Register kind name) after result stands enough o =
-    register_turn law keeps grows numbers comms more now d number client kind name after result stands enough o
+    stock_turn law keeps grows numbers comms more now d number client kind name after result stands enough o
 request_turn law keeps grows numbers comms more now d number client (asks_for.Infos target) after result stands enough o =
     gives_turn numbers comms more now d after (call_result.Infos client d.changes (out.InfoReply (infos (machine d.core) target) ∷ [])) _ result stands
     (append-nil (out_line (out.InfoReply (infos (machine d.core) target)) (parent.Read client d.changes))
@@ -261,17 +268,60 @@ unfolding Handles
 input_turned law keeps grows numbers comms more now d number input after result stands enough t =
     asked_turn law keeps grows numbers comms more now d number input.opening input.asked after result stands enough t
 
+-- ---- a register from C
+
+abbrev is_free_if : Option Kind → Bool
+is_free_if None = false
+is_free_if (Some kind) = is_free kind
+
+numbered_by : (widget plain echoing opaque : Bool) → is_free_if (if widget then Some kind.Widget else if plain then Some kind.Plain else if echoing then Some kind.WidgetEcho else if opaque then Some kind.Opaque else None) ≡ false
+numbered_by true plain echoing opaque = refl
+numbered_by false true echoing opaque = refl
+numbered_by false false true opaque = refl
+numbered_by false false false true = refl
+numbered_by false false false false = refl
+
+no_number_is_free : (n : ℕ) → is_free_if (kind_numbered n) ≡ false
+no_number_is_free n = numbered_by (n == 2) (n == 3) (n == 4) (n == 5)
+
+new_target_turned : NoChoice → KeepsExact → Grows → (numbers : Numbers) (comms : ℕ) (more : StockKind → ℕ) (now : Standing) (d : CountedCore) (number : ℕ) (client : message.Reading ℕ)
+    (new : Kind) (name : Name) (after : CountedCore) (result : CallResult) → StandsAt numbers comms now d → HasEnough now.stock more → is_free new ≡ false
+    → RegistersBy client d number new name after result → Turned numbers comms more (new_target_turn (limits_of comms) now number client new name) after result
+new_target_turned law keeps grows numbers comms more now d number (Ok client) new name after result stands enough kept t =
+    change_turn law keeps grows numbers comms more now d client (Register name new 0) after result now.stock stands kept t enough
+new_target_turned law keeps grows numbers comms more now d number (Err fault) new name after result stands enough kept t =
+    gives_turn numbers comms more now d after (call_result.Bad number (Message fault) []) (bad_line number (Message fault)) result stands refl enough t
+
+register_turned : NoChoice → KeepsExact → Grows → (numbers : Numbers) (comms : ℕ) (more : StockKind → ℕ) (now : Standing) (k : ManagerState) (client : ℕ) (new : Option Kind) (name : Name)
+    (after : ManagerState) → StandsAt numbers comms now k.counted_core → HasEnough now.stock more → is_free_if new ≡ false → RegistersKind k client new name after
+    → (after.number ≡ k.number + 1) × Turned numbers comms more (register_turn (limits_of comms) now (k.number + 1) client new name) after.counted_core after.call_result
+register_turned law keeps grows numbers comms more now k client None name after stands enough kept t = absurd t
+register_turned law keeps grows numbers comms more now k client (Some new) name after stands enough kept t =
+    (t.0, new_target_turned law keeps grows numbers comms more now k.counted_core (k.number + 1) (below 4 (Some (pos client))) new name after.counted_core after.call_result stands enough kept t.1)
+
+-- ---- calls one after another
+
+call_turned : NoChoice → KeepsExact → Grows → (numbers : Numbers) (comms : ℕ) (more : StockKind → ℕ) (now : Standing) (k : ManagerState) (request : CallRequest) (after : ManagerState)
+    → StandsAt numbers comms now k.counted_core → HasEnough now.stock (λ w. registered_by_call w request + more w) → PlaysCall k request after
+    → (after.number ≡ k.number + 1) × Turned numbers comms more (call_turn (limits_of comms) now (k.number + 1) request) after.counted_core after.call_result
+call_turned law keeps grows numbers comms more now k (AsksFor input) after stands enough plays =
+    (plays.0, input_turned law keeps grows numbers comms more now k.counted_core (k.number + 1) input after.counted_core after.call_result stands enough plays.1)
+call_turned law keeps grows numbers comms more now k (RegistersNew client kind name) after stands enough plays =
+    register_turned law keeps grows numbers comms more now k client (kind_numbered kind) name after stands
+    (less now.stock (λ w. 0 + more w) more (λ w. at_most_sum 0 (more w)) enough) (no_number_is_free kind) plays
+
 run_calls : NoChoice → KeepsExact → Grows → (numbers : Numbers) (comms : ℕ) (now : Standing) (k : ManagerState) (ps : List PlayedCall) (n : ℕ) → StandsAt numbers comms now k.counted_core
-    → HasEnough now.stock (λ w. registered_by_inputs w (inputs_in ps)) → k.number ≡ n → RunsCalls k ps → said_to ps ≡ said_from (limits_of comms) now n (inputs_in ps)
+    → HasEnough now.stock (λ w. registered_by_calls w (requests_in ps)) → k.number ≡ n → RunsCalls k ps → said_to ps ≡ said_from (limits_of comms) now n (requests_in ps)
 run_calls law keeps grows numbers comms now k [] n stands enough is runs = refl
 run_calls law keeps grows numbers comms now k (p ∷ ps) n stands enough is runs =
-    let first : Turn = turn_if (limits_of comms) now (n + 1) p.0.asked in
-    let more : StockKind → ℕ = λ w. registered_by_inputs w (inputs_in ps) in
+    let first : Turn = call_turn (limits_of comms) now (n + 1) p.0 in
+    let more : StockKind → ℕ = λ w. registered_by_calls w (requests_in ps) in
+    let both : (p.1.number ≡ k.number + 1) × Turned numbers comms more (call_turn (limits_of comms) now (k.number + 1) p.0) p.1.counted_core p.1.call_result =
+    call_turned law keeps grows numbers comms more now k p.0 p.1 stands enough runs.0 in
     let t : Turned numbers comms more first p.1.counted_core p.1.call_result =
-    subst (λ (i : ℕ). Turned numbers comms more (turn_if (limits_of comms) now (i + 1) p.0.asked) p.1.counted_core p.1.call_result) is
-    (input_turned law keeps grows numbers comms more now k.counted_core (k.number + 1) p.0 p.1.counted_core p.1.call_result stands enough runs.0.1) in
+    subst (λ (i : ℕ). Turned numbers comms more (call_turn (limits_of comms) now (i + 1) p.0) p.1.counted_core p.1.call_result) is both.1 in
     ap (λ (x : List ℕ). x ++ said_to ps) t.0
-    ∙ ap (λ (x : List ℕ). first.text ++ x) (run_calls law keeps grows numbers comms first.after p.1 ps (n + 1) t.1.0 t.1.1 (runs.0.0 ∙ ap (λ (i : ℕ). i + 1) is) runs.1)
+    ∙ ap (λ (x : List ℕ). first.text ++ x) (run_calls law keeps grows numbers comms first.after p.1 ps (n + 1) t.1.0 t.1.1 (both.0 ∙ ap (λ (i : ℕ). i + 1) is) runs.1)
 
 pub calls : NoChoice → KeepsExact → Grows → CallsPlayScripts
 calls law keeps grows comms numbers ps stock runs enough =

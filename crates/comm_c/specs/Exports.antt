@@ -1,6 +1,6 @@
 -- What an exported call does: to the manager behind a handle, and to the caller's buffers.
 use Rattle.std.specs.Prelude.{◌≡◌, ◌≢◌, ◌⊎◌, ◌↔◌, ℕ, ◌<◌, ◌≤◌, ◌^◌, List, ◌++◌, length, drop}
-use Rattle.std.specs.Prelude.{Option, Some, None, Err}
+use Rattle.std.specs.Prelude.{Option, Some, None, Err, IsOk}
 use Rattle.comm_targets.specs.declared.kind.Kind.{Kind}
 use Rattle.comm_core.specs.Machine.{Name}
 use Rattle.comm_c.specs.CallResult.{result_number, result_text, sent}
@@ -73,6 +73,11 @@ abbrev pub FailsTest : Ask → Option ManagerState → CallFault → Type 0
 FailsTest ask (Some k) fault = ask k.counted_core ≡ Err fault
 FailsTest ask None fault = ⊥
 
+-- a manager is there, and what is asked for passes each test
+abbrev pub PassesTests : Ask → Option ManagerState → Type 0
+PassesTests ask (Some k) = IsOk (ask k.counted_core)
+PassesTests ask None = ⊥
+
 -- a manager is there, and has had as many calls as it takes
 abbrev pub IsExhausted : Option ManagerState → Type 0
 IsExhausted (Some k) = 2 ^ 62 ≤ k.number
@@ -90,6 +95,7 @@ pub record HasCalled (ask : Ask) (old new : Option ManagerState) (status reply c
   pub name : status ≡ bad_name → FailsTest ask old BadName
   pub json : status ≡ not_json → FailsTest ask old NotJson
   pub full : status ≡ exhausted → IsExhausted old
+  pub last : status ≡ exhausted → PassesTests ask old
   pub codes : (status ≡ ok) ⊎ (status ≡ closed) ⊎ (status ≡ memory) ⊎ (status ≡ exhausted) ⊎ (status ≡ bad_sizes)
       ⊎ (status ≡ bad_name) ⊎ (status ≡ not_json)
 

@@ -1,21 +1,28 @@
 -- The lines that a manager has played since it was made, and what it said to them: a script, and what
 -- `played` gives for it. The same of calls that ask for anything.
 use Rattle.std.specs.Prelude.{◌≡◌, ℕ, ◌+◌, ◌≤◌, List, [], ◌∷◌, ◌++◌, map, replicate, Bool, true, false}
-use Rattle.std.specs.Prelude.{Option, Some, None, Ok, Err, if◌then◌else◌}
+use Rattle.std.specs.Prelude.{Option, Some, None, Ok, Err, if◌then◌else◌, pos}
 use Rattle.comm_value.specs.declared.from_json.Numbers.{Numbers}
 use Rattle.comm_targets.specs.declared.kind.Kind.{Kind}
-use Rattle.comm_core.specs.Machine.{Registered}
+use Rattle.comm_messages.specs.Fields.{below}
+use Rattle.comm_messages.specs.Gives.{Reading as MessageReading}
+use Rattle.comm_core.specs.Machine.{Name, Registered}
+use Rattle.comm_core.specs.declared.call.Call.TheVariants as call
 use Rattle.comm_core.specs.declared.limits.Limits.{Limits}
 use Rattle.comm_script.specs.Command.{asked}
 use Rattle.comm_script.specs.Line.{Reading}
 use Rattle.comm_script.specs.Lines.{is_blank, lines_of}
-use Rattle.comm_script.specs.Played.{Standing, Turn, answered, played, says}
+use Rattle.comm_script.specs.Played.{Standing, Turn, answered, called, played, says}
 use Rattle.comm_script.specs.Stock.{has_kind}
+use Rattle.comm_script.specs.Words.{bad_line}
+use Rattle.comm_script.specs.declared.asked.LineFault.TheVariants.{Message}
 use Rattle.comm_script.specs.declared.asked.Request.{Request}
 use Rattle.comm_script.specs.declared.asked.Request.TheVariants.{Change, Register, Infos, State}
 use Rattle.comm_script.specs.declared.stock.StockKind.{StockKind}
 use Rattle.comm_script.specs.declared.stock.StockKind.TheVariants.{Echo, Counter, Widget, WidgetEcho}
 use Rattle.comm_c.specs.CallResult.{result_text}
+use Rattle.comm_c.specs.Codes.{kind_numbered}
+use Rattle.comm_c.specs.Exports.{RegistersKind}
 use Rattle.comm_c.specs.Handles.{target_kind}
 use Rattle.comm_c.specs.Inputs.{line_input}
 use Rattle.comm_c.specs.ManagerState.{ManagerState, Plays, limits_of, new_manager}
@@ -62,17 +69,28 @@ registered_by numbers w (line ∷ lines) =
 
 -- ---- calls that ask for anything
 
+-- What a call asks for: an input, or, from C, a new target of the kind that has this number, for a client and under a
+-- name.
+pub data CallRequest : Type 0 where
+  AsksFor : Input → CallRequest
+  RegistersNew : (client kind : ℕ) → Name → CallRequest
+
 -- what a call asks for, and the manager once it has done it
 abbrev pub PlayedCall : Type 0
-PlayedCall = Input × ManagerState
+PlayedCall = CallRequest × ManagerState
+
+-- it does what the call asks for
+abbrev pub PlaysCall : ManagerState → CallRequest → ManagerState → Type 0
+PlaysCall k (AsksFor input) after = Plays k input after
+PlaysCall k (RegistersNew client kind name) after = RegistersKind k client (kind_numbered kind) name after
 
 -- it does what these ask for, one after the other
 abbrev pub RunsCalls : ManagerState → List PlayedCall → Type 0
 RunsCalls k [] = Unit {0}
-RunsCalls k (p ∷ ps) = Plays k p.0 p.1 × RunsCalls p.1 ps
+RunsCalls k (p ∷ ps) = PlaysCall k p.0 p.1 × RunsCalls p.1 ps
 
-abbrev pub inputs_in : List PlayedCall → List Input
-inputs_in ps = map (λ p. p.0) ps
+abbrev pub requests_in : List PlayedCall → List CallRequest
+requests_in ps = map (λ p. p.0) ps
 
 -- what it says to them in all
 abbrev pub said_to : List PlayedCall → List ℕ
@@ -83,21 +101,43 @@ abbrev pub registered_if : StockKind → Option (Reading (ℕ × Request)) → �
 registered_if w None = 0
 registered_if w (Some reading) = registered_by_reading w reading
 
+-- a register from C brings its own target
+abbrev pub registered_by_call : StockKind → CallRequest → ℕ
+registered_by_call w (AsksFor input) = registered_if w input.asked
+registered_by_call w (RegistersNew client kind name) = 0
+
 -- how many targets of the kind these register
-abbrev pub registered_by_inputs : StockKind → List Input → ℕ
-registered_by_inputs w [] = 0
-registered_by_inputs w (i ∷ is) = registered_if w i.asked + registered_by_inputs w is
+abbrev pub registered_by_calls : StockKind → List CallRequest → ℕ
+registered_by_calls w [] = 0
+registered_by_calls w (c ∷ cs) = registered_by_call w c + registered_by_calls w cs
 
 -- what a script says to a line that was read so
 abbrev pub turn_if : Limits → Standing → ℕ → Option (Reading (ℕ × Request)) → Turn
 turn_if limits now number None = says now []
 turn_if limits now number (Some reading) = answered limits now number reading
 
--- what it says to lines that were read so, numbered from n on
-abbrev pub said_from : Limits → Standing → ℕ → List Input → List ℕ
+-- what it says where a client that was read so registers a target that isn't of its stock
+abbrev pub new_target_turn : Limits → Standing → ℕ → MessageReading ℕ → Kind → Name → Turn
+new_target_turn limits now number (Ok client) kind name =
+    called limits now client (call.Register name kind 0) now.stock
+new_target_turn limits now number (Err fault) kind name = says now (bad_line number (Message fault))
+
+abbrev pub register_turn : Limits → Standing → (number client : ℕ) → Option Kind → Name → Turn
+register_turn limits now number client None name = says now []
+register_turn limits now number client (Some kind) name =
+    new_target_turn limits now number (below 4 (Some (pos client))) kind name
+
+-- what it says to the call of this number
+abbrev pub call_turn : Limits → Standing → ℕ → CallRequest → Turn
+call_turn limits now number (AsksFor input) = turn_if limits now number input.asked
+call_turn limits now number (RegistersNew client kind name) =
+    register_turn limits now number client (kind_numbered kind) name
+
+-- what it says to calls that ask for these, numbered from n on
+abbrev pub said_from : Limits → Standing → ℕ → List CallRequest → List ℕ
 said_from limits now n [] = []
-said_from limits now n (i ∷ is) =
-    let first = turn_if limits now (n + 1) i.asked in first.text ++ said_from limits first.after (n + 1) is
+said_from limits now n (c ∷ cs) =
+    let first = call_turn limits now (n + 1) c in first.text ++ said_from limits first.after (n + 1) cs
 
 -- ---- stocks for scripts
 
@@ -140,9 +180,9 @@ pub record LinesPlayScripts : Type 0 where
       → HasEnough stock (λ w. registered_by numbers w (lines_in ps))
       → said_in ps ≡ played numbers (limits_of comms) stock input
 
--- What was said to calls that ask for anything, since the manager was made, is what a script says to lines that were
--- read so, over any stock that has as many new targets of each kind as they register.
+-- What was said to calls that ask for anything, a register from C too, since the manager was made, is what a script
+-- says to lines that were read so, over any stock that has as many new targets of each kind as the lines register.
 abbrev pub CallsPlayScripts : Type 0
 CallsPlayScripts = (comms : ℕ) (numbers : Numbers) (ps : List PlayedCall) (stock : List Registered)
-    → RunsCalls (new_manager comms numbers) ps → HasEnough stock (λ w. registered_by_inputs w (inputs_in ps))
-    → said_to ps ≡ said_from (limits_of comms) (record { history = []; stock = stock }) 0 (inputs_in ps)
+    → RunsCalls (new_manager comms numbers) ps → HasEnough stock (λ w. registered_by_calls w (requests_in ps))
+    → said_to ps ≡ said_from (limits_of comms) (record { history = []; stock = stock }) 0 (requests_in ps)

@@ -1,5 +1,5 @@
 //! How a handle's manager is taken out and put back, and how it plays what a call asks for.
-ghost use Rattle.std.specs.Prelude.{◌≡◌, ◌≢◌, ◌⊎◌, ◌↔◌, ◌≤◌, ◌^◌, None, Some, Err, IfOk, IsSome, IsUtf8, Option};
+ghost use Rattle.std.specs.Prelude.{◌≡◌, ◌≢◌, ◌⊎◌, ◌↔◌, ◌≤◌, ◌^◌, None, Some, Err, IfOk, IsOk, IsSome, IsUtf8, Option};
 ghost use Rattle.std.specs.Prelude.{option_map};
 ghost use Rattle.comm_core.specs.Limits.{AreAllowed};
 ghost use Rattle.comm_c.specs.Codes.{already_open, bad_kind, bad_limit, bad_name, bad_sizes, exhausted};
@@ -85,6 +85,8 @@ fn play(manager: &mut HeldManager, alloc: Global, input: Result<Input, CallFault
     ensures json { (asked : Tested) → Gives (λ i. i) input asked → result ≡ not_json
         → asked ≡ Err NotJson }
     ensures full { result ≡ exhausted → 2 ^ 62 ≤ manager.old.number }
+    ensures last { (asked : Tested) → Gives (λ i. i) input asked → result ≡ exhausted
+        → IsOk asked }
     ensures codes { (result ≡ ok) ⊎ (result ≡ memory) ⊎ (result ≡ exhausted)
         ⊎ (result ≡ bad_sizes) ⊎ (result ≡ bad_name) ⊎ (result ≡ not_json) }
 {
