@@ -44,6 +44,14 @@
 extern "C" {
 #endif
 
+/* The version of this header. CHANGELOG.md says what a change of each of its three numbers means. */
+#define ROLGUNAI_VERSION "0.1.0"
+#define ROLGUNAI_VERSION_NUMBER 1000 /* 1,000,000 times the first number, 1,000 times the second, and the third */
+
+/* The version of the library that is linked, as ROLGUNAI_VERSION_NUMBER has the header's. It takes no handle and may be
+ * called at any time, from any thread. */
+uint32_t rolgunai_version(void);
+
 typedef struct rolgunai_handle {
   void *manager;
 } rolgunai_handle;

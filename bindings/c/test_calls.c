@@ -220,6 +220,7 @@ static void *elsewhere(void *nothing) {
 }
 
 int main(void) {
+  check(rolgunai_version() == ROLGUNAI_VERSION_NUMBER, "the library's version is the header's");
   closed_handles("before there is a manager");
   decimals();
   making();

@@ -35,6 +35,11 @@ const BUFFERS: usize = 5;
 /// How long a buffer may be that is copied twice.
 const SHORT: usize = 4096;
 
+/// The version of the library that is linked: 2,003,004 is 2.3.4.
+pub fn version() -> u32 {
+    ffi::rolgunai_version()
+}
+
 /// A manager, which is freed where it is dropped.
 #[derive(Debug)]
 pub struct Manager {

@@ -373,9 +373,15 @@ fn long_texts(checks: &mut Checks) -> Result<(), Error> {
     Ok(())
 }
 
+fn version(checks: &mut Checks) -> Result<(), Error> {
+    let line = format!("#define ROLGUNAI_VERSION_NUMBER {} ", rolgunai::version());
+    checks.check("the library's version is the header's", include_str!("../c/rolgunai.h").contains(&line));
+    Ok(())
+}
+
 fn main() -> ExitCode {
     let mut checks = Checks::default();
-    let parts = [calls, memory, errors, decimals, many_targets, texts, long_texts];
+    let parts = [calls, memory, errors, decimals, many_targets, texts, long_texts, version];
     for (number, part) in parts.into_iter().enumerate() {
         let made = part(&mut checks);
         checks.check(&format!("part {number}: {made:?}"), made.is_ok());

@@ -12,6 +12,7 @@ pub struct Handle {
 pub type NamedCall = unsafe extern "C" fn(*mut Handle, u32, *const u8, usize, *mut u32, *mut usize) -> u32;
 
 unsafe extern "C" {
+    pub safe fn rolgunai_version() -> u32;
     pub fn rolgunai_new(handle: *mut Handle, comms: usize) -> u32;
     pub fn rolgunai_new_with_decimals(handle: *mut Handle, comms: usize) -> u32;
     pub fn rolgunai_free(handle: *mut Handle) -> u32;

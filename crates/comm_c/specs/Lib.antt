@@ -15,3 +15,4 @@ pub mod Parts
 pub mod Reasons
 pub mod Scripts
 pub mod Subject
+pub mod Version

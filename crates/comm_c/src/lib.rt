@@ -29,6 +29,7 @@ mod raw_box;
 mod reasons;
 pub mod result_api;
 mod subject;
+pub mod version;
 
 ghost use Rattle.std.specs.Prelude.{◌≡◌, ◌≢◌, ◌⊎◌, ◌↔◌, Some, None, IsSome};
 ghost use Rattle.comm_core.specs.Limits.{AreAllowed};

@@ -1,0 +1,47 @@
+"""The package for Python: an sdist that has the library in it, and the wheel that is built of that sdist."""
+import os
+import shutil
+import subprocess
+import tarfile
+
+from release_lib import archives
+
+POLICY = "manylinux_2_17_x86_64"
+
+
+def laid_out(release, library, licenses, into):
+    """The folder that an sdist is made of: bindings/python without its tests, the library, its header, and licenses."""
+    source = release.sources / "bindings/python"
+    left_out = ("test_*", "checks.py", "bench.py", "play.py", "stand_in", "comms_kernel.py")
+    shutil.copytree(source, into, ignore=shutil.ignore_patterns(*left_out))
+    (into / "packed").mkdir()
+    shutil.copy(library, into / "packed/librolgunai.a")
+    shutil.copy(release.sources / "bindings/c/rolgunai.h", into / "packed")
+    for name, text in licenses.items():
+        (into / name).parent.mkdir(exist_ok=True)
+        (into / name).write_bytes(text)
+
+
+def run(release, folder, *words):
+    """Runs setup.py, so that the same files come of it each time."""
+    flags = f"-g0 -ffile-prefix-map={folder}=."
+    environment = {**os.environ, "SOURCE_DATE_EPOCH": f"{release.date}", "CFLAGS": flags, "PYTHONHASHSEED": "0"}
+    for name in ("ROLGUNAI_ARCHIVE", "ROLGUNAI_HEAP", "LDFLAGS", "PYTHONPATH"):
+        environment.pop(name, None)
+    command = [release.python, "-B", "setup.py", "-q", *words]
+    done = subprocess.run(command, cwd=folder, env=environment, capture_output=True, text=True)
+    if done.returncode:
+        raise RuntimeError(f"setup.py {' '.join(words)}: {done.stdout}{done.stderr}")
+
+
+def make(release, library, licenses, work, into):
+    """Makes both, into a folder: the sdist first, and of it the wheel, whose name it gives."""
+    name = f"rolgunai-{release.version}"
+    laid_out(release, library, licenses, work / "staged")
+    run(release, work / "staged", "sdist", "--formats=tar", "--dist-dir", work)
+    with tarfile.open(work / f"{name}.tar") as made:
+        made.extractall(work)
+    sdist = archives.packed(name, archives.files_below(work / name), release.date)
+    (into / f"{name}.tar.gz").write_bytes(sdist)
+    run(release, work / name, "bdist_wheel", "--plat-name", POLICY, "--dist-dir", into)
+    return f"{name}-cp311-abi3-{POLICY}.whl"

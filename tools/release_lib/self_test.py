@@ -1,0 +1,273 @@
+"""Parts of tools/release_test: when there is no release, that two are the same, what is in one, and how it is played."""
+import json
+import os
+import re
+import shutil
+import subprocess
+import tarfile
+import zipfile
+from pathlib import Path
+
+from release_lib import elf, gate
+
+SAID = "1 passed, 0 failed"
+
+
+class Tried:
+    """What was tried so far. A failure is told at once."""
+
+    def __init__(self):
+        self.passed = self.failed = self.skipped = 0
+
+    def check(self, name, found, wanted):
+        if found == wanted:
+            self.passed += 1
+        else:
+            self.failed += 1
+            print(f"release_test: {name} FAILED\n  it is    {found}\n  and not  {wanted}")
+
+    def skip(self, what):
+        self.skipped += 1
+        print(f"skipped: {what}")
+
+    def take(self, name, text, status):
+        """Takes what a tool counted by itself, in its last line."""
+        lines = text.splitlines()
+        counts = re.fullmatch(r"(\d+) passed, (\d+) failed", lines[-1] if lines else "")
+        for line in lines:
+            if line.startswith("skipped: "):
+                self.skip(line.removeprefix("skipped: "))
+        if not counts or status or counts[2] != "0":
+            print("\n".join(line for line in lines if not line.startswith("skipped: ")))
+        self.passed += int(counts[1]) if counts else 0
+        self.check(f"{name}, status", status, 0)
+
+
+def commit_all(clone, message):
+    identity = ["-c", "user.name=test", "-c", "user.email=test@example.invalid", "-c", "commit.gpgsign=false"]
+    gate.git(clone, "add", "--all")
+    gate.git(clone, *identity, "commit", "-q", "--allow-empty", "-m", message)
+
+
+class Bench:
+    """Where releases are made: copies of a checkout as it lies there, committed, at a tag, with what was built and a
+    record of the gate."""
+
+    def __init__(self, root, work):
+        self.root, self.work = root, work
+        self.kit = gate.kit_version()
+        self.version = subprocess.run([root / "tools/version"], capture_output=True, text=True).stdout.strip()
+        self.environment = {
+            **os.environ,
+            "GIT_AUTHOR_DATE": "2026-01-02T03:04:05Z",
+            "GIT_COMMITTER_DATE": "2026-01-02T03:04:05Z",
+        }
+        os.environ.update(self.environment)
+
+    def copy(self, name):
+        """A copy of the checkout, with what isn't committed yet."""
+        clone = self.work / name
+        clone.parent.mkdir(parents=True, exist_ok=True)
+        subprocess.run(["git", "clone", "-q", self.root, clone], check=True)
+        there = gate.git(self.root, "ls-files", "-z", "--cached", "--others", "--exclude-standard").split("\0")
+        for path in clone.rglob("*"):
+            if path.is_file() and path.relative_to(clone).as_posix() not in there and ".git" not in path.parts:
+                path.unlink()
+        for name in filter(None, there):
+            if (self.root / name).is_symlink() or (self.root / name).is_file():
+                (clone / name).parent.mkdir(parents=True, exist_ok=True)
+                shutil.copy2(self.root / name, clone / name, follow_symlinks=False)
+        commit_all(clone, "as it lies there")
+        gate.git(clone, "branch", "whole")
+        return self.whole(clone)
+
+    def whole(self, clone):
+        """Makes a copy one whose release can be made, also after it was changed."""
+        gate.git(clone, "reset", "-q", "--hard", "whole")
+        gate.git(clone, "clean", "-q", "-d", "--force")
+        gate.git(clone, "tag", "--force", f"v{self.version}")
+        for name in (gate.LIBRARY, gate.PROGRAM):
+            (clone / name).parent.mkdir(parents=True, exist_ok=True)
+            shutil.copy2(self.root / name, clone / name)
+        gate.write(clone, gate.sources(clone), SAID, self.kit)
+        return clone
+
+    def release(self, clone, version=None):
+        """Runs tools/release there."""
+        command = [clone / "tools/release", version or self.version]
+        return subprocess.run(command, cwd=clone, capture_output=True, text=True)
+
+
+def edited(name, old, new):
+    """Changes a file of a copy."""
+
+    def edit(clone):
+        path = clone / name
+        text = path.read_text()
+        assert text.count(old) >= 1, (name, old)
+        path.write_text(text.replace(old, new, 1))
+
+    return edit
+
+
+def committed(edit):
+    """Makes a change of a copy, and commits it."""
+
+    def change(clone):
+        edit(clone)
+        commit_all(clone, "a change")
+
+    return change
+
+
+def appended(name):
+    return lambda clone: (clone / name).open("ab").write(b"\n")
+
+
+def other_versions(clone):
+    """Commits a library whose version isn't the header's, and moves the tag and the record there."""
+    committed(edited("crates/comm_c/src/version.rt", "VERSION: u32 = ", "VERSION: u32 = 7"))(clone)
+    gate.git(clone, "tag", "--force", gate.git(clone, "tag").strip())
+    gate.write(clone, gate.sources(clone), SAID, gate.kit_version())
+
+
+# What is done to a copy whose release could be made, and why none is made then.
+REFUSED = [
+    ("no record", lambda clone: (clone / gate.RECORD).unlink(), "GATE isn't there: the gate, ./check, writes it"),
+    ("the gate failed", edited(gate.RECORD, SAID, "9 passed, 1 failed"), "the gate didn't pass: 9 passed, 1 failed"),
+    ("another kit", edited(gate.RECORD, "kit: ", "kit: other-"), "the gate proved by other-"),
+    ("another library", appended(gate.LIBRARY), f"{gate.LIBRARY} isn't what the gate built"),
+    ("no program", lambda clone: (clone / gate.PROGRAM).unlink(), f"{gate.PROGRAM} isn't what the gate built"),
+    ("a file that isn't committed", edited("README.md", "# ", "#  "), "the checkout isn't clean:  M README.md"),
+    ("a file that git doesn't know", lambda clone: (clone / "crates/x.rt").touch(), "isn't clean: ?? crates/x.rt"),
+    ("sources that the gate didn't see", committed(appended("README.md")), "and other sources are checked out"),
+    ("no tag", lambda clone: gate.git(clone, "tag", "-d", gate.git(clone, "tag").strip()), "hasn't the tag v"),
+    ("versions that differ", other_versions, "crates/comm_c/src/version.rt: "),
+]
+
+
+def refusals(bench, tried):
+    clone = bench.copy("changed")
+    for name, change, why in REFUSED:
+        change(clone)
+        done = bench.release(clone)
+        tried.check(f"{name}: {done.stderr}", (done.returncode, why in done.stderr), (1, True))
+        tried.check(f"{name}: nothing is made", (clone / "out").exists(), False)
+        bench.whole(clone)
+    done = bench.release(clone, "9.9.9")
+    tried.check(f"another version: {done.stderr}", (done.returncode, "and not 9.9.9" in done.stderr), (1, True))
+    proved = gate.sources(clone)
+    committed(appended("README.md"))(clone)
+    try:
+        gate.write(clone, proved, SAID, bench.kit)
+        tried.check("a record of sources that changed meanwhile", "is written", "is refused")
+    except gate.Refused:
+        tried.check("a record of sources that changed meanwhile", "is refused", "is refused")
+    shutil.rmtree(clone)
+
+
+def same_bytes(bench, tried):
+    """Two releases out of two folders. The first one stays for what follows."""
+    clones = [bench.copy("one/checkout"), bench.copy("another/folder/checkout")]
+    for clone in clones:
+        done = bench.release(clone)
+        tried.check(f"a release is made: {done.stderr}", done.returncode, 0)
+    first, second = ({path.name: path.read_bytes() for path in (it / "out/release").iterdir()} for it in clones)
+    tried.check("the files of both", sorted(first), sorted(second))
+    for name, text in first.items():
+        tried.check(f"{name}: the same bytes", text == second.get(name), True)
+    bench.made = clones[0] / "out/release"
+    shutil.rmtree(clones[1])
+
+
+def names_in(path):
+    with tarfile.open(path) as archive:
+        return {member.name.partition("/")[2]: member for member in archive.getmembers()}
+
+
+def unpacked(bench, name):
+    into = bench.work / "unpacked" / name
+    into.mkdir(parents=True)
+    with tarfile.open(bench.made / name) as archive:
+        archive.extractall(into)
+    return into / name.removesuffix(".tar.gz")
+
+
+def contents(bench, tried):
+    """What a release has, shows and asks for."""
+    version, made = bench.version, bench.made
+    library = f"librolgunai-{version}-linux-x86_64.tar.gz"
+    wheel = f"rolgunai-{version}-cp311-abi3-manylinux_2_17_x86_64.whl"
+    wanted = {"README.md", "RELEASE", "SHA256SUMS", library, wheel, f"rolgunai-{version}.tar.gz"}
+    wanted |= {f"rolgunai-cargo-{version}.tar.gz", f"rolgunai-programs-{version}-linux-x86_64.tar.gz"}
+    wanted |= {f"rolgunai-{version}.spdx.json"}
+    tried.check("the files", {path.name for path in made.iterdir()}, wanted)
+
+    header = (bench.root / "bindings/c/rolgunai.h").read_text()
+    calls = sorted(set(re.findall(r"^uint32_t (rolgunai_\w+)\(", header, re.MULTILINE)))
+    shared = unpacked(bench, library) / "lib" / f"librolgunai.so.{version.partition('.')[0]}"
+    tried.check("what librolgunai.so shows", elf.exported(shared), calls)
+    dynamic = subprocess.run(["objdump", "-p", shared], capture_output=True, text=True).stdout
+    tried.check("its soname", re.findall(r"SONAME +(\S+)", dynamic), [shared.name])
+    tried.check("what it needs", re.findall(r"NEEDED +(\S+)", dynamic), ["libc.so.6"])
+    tried.check("no stack that may be run", re.findall(r"STACK .*\n.*flags (\S+)", dynamic), ["rw-"])
+
+    with zipfile.ZipFile(made / wheel) as archive:
+        module = bench.work / "_native.abi3.so"
+        module.write_bytes(archive.read("rolgunai/_native.abi3.so"))
+        metadata = archive.read(f"rolgunai-{version}.dist-info/METADATA").decode()
+        tags = archive.read(f"rolgunai-{version}.dist-info/WHEEL").decode()
+    tried.check("what the module shows", elf.exported(module), ["PyInit__native"])
+    newest = tuple(map(int, elf.newest_glibc(module).split(".")))
+    tried.check(f"it takes glibc up to 2.17: {newest}", newest <= (2, 17), True)
+    tried.check("its tag", re.findall(r"^Tag: (.*)$", tags, re.MULTILINE), ["cp311-abi3-manylinux_2_17_x86_64"])
+    fields = {"Name": ["rolgunai"], "Version": [version], "License": ["MIT"], "Requires-Python": [">=3.11"]}
+    for field, value in fields.items():
+        tried.check(f"METADATA {field}", re.findall(rf"^{field}: (.*)$", metadata, re.MULTILINE), value)
+
+    sbom = json.loads((made / f"rolgunai-{version}.spdx.json").read_text())
+    licensed = {it["name"]: it["licenseDeclared"] for it in sbom["packages"]}
+    tried.check("a license in the SBOM", licensed.get("serde_json"), "Apache-2.0 OR MIT")
+    known = {it["SPDXID"] for it in sbom["packages"]} | {"SPDXRef-DOCUMENT"}
+    ends = {it[end] for it in sbom["relationships"] for end in ("spdxElementId", "relatedSpdxElement")}
+    tried.check("what the SBOM relates", ends <= known, True)
+    texts = {name.partition("-")[0] for name in (path.name for path in (shared.parents[1] / "doc/licenses").iterdir())}
+    contained = {it["relatedSpdxElement"] for it in sbom["relationships"] if it["spdxElementId"] == "SPDXRef-librolgunai"}
+    stated = {it["name"] for it in sbom["packages"] if it["SPDXID"] in contained and it["licenseDeclared"] != "NOASSERTION"}
+    tried.check("a license's text for each", texts, stated)
+    left = [name for name in names_in(made / library) if name.endswith(".in")]
+    tried.check("no template is left", left, [])
+
+
+# How ./play is called beside a release, its status, and what it says. {P} is the program.
+PLAYED = [
+    ("--program", "--program {P} examples/slider.jsonl", 0, "of release {V}, commit {C} (" + SAID + ")"),
+    ("beside the checkout", "examples/slider.jsonl", 0, "of release {V}, commit {C} (" + SAID + ")"),
+    ("over the manager that threads share", "--program {P} --shared examples/slider.jsonl", 0, "of release {V}"),
+    ("no program", "--program nowhere examples/slider.jsonl", 2, "wants a program, and 'nowhere' isn't one"),
+    ("a program that isn't of the RELEASE", "--program {P}.other examples/slider.jsonl", 2, "isn't the program of"),
+    ("a program without a RELEASE", "--program alone/comm_driver examples/slider.jsonl", 0, "there is no file RELEASE"),
+    ("with --unproved", "--program {P} --unproved examples/slider.jsonl", 2, "not both"),
+]
+
+
+def players(bench, tried):
+    """./play in a checkout where nothing is built, without the kit."""
+    beside = unpacked(bench, f"rolgunai-programs-{bench.version}-linux-x86_64.tar.gz")
+    program = beside / "comm_driver"
+    checkout = beside.parent / "checkout"
+    subprocess.run(["git", "clone", "-q", bench.made.parents[1], checkout], check=True)
+    (beside / "comm_driver.other").write_bytes(program.read_bytes() + b"\0")
+    (beside / "comm_driver.other").chmod(0o755)
+    (checkout / "alone").mkdir()
+    shutil.copy2(program, checkout / "alone")
+    commit = gate.git(checkout, "rev-parse", "HEAD").strip()
+    expected = (bench.root / "examples/slider.expected").read_text()
+    for name, words, status, said in PLAYED:
+        command = ["./play", *words.format(P=program).split()]
+        environment = {**os.environ, "PATH": "/usr/bin:/bin"}
+        done = subprocess.run(command, cwd=checkout, env=environment, capture_output=True, text=True)
+        tried.check(f"./play, {name}: status", done.returncode, status)
+        said = said.format(V=bench.version, C=commit)
+        tried.check(f"./play, {name}: {done.stderr}", said in done.stderr, True)
+        tried.check(f"./play, {name}: answers", done.stdout, "" if status else expected)
