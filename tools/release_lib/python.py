@@ -7,6 +7,18 @@ import tarfile
 from release_lib import archives
 
 POLICY = "manylinux_2_17_x86_64"
+WANTED = "3.11 or later, with Debian's python3-dev, python3-setuptools and python3-wheel"
+ASKED = """import os, sys, sysconfig, setuptools, wheel
+sys.exit(sys.version_info < (3, 11) or not os.path.exists(os.path.join(sysconfig.get_path("include"), "Python.h")))"""
+
+
+def builder():
+    """A Python that builds wheels, or None."""
+    for candidate in (os.environ.get("PYTHON", "python3"), "/usr/bin/python3"):
+        found = shutil.which(candidate)
+        if found and not subprocess.run([found, "-c", ASKED], capture_output=True).returncode:
+            return found
+    return None
 
 
 def laid_out(release, library, licenses, into):

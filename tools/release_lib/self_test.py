@@ -68,15 +68,12 @@ class Bench:
         """A copy of the checkout, with what isn't committed yet."""
         clone = self.work / name
         clone.parent.mkdir(parents=True, exist_ok=True)
-        subprocess.run(["git", "clone", "-q", self.root, clone], check=True)
+        subprocess.run(["git", "clone", "-q", "--no-checkout", self.root, clone], check=True)
         there = gate.git(self.root, "ls-files", "-z", "--cached", "--others", "--exclude-standard").split("\0")
-        for path in clone.rglob("*"):
-            if path.is_file() and path.relative_to(clone).as_posix() not in there and ".git" not in path.parts:
-                path.unlink()
-        for name in filter(None, there):
-            if (self.root / name).is_symlink() or (self.root / name).is_file():
-                (clone / name).parent.mkdir(parents=True, exist_ok=True)
-                shutil.copy2(self.root / name, clone / name, follow_symlinks=False)
+        for file in filter(None, there):
+            if (self.root / file).is_symlink() or (self.root / file).is_file():
+                (clone / file).parent.mkdir(parents=True, exist_ok=True)
+                shutil.copy2(self.root / file, clone / file, follow_symlinks=False)
         commit_all(clone, "as it lies there")
         gate.git(clone, "branch", "whole")
         return self.whole(clone)
@@ -146,6 +143,31 @@ REFUSED = [
 ]
 
 
+# What stands in each file that tells a version after `tools/version --set 2.3.4`.
+TOLD = [
+    ("bindings/c/rolgunai.h", '#define ROLGUNAI_VERSION "2.3.4"'),
+    ("bindings/c/rolgunai.h", "#define ROLGUNAI_VERSION_NUMBER 2003004 /*"),
+    ("crates/comm_c/src/version.rt", "pub const VERSION: u32 = 2003004;"),
+    ("crates/comm_c/specs/Version.antt", "and the third: 2.3.4"),
+    ("crates/comm_c/specs/Version.antt", "version = 2003004"),
+]
+
+
+def versions(bench, tried):
+    """tools/version, in a copy: it writes another version, and finds the one file that has to be written by hand."""
+    clone = bench.copy("versions")
+    done = subprocess.run([clone / "tools/version", "--set", "2.3.4"], capture_output=True, text=True)
+    said = [line.partition(":")[0] for line in done.stdout.splitlines()]
+    tried.check("another version is written by hand in", (said, done.returncode), (["CHANGELOG.md", "2.3.4"], 1))
+    for name, text in TOLD:
+        tried.check(f"{name} has another version", text in (clone / name).read_text(), True)
+    changes = clone / "CHANGELOG.md"
+    changes.write_text(changes.read_text().replace(f"## {bench.version}", "## 2.3.4"))
+    done = subprocess.run([clone / "tools/version", "--check"], capture_output=True, text=True)
+    tried.check("all have it", (done.stdout, done.returncode), ("2.3.4\n", 0))
+    shutil.rmtree(clone)
+
+
 def refusals(bench, tried):
     clone = bench.copy("changed")
     for name, change, why in REFUSED:
@@ -180,63 +202,82 @@ def same_bytes(bench, tried):
     shutil.rmtree(clones[1])
 
 
-def names_in(path):
-    with tarfile.open(path) as archive:
-        return {member.name.partition("/")[2]: member for member in archive.getmembers()}
-
-
 def unpacked(bench, name):
+    """Where an archive of the release is unpacked, for the part that asks."""
     into = bench.work / "unpacked" / name
-    into.mkdir(parents=True)
+    into.mkdir(parents=True, exist_ok=True)
     with tarfile.open(bench.made / name) as archive:
         archive.extractall(into)
     return into / name.removesuffix(".tar.gz")
 
 
-def contents(bench, tried):
-    """What a release has, shows and asks for."""
-    version, made = bench.version, bench.made
-    library = f"librolgunai-{version}-linux-x86_64.tar.gz"
-    wheel = f"rolgunai-{version}-cp311-abi3-manylinux_2_17_x86_64.whl"
-    wanted = {"README.md", "RELEASE", "SHA256SUMS", library, wheel, f"rolgunai-{version}.tar.gz"}
-    wanted |= {f"rolgunai-cargo-{version}.tar.gz", f"rolgunai-programs-{version}-linux-x86_64.tar.gz"}
-    wanted |= {f"rolgunai-{version}.spdx.json"}
-    tried.check("the files", {path.name for path in made.iterdir()}, wanted)
+def library_of(bench):
+    return f"librolgunai-{bench.version}-linux-x86_64.tar.gz"
 
+
+def wheel_of(bench):
+    return f"rolgunai-{bench.version}-cp311-abi3-manylinux_2_17_x86_64.whl"
+
+
+def contents(bench, tried):
+    """Which files a release has, and that no template is left in an archive."""
+    version = bench.version
+    wanted = {"README.md", "RELEASE", "SHA256SUMS", library_of(bench), wheel_of(bench), f"rolgunai-{version}.spdx.json"}
+    wanted |= {f"rolgunai-programs-{version}-linux-x86_64.tar.gz"}
+    wanted |= {f"{name}-{version}.tar.gz" for name in ("rolgunai", "rolgunai-cargo")}
+    tried.check("the files", {path.name for path in bench.made.iterdir()}, wanted)
+    for archive in sorted(bench.made.glob("*.tar.gz")):
+        unfilled = [path for path in unpacked(bench, archive.name).rglob("*") if path.is_file() and is_template(path)]
+        tried.check(f"templates in {archive.name}", unfilled, [])
+
+
+def is_template(path):
+    return path.suffix == ".in" and path.name != "MANIFEST.in" or re.search(rb"@[A-Z]+@", path.read_bytes()) is not None
+
+
+def shared_library(bench, tried):
+    """What librolgunai.so shows and needs."""
     header = (bench.root / "bindings/c/rolgunai.h").read_text()
     calls = sorted(set(re.findall(r"^uint32_t (rolgunai_\w+)\(", header, re.MULTILINE)))
-    shared = unpacked(bench, library) / "lib" / f"librolgunai.so.{version.partition('.')[0]}"
+    shared = unpacked(bench, library_of(bench)) / "lib" / f"librolgunai.so.{bench.version.partition('.')[0]}"
     tried.check("what librolgunai.so shows", elf.exported(shared), calls)
     dynamic = subprocess.run(["objdump", "-p", shared], capture_output=True, text=True).stdout
     tried.check("its soname", re.findall(r"SONAME +(\S+)", dynamic), [shared.name])
     tried.check("what it needs", re.findall(r"NEEDED +(\S+)", dynamic), ["libc.so.6"])
     tried.check("no stack that may be run", re.findall(r"STACK .*\n.*flags (\S+)", dynamic), ["rw-"])
 
-    with zipfile.ZipFile(made / wheel) as archive:
+
+def wheel(bench, tried):
+    """What the wheel says of itself, and what its module shows and asks for."""
+    about = f"rolgunai-{bench.version}.dist-info"
+    with zipfile.ZipFile(bench.made / wheel_of(bench)) as archive:
         module = bench.work / "_native.abi3.so"
         module.write_bytes(archive.read("rolgunai/_native.abi3.so"))
-        metadata = archive.read(f"rolgunai-{version}.dist-info/METADATA").decode()
-        tags = archive.read(f"rolgunai-{version}.dist-info/WHEEL").decode()
+        metadata, tags = (archive.read(f"{about}/{name}").decode() for name in ("METADATA", "WHEEL"))
     tried.check("what the module shows", elf.exported(module), ["PyInit__native"])
     newest = tuple(map(int, elf.newest_glibc(module).split(".")))
     tried.check(f"it takes glibc up to 2.17: {newest}", newest <= (2, 17), True)
     tried.check("its tag", re.findall(r"^Tag: (.*)$", tags, re.MULTILINE), ["cp311-abi3-manylinux_2_17_x86_64"])
-    fields = {"Name": ["rolgunai"], "Version": [version], "License": ["MIT"], "Requires-Python": [">=3.11"]}
+    fields = {"Name": "rolgunai", "Version": bench.version, "License": "MIT", "Requires-Python": ">=3.11"}
     for field, value in fields.items():
-        tried.check(f"METADATA {field}", re.findall(rf"^{field}: (.*)$", metadata, re.MULTILINE), value)
+        tried.check(f"METADATA {field}", re.findall(rf"^{field}: (.*)$", metadata, re.MULTILINE), [value])
 
-    sbom = json.loads((made / f"rolgunai-{version}.spdx.json").read_text())
-    licensed = {it["name"]: it["licenseDeclared"] for it in sbom["packages"]}
-    tried.check("a license in the SBOM", licensed.get("serde_json"), "Apache-2.0 OR MIT")
-    known = {it["SPDXID"] for it in sbom["packages"]} | {"SPDXRef-DOCUMENT"}
-    ends = {it[end] for it in sbom["relationships"] for end in ("spdxElementId", "relatedSpdxElement")}
-    tried.check("what the SBOM relates", ends <= known, True)
-    texts = {name.partition("-")[0] for name in (path.name for path in (shared.parents[1] / "doc/licenses").iterdir())}
-    contained = {it["relatedSpdxElement"] for it in sbom["relationships"] if it["spdxElementId"] == "SPDXRef-librolgunai"}
-    stated = {it["name"] for it in sbom["packages"] if it["SPDXID"] in contained and it["licenseDeclared"] != "NOASSERTION"}
-    tried.check("a license's text for each", texts, stated)
-    left = [name for name in names_in(made / library) if name.endswith(".in")]
-    tried.check("no template is left", left, [])
+
+def sbom(bench, tried):
+    """What the SBOM lists, and that each license that it states goes along with the library."""
+    told = json.loads((bench.made / f"rolgunai-{bench.version}.spdx.json").read_text())
+    packages = {it["SPDXID"]: it for it in told["packages"]}
+    ends = {it[end] for it in told["relationships"] for end in ("spdxElementId", "relatedSpdxElement")}
+    tried.check("what the SBOM relates and doesn't list", ends - {*packages, "SPDXRef-DOCUMENT"}, set())
+    inside = {
+        packages[it["relatedSpdxElement"]]["name"]: packages[it["relatedSpdxElement"]]["licenseDeclared"]
+        for it in told["relationships"]
+        if it["spdxElementId"] == "SPDXRef-librolgunai"
+    }
+    tried.check("the license of serde_json", inside.get("serde_json"), "Apache-2.0 OR MIT")
+    texts = (unpacked(bench, library_of(bench)) / "doc/licenses").iterdir()
+    stated = {name for name, license_expression in inside.items() if license_expression != "NOASSERTION"}
+    tried.check("the texts of licenses", {path.name.partition("-")[0] for path in texts}, stated)
 
 
 # How ./play is called beside a release, its status, and what it says. {P} is the program.
