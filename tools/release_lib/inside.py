@@ -80,9 +80,10 @@ def package(name, version, license_expression, **more):
 
 
 def sbom(version, date, record, contents):
-    """The SBOM as a text: each thing that is released, and in it crates of the kit. `contents` has these by its name."""
+    """The SBOM as a text: each thing that is released, and in it crates of the kit, which `contents` has by its name."""
     kit = record["kit"].split()[0]
-    wholes = [package(name, version, "MIT", sourceInfo=f"commit {record['commit']}") for name in contents]
+    of = {"sourceInfo": f"commit {record['commit']}", "licenseConcluded": NOT_STATED}
+    wholes = [package(name, version, "MIT", **of) for name in contents]
     inner = {part.name: of_kit(part, kit) for parts in contents.values() for part in parts}
     relations = [("SPDXRef-DOCUMENT", "DESCRIBES", whole["SPDXID"]) for whole in wholes]
     relations += [

@@ -33,6 +33,7 @@ def proved(root, version, record):
     return f"""# What is proved of Rolgunai {version}
 
 Commit {record["commit"]} was proved by {record["kit"]}; the last line of its gate is '{record["gate"]}'.
+The files that are named below lie in the repository.
 
 ## In one sentence, and what is assumed
 

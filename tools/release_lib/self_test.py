@@ -1,4 +1,4 @@
-"""Parts of tools/release_test: when there is no release, that two are the same, what is in one, and how it is played."""
+"""Parts of tools/release_test: when there is no release, that two are the same, what one has, and how it is played."""
 import json
 import os
 import re
