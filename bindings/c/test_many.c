@@ -118,8 +118,10 @@ static void many_comms(void) {
 static uint8_t buffers[BUFFERS];
 static size_t sizes[BUFFERS];
 
-static int is_buffer(uint32_t status, uint8_t byte, size_t i) {
-  return status == ROLGUNAI_OK && size == 1 && byte == buffers[i];
+/* A part of the message that was last sent, or else of the last reply. */
+static uint32_t part_of(int are_sent, size_t part, uint8_t *byte) {
+  return are_sent ? rolgunai_sent_part(&handle, 0, part, byte, 1, &size)
+                  : rolgunai_reply_part(&handle, part, byte, 1, &size);
 }
 
 /* Each buffer of the message that was last sent or told to the kernel is there, and no more. */
@@ -127,17 +129,10 @@ static void check_buffers(int are_sent, const char *what) {
   uint8_t byte = 0;
   int are_there = 1;
   for (size_t i = 0; i < BUFFERS && are_there; i++) {
-    const size_t part = ROLGUNAI_PART_BUFFERS + i;
-    are_there = is_buffer(are_sent ? rolgunai_sent_part(&handle, 0, part, &byte, 1, &size)
-                                   : rolgunai_reply_part(&handle, part, &byte, 1, &size),
-                          byte, i);
+    are_there = part_of(are_sent, ROLGUNAI_PART_BUFFERS + i, &byte) == ROLGUNAI_OK && size == 1 && byte == buffers[i];
   }
   check(are_there, what);
-  const size_t after = ROLGUNAI_PART_BUFFERS + BUFFERS;
-  check((are_sent ? rolgunai_sent_part(&handle, 0, after, &byte, 1, &size)
-                  : rolgunai_reply_part(&handle, after, &byte, 1, &size))
-            == ROLGUNAI_NO_PART,
-        what);
+  check(part_of(are_sent, ROLGUNAI_PART_BUFFERS + BUFFERS, &byte) == ROLGUNAI_NO_PART, what);
 }
 
 static const char letters[] = "ABCDEFGHIJKLMNOPQRSTUVWXYZabcdefghijklmnopqrstuvwxyz0123456789+/";
