@@ -14,16 +14,17 @@ const TOUR: Scenario = Scenario {
 1 register w => replaced []
 1 launch 67e55044-10b1-426f-9247-bb680e5fe0c8 w {"value":1} => launched
 1 push 67e55044-10b1-426f-9247-bb680e5fe0c8 {"value":7} => delivered
+1 push 67e55044-10b1-426f-9247-bb680e5fe0c8 {} => delivered
 1 send 67e55044-10b1-426f-9247-bb680e5fe0c8 => delivered
-1 state 67e55044-10b1-426f-9247-bb680e5fe0c8 => state 5 {"buffer_paths":[],"buffers":[],"state":{"value":7}}
+1 state 67e55044-10b1-426f-9247-bb680e5fe0c8 => state 6 {"buffer_paths":[],"buffers":[],"state":{"value":7}}
 1 hang_up 67e55044-10b1-426f-9247-bb680e5fe0c8 => closed
 1 open a w - => refused wrong_version
 1 msg a => no_comm
 1 close a => no_comm
-1 infos => infos 9
+1 infos => infos 10
 1 unregister w => unregistered []
 1 ask close a => no_comm"#,
-    sums: "history 12\nuntaken 12\nends 2",
+    sums: "history 13\nuntaken 13\nends 2",
     ..Scenario::NOTHING
 };
 

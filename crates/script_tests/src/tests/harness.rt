@@ -14,7 +14,7 @@ use std::io::{Eprint, ErrorKind};
 use std::sync::atomic::{AtomicU64, Ordering};
 use std::sync::{Arc, Wait};
 use test_harness::{ManagerKind, TestFault, expect_text, holds};
-use test_support::{FailingReader, FailingWriter, WriteFault, refuse, was_refused};
+use test_support::{FailingReader, FailingWriter, WriteFault, refuse, refuse_above, was_refused};
 use widget_target::WidgetTarget;
 
 /// More than any answer here is long, but for the deepest and the longest.
@@ -51,6 +51,8 @@ pub struct ScriptRun<'a> {
     pub write_fault: WriteFault,
     /// The number of the allocation that is refused, if there is one.
     pub refused: u32,
+    /// The most bytes that an allocation may have, if there is such a bound.
+    pub largest: u32,
     /// Whether the stock is a target that counts how often it is ended, and not two of each kind.
     pub is_counted: bool,
 }
@@ -71,6 +73,7 @@ impl<'a> ScriptRun<'a> {
             write_fails: 0,
             write_fault: WriteFault::TakeNothing,
             refused: 0,
+            largest: 0,
             is_counted: false,
         }
     }
@@ -156,8 +159,10 @@ pub fn run_script(
     )?;
     let mut text = Vec::with_capacity(alloc, script.room)?;
     let _is_heard = script.refused > 0 && refuse(alloc, script.refused);
+    let _is_bounded = script.largest > 0 && refuse_above(alloc, script.largest);
     let result = play(rt, alloc, script, &mut reader, &mut writer, &ends);
-    let is_refused = script.refused > 0 && was_refused(alloc);
+    let asks = script.refused > 0 || script.largest > 0;
+    let is_refused = asks && was_refused(alloc);
     text.extend_from_slice(writer.taken())?;
     Ok(ScriptResult {
         result,

@@ -1,10 +1,13 @@
-//! Readers and writers that are called so often that a count of 16 bits couldn't tell it, and a path of 100,000 steps.
-use super::harness::{ScriptRun, expect_answers};
+//! Readers and writers that are called more than a million times, a path of 100,000 steps, and lines that need memory
+//! that the next ones use again.
+use super::MAX_COMMS;
+use super::harness::{ScriptRun, expect_answers, program_limits};
+use comm_core::Limits;
 use std::alloc::{AllocError, Global};
 use std::test::Fail;
 use test_harness::{BOTH_MANAGERS, holds};
 
-const MANY: usize = 70_000;
+const MANY: usize = 1_100_000;
 
 const BEFORE: &[u8] = br#"{"call":"register","kind":"echo","name":"t"}
 {"header":{"msg_type":"comm_open"},"content":{"comm_id":"a","target_name":"t","data":{}}}
@@ -22,7 +25,7 @@ const ANSWERS_BEHIND: &[u8] = br#""}},"header":{"msg_type":"comm_msg"},"metadata
 "#;
 
 /// What is said to a line behind them that isn't JSON.
-const NOT_JSON: &[u8] = b"bad 70001 not_json\n";
+const NOT_JSON: &[u8] = b"bad 1100001 not_json\n";
 
 // The part `count` times between these.
 fn repeat_between(
@@ -104,6 +107,73 @@ fn a_long_path_changes_nothing(rt: HostRuntime) -> Result<(), Fail> {
             let script = ScriptRun::over(over, &bytes);
             expect_answers(&rt, alloc, "a long path", &script, Ok(()), PATH_ANSWERS)?;
         }
+    }
+    Ok(())
+}
+
+const LINES: usize = 100_000;
+
+/// A command that is read as a tree. Its answer is always the same.
+const TREE: &[u8] =
+    br#"{"call":"state","id":"a","more":[[[1,[]],{"k":[2,{}],"l":"x"}],{"m":[[[3]]]}]}
+"#;
+
+const NO_COMM: &[u8] = b"state 0 no_comm\n";
+
+/// More than any allocation of such a script has.
+const LARGEST: u32 = 256 * 1024;
+
+/// The memory of a line's tree is used again by the next line: no allocation grows with the number of lines.
+#[test]
+fn spared_lines_with_trees(rt: HostRuntime) -> Result<(), Fail> {
+    let alloc = rt.alloc();
+    let bytes = repeat_between(alloc, b"", TREE, LINES, b"")?;
+    let answers = repeat_between(alloc, b"", NO_COMM, LINES, b"")?;
+    for over in BOTH_MANAGERS {
+        let script = ScriptRun {
+            largest: LARGEST,
+            room: answers.len(),
+            ..ScriptRun::over(over, &bytes)
+        };
+        let came = expect_answers(&rt, alloc, "lines with trees", &script, Ok(()), &answers)?;
+        holds(!came.is_refused, "a large block is asked for")?;
+    }
+    Ok(())
+}
+
+const CHANGES: usize = 1_600_000;
+
+const CHANGE: &[u8] = br#"{"call":"hang_up","id":"a"}
+"#;
+
+// What is said to so many changes.
+fn replies(alloc: Global, count: usize) -> Result<Vec<u8>, AllocError> {
+    let mut all = Vec::new(alloc);
+    for index in 0..count {
+        let number = index + 1;
+        let line = format!(in alloc; "reply {number} no_comm\n")?;
+        all.extend_from_slice(line.as_bytes())?;
+    }
+    Ok(all)
+}
+
+/// More changes than the program's history takes: each is answered.
+#[test]
+fn many_changes_are_answered(rt: HostRuntime) -> Result<(), Fail> {
+    let alloc = rt.alloc();
+    let bytes = repeat_between(alloc, b"", CHANGE, CHANGES, b"")?;
+    let answers = replies(alloc, CHANGES)?;
+    for over in BOTH_MANAGERS {
+        let script = ScriptRun {
+            limits: Limits {
+                history: 2_000_000,
+                ..program_limits(MAX_COMMS)
+            },
+            write: answers.len(),
+            room: answers.len(),
+            ..ScriptRun::over(over, &bytes)
+        };
+        expect_answers(&rt, alloc, "many changes", &script, Ok(()), &answers)?;
     }
     Ok(())
 }
