@@ -1,5 +1,5 @@
 //! The side of the queue that puts.
-ghost use Rattle.std.specs.Prelude.{◌≡◌, ◌++◌, ◌∷◌, [], ◌+◌, ◌-◌, ◌<◌, ◌^◌, ◌≤◌, length, max, true, vec_capacity};
+ghost use Rattle.std.specs.Prelude.{◌≡◌, ◌↔◌, ◌++◌, ◌∷◌, [], ◌+◌, ◌-◌, ◌<◌, ◌^◌, ◌≤◌, length, max, true, vec_capacity};
 ghost use mathlib.Core.List.{IsPrefix};
 ghost use Rattle.std.specs.Arc.{arc_value};
 ghost use Rattle.crossbeam_queue.specs.Passes.{view, IsPassOf, IsSamePass, ruled_capacity};
@@ -17,6 +17,13 @@ use std::thread;
 
 // How many entries a queue serves, with as many more as it has places: its words don't wrap.
 const MAX_PUTS: u64 = (1 << 62) - 65_537;
+
+// Whether the queue serves no more, since more were put than it serves.
+fn is_worn_out(puts: u64) -> bool
+    ensures { result ≡ true ↔ 2 ^ 62 - 65537 < puts }
+{
+    puts > MAX_PUTS
+}
 
 /// The side that puts entries. Contracts see which queue it is of, the limits by which entries are legal, how many
 /// places there are, how many of them were found free and not filled since (the room), and what was put.
@@ -122,7 +129,7 @@ impl Outbox {
         ensures legal { IsLegal self.old.clients self.old.comms self.old.puts }
     {
         let places = self.queue.capacity() as u64;
-        if self.count > MAX_PUTS {
+        if is_worn_out(self.count) {
             return places;
         }
         let waiting = self.queue.len_as::<CountWaiting, R>(rt, &mut self.pass) as u64;
