@@ -22,10 +22,11 @@ public:
     comm_.open({{"version", "2.1.0"}}, {{"state", {{"value", value}}}, {"buffer_paths", nl::json::array()}}, {});
   }
   void set(double value) {
-    comm_.send({}, {{"method", "update"}, {"state", {{"value", value}}}, {"buffer_paths", nl::json::array()}}, {});
+    const nl::json none = nl::json::array();
+    comm_.send(nl::json::object(), {{"method", "update"}, {"state", {{"value", value}}}, {"buffer_paths", none}}, {});
     value_ = value; // not where the manager refuses it
   }
-  void close() { comm_.close({}, nl::json::object(), {}); }
+  void close() { comm_.close(nl::json::object(), nl::json::object(), {}); }
   double value() const { return value_; }
   std::string id() const { return comm_.id().c_str(); }
 
@@ -42,7 +43,7 @@ class words : public cell_interpreter {
       ended_.reset(); // before the new one is kept, which may have its id
       const auto kept = std::make_shared<xeus::xcomm>(std::move(opened));
       kept->on_message([comm = kept.get()](xeus::xmessage message) {
-        comm->send({}, {{"twice", 2 * message.content()["data"].value("n", 0.0)}}, {});
+        comm->send(nl::json::object(), {{"twice", 2 * message.content()["data"].value("n", 0.0)}}, {});
       });
       kept->on_close([this, id = kept->id()](xeus::xmessage) { ended_ = std::move(doublers_[id]); });
       doublers_[kept->id()] = kept;
@@ -54,7 +55,7 @@ class words : public cell_interpreter {
     cell >> word >> std::ws;
     std::getline(cell, rest);
     if (word == "gauge") gauge_ = std::make_unique<gauge>(comm_manager(), std::stod(rest)), print(gauge_->id());
-    else if (word == "note") made(comm_manager(), "notes").open({}, {{"text", rest}}, {});
+    else if (word == "note") made(comm_manager(), "notes").open(nl::json::object(), {{"text", rest}}, {});
     else if (word == "drop") gauge_.reset();
     else if (!gauge_) throw std::runtime_error("there is no gauge");
     else if (word == "set") gauge_->set(std::stod(rest));

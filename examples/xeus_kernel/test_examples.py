@@ -9,7 +9,7 @@ import pathlib
 import sys
 import traceback
 
-from xeus_frontend import XeusFrontend, cell, check, counted, loads, update
+from xeus_frontend import XeusFrontend, cell, check, counted, loads
 
 EXAMPLES = pathlib.Path(__file__).resolve().parent.parent
 FOR_KERNEL = {"opened": "comm_open", "delivered": "comm_msg", "custom": "comm_msg", "closed": "comm_close"}
@@ -111,7 +111,7 @@ class Play:
             made = ["make", opened["comm_id"], opened["target_name"]]
             self.says(number, head, out, made, ["open", opened["comm_id"], "", out[0]["metadata"], opened["data"]])
         elif call == "push" and "not_widget" not in head:
-            data = update(line.get("buffer_paths", []), **line.get("state", {}))
+            data = {"method": "update", "state": line.get("state", {}), "buffer_paths": line.get("buffer_paths", [])}
             buffers = numbers(frames(line.get("buffers", [])))
             self.says(number, head, out, ["send", line["id"], "", {}, data, buffers])
         elif call == "send" and "bad" not in head:

@@ -8,6 +8,7 @@ import traceback
 from xeus_frontend import XeusFrontend, cell, check, counted, said, update
 
 PROTOCOL = {"version": "2.1.0"}
+WIDGET = {"target_name": "jupyter.widget"}
 
 
 def execute(front, *commands):
@@ -34,7 +35,7 @@ def beside_a_cell(front):
     asked_again = on_control(front, "w", method="request_state")
     comms = front.reply(info, "control")["comms"]
     came, ended = front.gather(running, asked, moved, asked_again, info)
-    check("comm_info on control", comms, {"w": {"target_name": "jupyter.widget"}})
+    check("comm_info on control", comms, {"w": WIDGET})
     check("what ends before the cell", set(ended[:2]), {asked, info})
     check("what ends after it", ended[2:], [running, moved, asked_again])
     check("the state before", said(came[asked]), [("comm_msg", update(value=1))])
@@ -71,24 +72,26 @@ def stock_runs_both(front):
 def answered_beside_a_storm(front, seconds):
     """A cell opens, uses and ends comms, while control asks what the manager answers alone."""
     widget(front)
-    running, posted = execute(front, ["storm", 20, seconds]), []
-    end = time.monotonic() + seconds
+    running = execute(front, ["storm", 20, seconds, 0.001], ["print", "done"])
+    rounds, wrong, end = 0, [], time.monotonic() + 0.8 * seconds
     while time.monotonic() < end:
         info = front.post("comm_info_request", {}, "control")
-        posted += [info, on_control(front, "w", method="request_state")]
+        asked = on_control(front, "w", method="request_state")
         comms = front.reply(info, "control")["comms"]
-        check("comm_info has the widget", comms.get("w"), {"target_name": "jupyter.widget"})
-    came, ended = front.gather(running, *posted)
-    check("all end, the cell last or nearly", (len(ended), running in ended[-4:]), (1 + len(posted), True))
-    states = [said(came[each]) for each in posted[1::2]]
-    check("each state", [each for each in states if each != [("comm_msg", update(value=1))]], [])
-    print(f"{len(posted)} requests on control answered beside a cell's storm")
+        came, ended = front.gather(info, asked, seconds=10)
+        if (comms.get("w"), said(came[asked]), len(ended)) != (WIDGET, [("comm_msg", update(value=1))], 2):
+            wrong.append((comms, came, ended))
+        rounds += 1
+    check("each is answered", wrong[:2], [])
+    came, ended = front.gather(running)
+    check("before the cell ends", (said(came[running])[-1:] != [], ended), (True, [running]))
+    print(f"{2 * rounds} requests on control were answered beside a cell's storm")
 
 
 def left_to_the_shell(front, seconds):
     """The same storm, while control opens, sends and closes: that waits, and nothing of it is lost."""
     widget(front)
-    running, posted = execute(front, ["storm", 20, seconds]), []
+    running, posted = execute(front, ["storm", 20, seconds, 0.005]), []
     end, number = time.monotonic() + seconds, 0
     while time.monotonic() < end:
         comm_id = f"c{number % 7}"
@@ -96,7 +99,7 @@ def left_to_the_shell(front, seconds):
         posted += [on_control(front, comm_id, n=number), on_control(front, "w", **update(value=number))]
         posted.append(front.post("comm_close", {"comm_id": comm_id, "data": {}}, "control"))
         number += 1
-        time.sleep(0.005)
+        time.sleep(0.02)
     came, ended = front.gather(running, *posted)
     check("all end, in their order", ended, [running, *posted])
     echoes = [said(came[each]) for each in posted[1::4]]
@@ -107,7 +110,7 @@ def left_to_the_shell(front, seconds):
     check("what the storm left is open", [each for each in left if not each.startswith("storm")], ["w"])
     front.run(cell(["reset"]))
     check("it ends with the kernel's", front.info(), {})
-    print(f"{len(posted)} messages on control taken after a cell's storm")
+    print(f"{len(posted)} messages on control were taken after a cell's storm")
 
 
 def main(kernels, seconds):
