@@ -104,6 +104,8 @@ class Play:
         call = line["call"]
         if call == "register" and "registered" in head:
             self.front.run(cell(["register", line["name"], line["kind"]]))
+        elif head.startswith("bad"):
+            self.skip("the kernel's calls that can't be read")
         elif call == "state":
             self.state(number, line["id"], head)
         elif call == "launch" and "launched" in head:
@@ -114,7 +116,7 @@ class Play:
             data = {"method": "update", "state": line.get("state", {}), "buffer_paths": line.get("buffer_paths", [])}
             buffers = numbers(frames(line.get("buffers", [])))
             self.says(number, head, out, ["send", line["id"], "", {}, data, buffers])
-        elif call == "send" and "bad" not in head:
+        elif call == "send":
             buffers = numbers(frames(line.get("buffers", [])))
             self.says(number, head, out, ["send", line["id"], "", {}, line["data"], buffers])
         elif call == "hang_up":
