@@ -13,6 +13,13 @@ def newest_glibc(path):
     return ".".join(map(str, max((int(major), int(minor)) for major, minor in found)))
 
 
+def newer_instructions(path):
+    """The instructions in a file, of those that vectors and JSON are written with, that the first x86-64 hadn't."""
+    code = subprocess.run(["objdump", "-d", "--no-show-raw-insn", path], check=True, capture_output=True, text=True)
+    newer = r"\t(pshufb|palignr|p?test[zc]?ps|ptest|pinsr[bdq]|pextr[bdq]|popcnt|pcmpgtq|crc32\w?|blendv?p[sd]|v[a-z]\w+)\s"
+    return sorted(set(re.findall(newer, code.stdout)) - {"verr", "verw"})
+
+
 def exported(path):
     """The names that a file shows, in their order."""
     rows = (line.split() for line in dynamic_symbols(path).splitlines())

@@ -2,7 +2,7 @@
 else. The record, crates/comm_c/out/bindings/GATE, has a line 'KEY: VALUE' each for the commit, a sum of its files, the
 kit, the gate's last line, and a sum of each file that was built.
 
-For ./check: `gate.py sources` says what is about to be proved, and `gate.py passed SOURCES LINE` writes the record where
+For ./check: `gate.py sources` says what it is about to prove, `gate.py passed SOURCES LINE` writes the record where
 that is what lies there still."""
 import hashlib
 import re

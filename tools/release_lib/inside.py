@@ -80,7 +80,7 @@ def package(name, version, license_expression, **more):
 
 
 def sbom(version, date, record, contents):
-    """The SBOM as a text: each thing that is released, and in it crates of the kit, which `contents` has by its name."""
+    """The SBOM as a text: each thing that is released, and in it crates of the kit, by its name in `contents`."""
     kit = record["kit"].split()[0]
     of = {"sourceInfo": f"commit {record['commit']}", "licenseConcluded": NOT_STATED}
     wholes = [package(name, version, "MIT", **of) for name in contents]

@@ -242,6 +242,7 @@ def shared_library(bench, tried):
     shared = unpacked(bench, library_of(bench)) / "lib" / f"librolgunai.so.{bench.version.partition('.')[0]}"
     tried.check("what librolgunai.so shows", elf.exported(shared), calls)
     dynamic = subprocess.run(["objdump", "-p", shared], capture_output=True, text=True).stdout
+    tried.check("instructions that an older processor hasn't", elf.newer_instructions(shared), [])
     tried.check("its soname", re.findall(r"SONAME +(\S+)", dynamic), [shared.name])
     tried.check("what it needs", re.findall(r"NEEDED +(\S+)", dynamic), ["libc.so.6"])
     tried.check("no stack that may be run", re.findall(r"STACK .*\n.*flags (\S+)", dynamic), ["rw-"])

@@ -17,8 +17,8 @@ PLAIN = "import ipywidgets\nslider = ipywidgets.IntSlider(3)"
 
 
 def ran(client, code):
-    """What a cell prints and publishes: the text of its streams, and the comm messages."""
-    texts, comms = [], []
+    """What a cell prints, and the ids of the comms that it opens."""
+    texts, opened = [], []
 
     def hear(message):
         kind, content = message["msg_type"], message["content"]
@@ -26,21 +26,23 @@ def ran(client, code):
             texts.append(content["text"])
         elif kind == "error":
             texts.append("\n".join(content["traceback"]))
-        elif kind.startswith("comm_"):
-            comms.append(content)
+        elif kind == "comm_open":
+            opened.append(content["comm_id"])
 
     client.execute_interactive(code, output_hook=hear, timeout=60)
-    return "".join(texts), comms
+    return "".join(texts), opened
 
 
 def moved(kernel, lines):
     """Runs the lines, moves the slider that they make as a frontend does, and says what the kernel sees of it."""
     manager, client = start_new_kernel(kernel_name=kernel, startup_timeout=60)
     try:
-        said, comms = ran(client, lines)
-        slider = next(it for it in comms if it.get("data", {}).get("state", {}).get("_model_name") == "IntSliderModel")
+        said, opened = ran(client, lines)
+        slider = ran(client, "print(slider.comm.comm_id)")[0].strip()
+        if slider not in opened:
+            return f"{said}no comm_open of the slider {slider}, but of {opened}"
         data = {"method": "update", "state": {"value": 8}, "buffer_paths": []}
-        client.shell_channel.send(client.session.msg("comm_msg", {"comm_id": slider["comm_id"], "data": data}))
+        client.shell_channel.send(client.session.msg("comm_msg", {"comm_id": slider, "data": data}))
         return said + ran(client, SHOWN)[0]
     finally:
         client.stop_channels()

@@ -126,13 +126,13 @@ def are_of_the_gate(root, names):
     return all((it / f"{name}.rlib/format").exists() and not (it / "stamp").exists() for it, name in outs)
 
 
-def build_archive(crate):
-    """Proves a static library over the libraries below it as they stand, and builds its archive, as `rt lib` does over
-    those with a stamp. Returns the status."""
+def build_archive(crate, flags):
+    """Proves a static library over the libraries below it as they stand, and builds its archive, as `rt lib` with these
+    flags does over those with a stamp. Returns the status."""
     rt = loaded()
     rt.rtlib.guarded()
     rt.share_work(True)
-    return crate.build_static(["--jobs", str(min(4, rt.processors()))])
+    return crate.build_static(["--jobs", str(min(4, rt.processors())), *flags])
 
 
 @contextlib.contextmanager
