@@ -12,7 +12,12 @@ WIDGET = {"target_name": "jupyter.widget"}
 
 
 def execute(front, *commands):
-    return front.post("execute_request", {"code": cell(*commands), "silent": False, "stop_on_error": False})
+    """Begins a cell."""
+    posted = front.post("execute_request", {"code": cell(*commands), "silent": False, "stop_on_error": False})
+    while front.client.get_iopub_msg(timeout=60)["parent_header"].get("msg_id") != posted:
+        pass
+    time.sleep(0.1)  # the kernel has said that it is busy, and is about to run it
+    return posted
 
 
 def on_control(front, comm_id, **data):
@@ -52,7 +57,7 @@ def without_a_cell(front):
     front.gather(opened)
     slow = on_control(front, "e", run=cell(["sleep", 0.5], ["print", "slow"]))
     time.sleep(0.2)
-    running = execute(front, ["heard"])
+    running = front.post("execute_request", {"code": cell(["heard"]), "silent": False, "stop_on_error": False})
     came, ended = front.gather(slow, running)
     check("the cell waits", ended, [slow, running])
     check("what the callback prints", [got.content.get("text") for got in came[slow]], ["slow"])
