@@ -1,10 +1,12 @@
--- The program: what it plays within, what it has in stock, and what its arguments ask for.
-use Rattle.std.specs.Prelude.{ℕ, List, [], ◌∷◌, Option, Some, None, if◌then◌else◌, codes}
+-- The program: what it plays within, what it has in stock, what its arguments ask for, and its exit status.
+use Rattle.std.specs.Prelude.{ℕ, List, [], ◌∷◌, Option, Some, None, Result, ⊤, if◌then◌else◌, codes}
 use Rattle.std.specs.Str.{bytes_eq}
 use Rattle.comm_targets.specs.declared.kind.Kind.{Kind}
 use Rattle.comm_targets.specs.declared.kind.Kind.TheVariants.{Echo, Counter, Widget, WidgetEcho}
 use Rattle.comm_core.specs.declared.limits.Limits.{Limits}
 use Rattle.comm_core.specs.Machine.{Registered}
+use Rattle.comm_script.specs.Status.{status_of}
+use Rattle.comm_script.specs.declared.fault.RunFault.{RunFault}
 use Rattle.comm_driver.specs.declared.Over.{Over}
 use Rattle.comm_driver.specs.declared.Over.TheVariants.{OneThread, Shared}
 
@@ -27,3 +29,8 @@ abbrev pub over_of : List (List ℕ) → Option Over
 over_of [] = Some OneThread
 over_of (word ∷ []) = if bytes_eq word (codes "shared") then Some Shared else None
 over_of words = None
+
+-- the exit status, by how the script ended; 3 where no manager was asked for
+abbrev pub program_status : Option (Result ⊤ RunFault) → ℕ
+program_status None = 3
+program_status (Some end) = status_of end

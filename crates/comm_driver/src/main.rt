@@ -1,11 +1,11 @@
 // Plays a script of comm messages and commands, over a manager of one thread or over one that threads share.
 #![tactic(auto)]
 
-ghost use Rattle.std.specs.Prelude.{◌≡◌, ◌≢◌, OnOk, IfErr, IfSome, map, string_bytes};
+ghost use Rattle.std.specs.Prelude.{◌≡◌, ◌≢◌, None, Some, OnOk, IfErr, IfSome, IsSome, drop, map, string_bytes};
 ghost use Rattle.std.specs.Vec.Iter.{into_iter_items};
 ghost use Rattle.std.specs.Io.KnownBytes.{Appends};
 ghost use Rattle.comm_script.specs.Played.{played};
-ghost use Rattle.comm_driver.specs.Program.{over_of, program_limits, program_stock};
+ghost use Rattle.comm_driver.specs.Program.{over_of, program_limits, program_status, program_stock};
 
 use comm_core::Limits;
 use comm_script::{RunFault, exit_status, push_target, run_with};
@@ -74,11 +74,12 @@ fn play<R: Read, W: Write, H: Wait>(
     }
 }
 
-/// Which manager the arguments after the program's name ask for: none for that of one thread, the one word `shared`
-/// for the shared one.
+/// Which manager the program's name and the arguments after it ask for: no argument for that of one thread, the one word
+/// `shared` for the shared one.
 fn over_of(mut words: Args) -> Option<Over>
-    ensures { result ≡ over_of (map string_bytes (into_iter_items words)) }
+    ensures { result ≡ over_of (drop 1 (map string_bytes (into_iter_items words))) }
 {
+    let _name = words.next();
     let Some(word) = words.next() else {
         return Some(Over::OneThread);
     };
@@ -91,22 +92,49 @@ fn over_of(mut words: Args) -> Option<Over>
 
 /// Which manager the program is asked for; None where its arguments can't be read, or ask for none.
 fn asked(rt: &HostRuntime) -> Option<Over> {
-    let mut words = env::args(rt).ok()?;
-    let _name = words.next();
-    over_of(words)
+    over_of(env::args(rt).ok()?)
+}
+
+/// Plays a script over the manager that is asked for. None: none is, and nothing is read or written.
+fn run<R: Read, W: Write, H: Wait>(
+    rt: &H,
+    alloc: Global,
+    asked: Option<Over>,
+    reader: &mut R,
+    writer: &mut W,
+) -> Option<Result<(), RunFault>>
+    ensures none { asked ≡ None → (result ≡ None)
+        × (reader.new ≡ reader.old) × (writer.new ≡ writer.old) }
+    ensures some { IsSome asked → IsSome result }
+    ensures one_thread { asked ≡ Some Over.OneThread → IfSome result (λ end.
+        OnOk end (IfSome (R.remaining reader.old) (λ input.
+        Appends (W.contents writer.old) (W.contents writer.new)
+        (played Numbers.Whole program_limits program_stock input)))) }
+{
+    match asked {
+        Some(over) => Some(play(rt, alloc, over, reader, writer)),
+        None => None,
+    }
+}
+
+/// The exit status by how the script ended; 3 where no manager was asked for.
+fn program_status(end: Option<Result<(), RunFault>>) -> u8
+    ensures { result ≡ program_status end }
+{
+    match end {
+        Some(end) => exit_status(end),
+        None => 3,
+    }
 }
 
 /// Plays standard input to standard output; the exit status is 3 for any argument but the one word `shared`.
 fn main(rt: HostRuntime) -> ExitCode {
-    let Some(over) = asked(&rt) else {
-        return ExitCode::from(3);
-    };
-    let end = play(
+    let end = run(
         &rt,
         rt.alloc(),
-        over,
+        asked(&rt),
         &mut rt.reader(),
         &mut io::writer(&rt),
     );
-    ExitCode::from(exit_status(end))
+    ExitCode::from(program_status(end))
 }
