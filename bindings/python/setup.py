@@ -36,7 +36,10 @@ class BuildWithLibrary(build_ext):
 
 NATIVE = Extension(
     "rolgunai._native",
-    sources=[HEAP or "native/heap.c", *(f"native/{name}.c" for name in ("arguments", "outcome", "manager", "module"))],
+    sources=[
+        HEAP or "native/heap.c",
+        *(f"native/{name}.c" for name in ("arguments", "json", "outcome", "manager", "turns", "module")),
+    ],
     depends=["native/native.h", f"{HEADERS}/rolgunai.h"],
     include_dirs=["native", HEADERS],
     extra_objects=[str(ARCHIVE)],

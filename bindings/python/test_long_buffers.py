@@ -51,20 +51,20 @@ class Pictures(Kernel):
         return dict(zip((key for key, *_ in content["data"]["buffer_paths"]), buffers))
 
     def kept(self):
-        return len(self.manager._long)
+        return len(self.manager._calls.long)
 
 
 def long_buffers():
     kernel = Pictures()
     check("long bytes are sent as they are", kernel.says(PICTURE)[0][0] is PICTURE, True)
     check("and had as they are", kernel.has()["b"] is PICTURE, True)
-    long = kernel.manager._long
+    long = kernel.manager._calls.long
     frames, kept = long.handed_in([memoryview(PICTURE), memoryview(PICTURE)[: 2**16]])
     shown, part = long.given_out(frames)
     check("a view of bytes is no copy", shown.obj is PICTURE, True)
     check("a small part of them is one", part == PICTURE[: 2**16] and type(part), bytes)
     long.refused(kept)
-    (token,) = kernel.manager._long._buffers
+    (token,) = kernel.manager._calls.long._buffers
     for like in (token, b"%023d" % (int(token) + 3), bytes(23)):
         check("what looks like a token", kernel.says(like, PICTURE, paths="cb"), [[PICTURE, like]])
         check("is what it is", kernel.has(), {"b": PICTURE, "c": like})
@@ -129,13 +129,12 @@ def long_buffers_are_let_go_of():
         lambda kernel: kernel.hear("comm_close", kernel.comm_id, {}),
         lambda kernel: kernel.widget.comm.close(),
         lambda kernel: kernel.manager.unregister_comm(kernel.widget.comm),
-        lambda kernel: kernel.manager.targets.setdefault(WIDGET) or kernel.manager.unregister_target(WIDGET, None),
     )
     for n, end in enumerate(ends):
         kernel = Pictures()
         kernel.says(PICTURE, OTHER, paths="bc")
         end(kernel)
-        check(f"end {n}", (kernel.info(), kernel.kept(), kernel.manager._long.tokens), ({}, 0, {}))
+        check(f"end {n}", (kernel.info(), kernel.kept(), kernel.manager._calls.long.tokens), ({}, 0, {}))
 
 
 def orders():
@@ -156,9 +155,9 @@ def orders():
 def interrupted():
     """An interrupt right after the manager took an update: its buffer is there."""
     kernel = Pictures()
-    taken, kernel.manager._long.taken = kernel.manager._long.taken, lambda *parts: 1 // 0
+    taken, kernel.manager._calls.long.taken = kernel.manager._calls.long.taken, lambda *parts: 1 // 0
     check("interrupted", type(raised(lambda: kernel.says(PICTURE))), ZeroDivisionError)
-    kernel.manager._long.taken = taken
+    kernel.manager._calls.long.taken = taken
     check("the manager has it", kernel.has()["b"], PICTURE)
 
 

@@ -9,6 +9,7 @@ import sys
 from comms_kernel import UUID, WIDGET, Kernel, said  # first, since it says where the package is
 from checks import check, raised, run
 from rolgunai import _widgets
+from rolgunai._wire import packer
 from rolgunai.comms import Comm
 
 
@@ -20,11 +21,12 @@ class Holds:
         self.comm = made or Comm(WIDGET, {"state": {key: v for key, v in state.items() if not isinstance(v, bytes)}})
         self.comm.on_msg(self.hear)
 
-    def get_state(self, key):
-        return {key: self.state[key]}
+    def get_state(self, key=None):
+        return dict(self.state) if key is None else {key: self.state[key]}
 
     def hear(self, message):
-        self.rule(self, message)
+        if message["content"]["data"].get("method") != "request_state":  # which the manager answers here
+            self.rule(self, message)
 
 
 def takes(widget, message):
@@ -75,7 +77,7 @@ WORDS = (
 
 def last_words():
     for name, held, rule, value, wanted in WORDS:
-        kernel = Kernel(default=list)
+        kernel = Kernel(pack=packer(list))
         widget = Holds(rule, v=held, other=1)
         kernel.came()
         update = {"method": "update", "state": {"v": value}, "buffer_paths": []}

@@ -28,14 +28,23 @@ static int fill(module_state *state, PyObject *types) {
   state->outcome = PyObject_GetAttrString(types, "Outcome");
   state->sent = PyObject_GetAttrString(types, "Sent");
   state->error = PyObject_GetAttrString(types, "error_of");
+  state->not_finite = PyObject_GetAttrString(types, "NotFiniteError");
   state->replies = members(types, "Reply");
   state->reasons = members(types, "Reason");
   state->empty = PyBytes_FromStringAndSize("{}", 2);
   state->nothing = PyTuple_New(0);
-  return state->outcome && state->sent && state->error && state->replies && state->reasons && state->empty
-                 && state->nothing
+  return state->outcome && state->sent && state->error && state->not_finite && state->replies && state->reasons
+                 && state->empty && state->nothing
              ? 0
              : -1;
+}
+
+static int add_type(PyObject *module, PyType_Spec *of, const char *name) {
+  PyObject *type = PyType_FromModuleAndSpec(module, of, NULL);
+  if (!type) return -1;
+  int status = PyModule_AddObjectRef(module, name, type);
+  Py_DECREF(type);
+  return status;
 }
 
 static int make_module(PyObject *module) {
@@ -43,11 +52,8 @@ static int make_module(PyObject *module) {
   int status = types ? fill(PyModule_GetState(module), types) : -1;
   Py_XDECREF(types);
   if (status < 0) return -1;
-  PyObject *type = PyType_FromModuleAndSpec(module, &manager_type, NULL);
-  if (!type) return -1;
-  status = PyModule_AddObjectRef(module, "Manager", type);
-  Py_DECREF(type);
-  return status;
+  status = add_type(module, &manager_type, "Manager");
+  return status < 0 ? status : add_type(module, &turns_type, "Turns");
 }
 
 static int traverse_module(PyObject *module, visitproc visit, void *arg) {
@@ -55,6 +61,7 @@ static int traverse_module(PyObject *module, visitproc visit, void *arg) {
   Py_VISIT(state->outcome);
   Py_VISIT(state->sent);
   Py_VISIT(state->error);
+  Py_VISIT(state->not_finite);
   Py_VISIT(state->replies);
   Py_VISIT(state->reasons);
   return 0;
@@ -65,12 +72,20 @@ static void free_module(void *module) {
   Py_CLEAR(state->outcome);
   Py_CLEAR(state->sent);
   Py_CLEAR(state->error);
+  Py_CLEAR(state->not_finite);
   Py_CLEAR(state->replies);
   Py_CLEAR(state->reasons);
   Py_CLEAR(state->empty);
   Py_CLEAR(state->nothing);
   for (size_t i = 0; i < TYPES; i++) Py_CLEAR(state->types[i]);
 }
+
+static PyMethodDef functions[] = {
+    {"write", (PyCFunction)(void (*)(void))call_write, METH_FASTCALL,
+     "write($module, value, default=None, /)\n--\n\n"
+     "Writes JSON, the text of json.dumps(value, separators=(',', ':'), allow_nan=False, default=default) in bytes."},
+    {NULL, NULL, 0, NULL},
+};
 
 static PyModuleDef_Slot slots[] = {{Py_mod_exec, make_module}, {0, NULL}};
 
@@ -79,6 +94,7 @@ static PyModuleDef definition = {
     .m_name = "rolgunai._native",
     .m_doc = "Rolgunai's library for C, for rolgunai/__init__.py.",
     .m_size = sizeof(module_state),
+    .m_methods = functions,
     .m_slots = slots,
     .m_traverse = traverse_module,
     .m_free = free_module,

@@ -28,6 +28,7 @@ typedef struct {
   PyObject *outcome, *sent;     /* classes */
   PyObject *replies, *reasons;  /* tuples: the members of Reply and Reason by their numbers */
   PyObject *error;              /* makes the exception of a status */
+  PyObject *not_finite;         /* the exception for a number that JSON hasn't */
   PyObject *types[TYPES];       /* "comm_open" and the like */
   PyObject *empty, *nothing;    /* b"{}" and () */
 } module_state;
@@ -101,10 +102,16 @@ void gathered_end(gathered *of);
 uint32_t gather_text(manager *self, uint32_t status, size_t size, PyObject **into);
 int give_room(manager *self, size_t size);
 
+/* json.c: write(value, default=None), which the module has. */
+PyObject *call_write(PyObject *module, PyObject *const *arguments, Py_ssize_t count);
+
 /* manager.c: the exception of a status, and NULL. */
 PyObject *raised(const module_state *state, uint32_t status);
 void lock_manager(manager *self);
 extern PyType_Spec manager_type;
+
+/* turns.c */
+extern PyType_Spec turns_type;
 
 /* module.c: the state of the module that a type is of, or NULL with an exception. */
 PyObject *module_of(PyTypeObject *type);

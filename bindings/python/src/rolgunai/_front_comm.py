@@ -1,23 +1,23 @@
-"""The front for the package `comm`, from which nearly every Python kernel takes its comms."""
+"""The front for the package `comm` alone, from which kernels that aren't ipykernel's take their comms."""
 
 from __future__ import annotations
 
-import uuid
+import logging
 from collections.abc import Callable
 from typing import Any
 
+import comm
 from comm import base_comm
-from traitlets.config import LoggingConfigurable
 
-from rolgunai._player import Send
-from rolgunai.hub import Hub, HubComm
+from rolgunai._calls import Pack
+from rolgunai._kernel import Send
+from rolgunai.hub import Hub
 
 
-class Comm(HubComm, base_comm.BaseComm):
-    """What `comm.create_comm` makes: `comm`'s own comm, which says by the hub what it says. One that is handed no id
-    gets a UUID in its hyphened form."""
+class Comm(base_comm.BaseComm):
+    """What `comm.create_comm` makes: `comm`'s own comm, which says by its manager what it says."""
 
-    kernel: Any = None  # the one that `install` was for: ipywidgets 7 says nothing on a comm without one
+    manager: Hub | None = None  # that it is registered with
 
     def __init__(
         self,
@@ -31,24 +31,30 @@ class Comm(HubComm, base_comm.BaseComm):
         topic: bytes | None = None,
         **kwargs: Any,
     ) -> None:
-        for word in ("kernel", "parent", "show_warning"):  # what ipykernel.comm.Comm is handed
-            kwargs.pop(word, None)
-        comm_id = comm_id or str(uuid.uuid4())
-        topic = topic or f"comm-{comm_id}".encode()
+        if comm_id and not topic:  # `comm` makes none of an id that isn't ASCII
+            topic = f"comm-{comm_id}".encode()
         super().__init__(target_name, data, metadata, buffers, comm_id, primary, target_module, topic, **kwargs)
 
+    def publish_msg(
+        self, msg_type: str, data: Any = None, metadata: Any = None, buffers: Any = None, **keys: Any
+    ) -> None:
+        """Has the manager play it, which sends what comes of it."""
+        manager = self.manager or comm.get_comm_manager()
+        if isinstance(manager, Hub):
+            manager.publish(self, msg_type, data, metadata, buffers, **keys)
 
-class CommManager(Hub, base_comm.CommManager, LoggingConfigurable):
-    """What `comm.get_comm_manager` gives; one of traitlets' configurables, as ipykernel wants it."""
+
+class CommManager(Hub, base_comm.CommManager):
+    """What `comm.get_comm_manager` gives."""
 
     def __init__(
-        self,
-        send: Send,
-        request: Callable[[], Any],
-        *,
-        default: Callable[[Any], Any] | None = None,
-        is_old_browser: bool = True,
-        **kwargs: Any,
+        self, send: Send, request: Callable[[], Any], *, pack: Pack | None = None, is_old_browser: bool = True
     ) -> None:
-        LoggingConfigurable.__init__(self, **kwargs)
-        Hub.__init__(self, send, request, Comm, default=default, is_old_browser=is_old_browser)
+        log = logging.getLogger("Comm")
+        Hub.__init__(self, send, request, Comm, pack=pack, is_old_browser=is_old_browser, comm_log=log)
+
+    def register_comm(self, comm: Any) -> str:
+        """Takes a comm in, which goes by this manager from then on; Hub.register_comm says more."""
+        if isinstance(comm, Comm):
+            comm.manager = self
+        return super().register_comm(comm)

@@ -1,42 +1,28 @@
-"""The front for ipykernel before 6.18, which has comms of its own."""
+"""The front for ipykernel: its own classes stay, and what they say goes by the manager of their kernel.
+
+Until 6.17 ipykernel has comms of its own; since 6.18 they are those of the package `comm`.
+"""
 
 from __future__ import annotations
 
-import uuid
+import functools
+import importlib
+import logging
 from collections.abc import Callable
 from typing import Any
 
 from ipykernel.comm import comm as stock
 from ipykernel.comm import manager as stock_manager
-from traitlets import default
 
-from rolgunai._player import Send
-from rolgunai.hub import Hub, HubComm
+from rolgunai._calls import Pack
+from rolgunai._kernel import Send
+from rolgunai.hub import Hub
 
-
-class Comm(HubComm, stock.Comm):
-    """What the kernel's code has as `ipykernel.comm.Comm`. One that is handed no id gets a UUID in its hyphened form."""
-
-    _publish_msg = HubComm.publish_msg
-
-    def handle_msg(self, msg: Any) -> None:
-        """Calls the callback, as ever; ipykernel's own also makes a record of the message, which nobody is shown."""
-        callback = self._msg_callback
-        if callback:
-            shell = self.kernel.shell
-            if shell:
-                shell.events.trigger("pre_execute")
-            callback(msg)
-            if shell:
-                shell.events.trigger("post_execute")
-
-    @default("comm_id")
-    def _default_comm_id(self) -> str:
-        return str(uuid.uuid4())
-
-    @default("topic")
-    def _default_topic(self) -> bytes:
-        return f"comm-{self.comm_id}".encode()
+IS_OF_COMM = hasattr(stock, "BaseComm")
+Comm = stock.BaseComm if IS_OF_COMM else stock.Comm
+PUBLISH = "publish_msg" if IS_OF_COMM else "_publish_msg"
+_stock_publish = getattr(Comm, PUBLISH)
+_MANAGER = "_rolgunai_manager"  # of a comm: what it was registered with
 
 
 class CommManager(Hub, stock_manager.CommManager):
@@ -47,15 +33,61 @@ class CommManager(Hub, stock_manager.CommManager):
         send: Send,
         request: Callable[[], Any],
         *,
-        default: Callable[[Any], Any] | None = None,
+        pack: Pack | None = None,
         is_old_browser: bool = True,
         **kwargs: Any,
     ) -> None:
         stock_manager.CommManager.__init__(self, **kwargs)
-        Hub.__init__(self, send, request, Comm, default=default, is_old_browser=is_old_browser)
+        log = logging.getLogger("Comm") if IS_OF_COMM else self.log
+        Hub.__init__(self, send, request, self._made, pack=pack, is_old_browser=is_old_browser, comm_log=log)
+
+    def _made(self, comm_id: str, **keys: Any) -> Any:
+        """A comm that a frontend opens."""
+        keys.update({"show_warning": False} if IS_OF_COMM else {"kernel": self.kernel})
+        return stock.Comm(comm_id=comm_id, topic=f"comm-{comm_id}".encode(), **keys)
 
     def register_comm(self, comm: Any) -> str:
-        """Takes a comm in, for the kernel that the manager is of."""
-        if self.kernel is not None:
+        """Takes a comm in, for the kernel that the manager is of; Hub.register_comm says more."""
+        if not IS_OF_COMM or (isinstance(comm, Comm) and comm.kernel is None):
             comm.kernel = self.kernel
+        other = self._other_of(comm)
+        if other is not None:
+            return other.register_comm(comm)
+        if isinstance(comm, Comm) and comm.kernel is self.kernel:
+            comm.__dict__[_MANAGER] = self
         return super().register_comm(comm)
+
+    def unregister_comm(self, comm: Any) -> None:
+        """Forgets a comm; Hub.unregister_comm says more."""
+        other = self._other_of(comm)
+        if other is not None:
+            other.unregister_comm(comm)
+        else:
+            super().unregister_comm(comm)
+
+    def _other_of(self, comm: Any) -> CommManager | None:
+        """The manager of the comm's kernel, where that is a second one of this process: `comm` knows but one."""
+        other = getattr(getattr(comm, "kernel", None), "comm_manager", None)
+        is_its_own = isinstance(other, CommManager) and other is not self and other.kernel is comm.kernel
+        return other if is_its_own else None
+
+
+def _manager_of(comm: Any) -> Any:
+    """The manager that a comm goes by which was registered with none, or None where it is ipykernel's own."""
+    kernel = comm.kernel
+    managers = [getattr(kernel, "comm_manager", None)]
+    if IS_OF_COMM:
+        managers.append(importlib.import_module("comm").get_comm_manager())
+    found = (each for each in managers if isinstance(each, CommManager) and kernel in (None, each.kernel))
+    return next(found, None)
+
+
+@functools.wraps(_stock_publish)
+def publish(comm: Any, msg_type: str, data: Any = None, metadata: Any = None, buffers: Any = None, **keys: Any) -> None:
+    """In the place of ipykernel's own: has the manager of the comm's kernel play it. Where that is another's, as of a
+    second kernel in the process, it is ipykernel's own."""
+    manager = comm.__dict__.get(_MANAGER) or _manager_of(comm)
+    if manager is not None:
+        manager.publish(comm, msg_type, data, metadata, buffers, **keys)
+    else:
+        _stock_publish(comm, msg_type, data, metadata, buffers, **keys)

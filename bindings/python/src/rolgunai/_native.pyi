@@ -1,14 +1,17 @@
-from collections.abc import Iterable
+from collections.abc import Callable, Iterable
 from types import TracebackType
-from typing import SupportsIndex
+from typing import Any, SupportsIndex, TypeVar
 
 from _typeshed import ReadableBuffer
 from typing_extensions import Self
 
 from rolgunai._types import Kind, Outcome
 
+_Result = TypeVar("_Result")
 _Text = str | ReadableBuffer
 _Buffers = Iterable[ReadableBuffer] | None
+
+def write(value: Any, default: Callable[[Any], Any] | None = None, /) -> bytes: ...
 
 class Manager:
     """A comm manager; help(Manager) says more."""
@@ -43,3 +46,13 @@ class Manager:
     def __exit__(
         self, kind: type[BaseException] | None, error: BaseException | None, trace: TracebackType | None
     ) -> None: ...
+
+class Turns:
+    """One call at a time; help(Turns) says more."""
+
+    def __init__(self, on_error: Callable[[Exception], object]) -> None: ...
+    def call(self, f: Callable[..., _Result], /, *arguments: object) -> _Result: ...
+    def call_in_turn(self, f: Callable[..., _Result], /, *arguments: object) -> _Result | None: ...
+    def call_soon(self, f: Callable[..., object], /, *arguments: object) -> None: ...
+    def call_unlocked(self, f: Callable[..., object], /, *arguments: object) -> object: ...
+    def is_amid(self) -> bool: ...

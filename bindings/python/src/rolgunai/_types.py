@@ -165,6 +165,10 @@ class OutcomeMemoryError(CommError, MemoryError):
     gives that. Made again it would be another call."""
 
 
+class NotFiniteError(ValueError):
+    """Python's data have a nan or an infinity, which are no numbers of JSON."""
+
+
 _ERRORS: dict[Status, type[CommError]] = {
     Status.CLOSED: ClosedError,
     Status.MEMORY: OutOfMemoryError,

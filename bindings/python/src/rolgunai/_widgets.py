@@ -98,7 +98,7 @@ def same(one: Any, other: Any) -> bool:
     if isinstance(one, bool) or isinstance(other, bool):
         return one is other
     if isinstance(one, _NUMBERS) and isinstance(other, _NUMBERS):
-        return one == other
+        return one == other or (one != one and other != other)  # nan
     if one is None or other is None:
         return one is other
     if isinstance(one, str) and isinstance(other, str):
@@ -117,18 +117,22 @@ def _flat(buffer: Any) -> bytes:
     return buffer if isinstance(buffer, bytes) else memoryview(buffer).tobytes()
 
 
-def differences(widget: Any, keys: Iterable[str], held: Data, plain: Callable[[Any], Any]) -> Data:
-    """What the widget holds of these keys, where it differs from what the manager has of them. `plain` makes of a value
-    what a frontend would read."""
-    known = widget.keys
-    differ = {}
-    for key in keys:
-        if key not in known or (key in held and _is_plainly(widget, key, held[key])):
-            continue
-        value = widget.get_state(key)[key]  # a list of keys ends in an error in Debian's ipywidgets 6
-        if key not in held or not (same(held[key], value) or _is_read_as(held[key], value, plain)):
-            differ[key] = value
-    return differ
+def differences(widget: Any, keys: Iterable[str] | None, held: Data, plain: Callable[[Any], Any]) -> Data:
+    """What the widget holds of these keys, or of all, where it differs from what the manager has of them. `plain` makes
+    of a value what a frontend would read."""
+    if keys is None:
+        holds = widget.get_state()
+    else:
+        known = widget.keys
+        asked = [key for key in keys if key in known and not (key in held and _is_plainly(widget, key, held[key]))]
+        holds = {
+            key: widget.get_state(key)[key] for key in asked
+        }  # of several keys at once, Debian's ipywidgets 6 fails
+    return {key: value for key, value in holds.items() if not (key in held and _is_told(held[key], value, plain))}
+
+
+def _is_told(held: Any, value: Any, plain: Callable[[Any], Any]) -> bool:
+    return same(held, value) or _is_read_as(held, value, plain)
 
 
 def _is_plainly(widget: Any, key: str, held: Any) -> bool:

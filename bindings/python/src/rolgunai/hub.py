@@ -4,8 +4,9 @@ Which comms are open, whom a message goes to, what state a widget has and what g
 alone. A `Hub` keeps what that can't have: the callbacks of targets and comms. It knows neither ipykernel nor `comm`,
 and is handed how to send; `rolgunai.comms` has what makes it a kernel's comm manager.
 
-    >>> from rolgunai.hub import Hub, HubComm
-    >>> class Comm(HubComm):
+    >>> from rolgunai.hub import Hub
+    >>> class Comm:
+    ...     _closed = False
     ...     def __init__(self, comm_id, target_name, **_):
     ...         self.comm_id, self.target_name = comm_id, target_name
     ...     def on_msg(self, callback):
@@ -17,62 +18,75 @@ and is handed how to send; `rolgunai.comms` has what makes it a kernel's comm ma
 A frontend opens a comm of a target of the user's, and says something; the kernel answers:
 
     >>> def opened(comm, message):
-    ...     comm.on_msg(lambda message: comm.publish_msg("comm_msg", {"twice": 2 * message["content"]["data"]}))
+    ...     comm.on_msg(lambda message: hub.publish(comm, "comm_msg", {"twice": 2 * message["content"]["data"]}))
     >>> hub.register_target("doubler", opened)
-    >>> def message(kind, **content):
-    ...     return {"header": {"msg_type": kind}, "metadata": {}, "content": content, "buffers": []}
-    >>> hub.comm_open(None, None, message("comm_open", comm_id="a", target_name="doubler", data={}))
-    >>> hub.comm_msg(None, None, message("comm_msg", comm_id="a", data=0.5))
+    >>> def message(**content):
+    ...     return {"metadata": {}, "content": content, "buffers": []}
+    >>> hub.comm_open(None, None, message(comm_id="a", target_name="doubler", data={}))
+    >>> hub.comm_msg(None, None, message(comm_id="a", data=0.5))
     comm_msg {"comm_id":"a","data":{"twice":1.0}}
 
-Ids. A widget that the kernel opens goes by `launch` where its id is a UUID in its hyphened form, which is the one that
-`launch` gives back. Any other id, as the hexadecimal one without hyphens that `comm` makes, would come back hyphened:
-such a widget is opened in the manager by a message, as a frontend's is, which takes any id as it is, and the hub sends
-the `comm_open`. So are comms towards targets that are no widgets, since the manager opens only widgets for the kernel.
+A comm that the kernel opens is opened in the manager by its `comm_open`, as a frontend's is, so that any id and any
+target are as the kernel has them.
 
-Threads. A call and the sending of what comes of it are under one lock. A close never waits for it: where another call
-is under way it is played right after that one, so that `__del__` may close a comm at any moment and on any thread.
+Threads. A call and the sending of what comes of it are under one lock, which no callback runs under. A close never
+waits for it: where another call is under way it comes right after that one, so that `__del__` may close a comm at any
+moment and on any thread. A frontend's message that comes amid a call of its own thread, as of a frontend in the same
+process that answers at once, is handled when that call is through.
 """
 
 from __future__ import annotations
 
-import functools
-import json
+import contextlib
+import logging
 import os
 import pkgutil
-import re
+import weakref
 from collections.abc import Callable
 from typing import Any
 
-from rolgunai import Outcome, Reply, _widgets, old_widgets
+from rolgunai import Outcome, Reason, Reply, _widgets, old_widgets
+from rolgunai._calls import DONE, Calls, Pack
+from rolgunai._kernel import WIDGET, Comm, CommRefused, Message, Send, State
 from rolgunai._last_word import LastWord
-from rolgunai._long_buffers import Kept
-from rolgunai._player import DONE, NOTHING, OPAQUE, WIDGET, CommRefused, HubComm, Message, Send
-from rolgunai._wire import read
+from rolgunai._native import Turns
+from rolgunai._page_loads import PageLoads, asks_for_states
+from rolgunai._publisher import VERSION, Publisher
+from rolgunai._wire import packer
 
-__all__ = ["CommRefused", "Hub", "HubComm"]
+__all__ = ["CommRefused", "Hub"]
 
-_LAUNCHED_AS_IT_IS = re.compile(r"[0-9a-f]{8}-[0-9a-f]{4}-[0-9a-f]{4}-[0-9a-f]{4}-[0-9a-f]{12}").fullmatch
-_VERSION = b'{"version":"2.1.0"}'
-_LAUNCHED = frozenset({"state", "buffer_paths"})
+# What is raised for a message of a frontend that isn't JSON, as one in the same process may have.
+_NOT_PLAYABLE = (TypeError, ValueError, RecursionError)
 
 
-def _object(content: Any) -> Any:
+def _object(content: Any) -> dict[str, Any]:
     """The content of a message; one that isn't an object counts as empty, and is refused."""
     return content if isinstance(content, dict) else {}
 
 
-class Hub(LastWord):
+def _placed(data: dict[str, Any], buffers: Any) -> State:
+    """The state that the data of an open or an update have. The manager takes nothing of data without one."""
+    state = data.get("state")
+    return {} if state is None else _widgets.placed(state, data.get("buffer_paths") or (), buffers)
+
+
+class Hub:
     """A comm manager; the module says more.
 
     `send(msg_type, comm_id, content, metadata, buffers, parent)` sends to all frontends: the content is JSON, the
     metadata a dict. `request()` is the message that the kernel's code runs for, `make(comm_id=, target_name=,
-    primary=)` makes a comm that a frontend opens, and `default` makes JSON of what isn't. `is_old_browser` says whether
-    the browser side of widgets that speak version 1 of the protocol in Python speaks that too.
+    primary=)` makes a comm that a frontend opens, and `pack` writes JSON. `is_old_browser` says whether the browser
+    side of widgets that speak version 1 of the protocol in Python speaks that too. `comm_log` is where it is told what
+    ipykernel and `comm` tell: errors in callbacks, and messages to no comm; `log` has what the manager refuses.
+
+    `publish(comm, msg_type, data, metadata, buffers, **keys)` is what the kernel's code says on a comm: help() of it
+    says more.
     """
 
-    comms: Any
-    targets: Any
+    comms: dict[str, Any]
+    targets: dict[str, Any]
+    log: Any
 
     def __init__(
         self,
@@ -80,318 +94,270 @@ class Hub(LastWord):
         request: Callable[[], Any],
         make: Callable[..., Any],
         *,
-        default: Callable[[Any], Any] | None = None,
+        pack: Pack | None = None,
         is_old_browser: bool = True,
+        comm_log: logging.Logger | None = None,
     ) -> None:
-        super().__init__(send, default, is_old_browser)
+        if not hasattr(self, "log"):
+            self.log = logging.getLogger("rolgunai")
         self.comms, self.targets = {}, {}
-        self._request, self._make = request, make
+        self._request, self._make, self._pack = request, make, pack or packer()
+        self._comm_log = comm_log or self.log
+        self._turns, self._pid = Turns(self._failed_later), os.getpid()
+        self._calls = Calls(send, self._pack, lambda: self.targets, is_old_browser)
+        self._last_word = LastWord(self._calls, self._turns, self._pack, request, self.log)
+        self._page_loads = PageLoads(self._calls, self._turns, self._last_word, self._pack)
+        # What the kernel's code says on a comm: each of its messages comes this way, which is a short one.
+        self.publish = Publisher(self.comms, self._calls, self._turns, self._pack, request, self.log).publish
+        self._closed_by_frontends: weakref.WeakSet[Any] = weakref.WeakSet()
+
+    def _failed_later(self, error: Exception) -> None:
+        self.log.warning("A call that came amid another one failed", exc_info=error)
 
     # Targets and comms, as the kernel's code has them.
 
     def register_target(self, target_name: str, f: Any) -> None:
-        """Has f(comm, message) called when a frontend opens a comm of the target. One that is registered again has
-        another callback from then on, and its comms stay."""
-        if isinstance(f, str):
-            f = pkgutil.resolve_name(f)
-        self._kind(target_name)
-        self.targets[target_name] = f
+        """Has f(comm, message) called when a frontend opens a comm of the target; f may be the path of a function. One
+        that is registered again has another callback from then on, and its comms stay."""
+        self.targets[target_name] = pkgutil.resolve_name(f) if isinstance(f, str) else f
 
     def unregister_target(self, target_name: str, f: Any) -> Any:
-        """Takes the target out, and closes its comms, which ipykernel leaves open."""
+        """Takes the target out, and gives its callback. Its comms stay open. KeyError for one that isn't there."""
         found = self.targets.pop(target_name)
-        self._play(self._unregister, target_name, self._request())
+        if not self._is_forked():
+            self._turns.call_soon(self._calls.forget_target, target_name)
         return found
 
-    def _unregister(self, target_name: str, parent: Any) -> None:
-        outcome = self._outcome(self.proved.unregister, target_name)
-        self._kinds.pop(target_name, None)
-        for comm_id in json.loads(outcome.content or b"[]"):
-            self._forget(comm_id)
-            comm = self.comms.pop(comm_id, None)
-            if comm is not None:
-                comm._closed = True
-        self._out(outcome, parent)
-
     def register_comm(self, comm: Any) -> str:
-        """Takes a comm in. One of another class publishes through the manager from then on."""
+        """Takes a comm in, and gives its id. Another comm of that id gives way to it. Raises CommRefused where it is
+        open and the manager doesn't take it."""
         comm_id: str = comm.comm_id
-        if self.comms.setdefault(comm_id, comm) is not comm:
-            raise CommRefused("comm_open: id_in_use")
-        if isinstance(comm, HubComm):
-            comm._hub = self
+        if self._is_forked():
+            self.comms[comm_id] = comm
         else:
-            comm.publish_msg = comm._publish_msg = functools.partial(self.publish, comm_id, comm.target_name)
+            self._turns.call(self._register, comm)
         return comm_id
 
-    def unregister_comm(self, comm: Any) -> None:
-        """Forgets a comm. One that is open yet is forgotten by the manager too, and nothing is sent."""
-        if self.comms.get(comm.comm_id) is not comm:
-            raise KeyError(comm.comm_id)
-        del self.comms[comm.comm_id]
-        if not comm._closed:
-            comm._closed = True  # its id may be another's from now on
-            self._play(self._drop, comm.comm_id)
+    def _is_forked(self) -> bool:
+        """Whether this is a child of the kernel's process. It has no frontends, and a thread that it doesn't have may
+        have held a lock when it was forked."""
+        return os.getpid() != self._pid
 
-    def _drop(self, comm_id: str) -> None:
-        self._outcome(self._message, "comm_close", NOTHING, {"comm_id": comm_id}, ())
-        self._forget(comm_id)
+    def _register(self, comm: Comm) -> None:
+        other = self.comms.get(comm.comm_id)
+        self.comms[comm.comm_id] = comm
+        if other is not None and other is not comm:
+            other._closed = True
+            self._calls.drop(comm.comm_id)
+        self._open_by_hand(comm)
+
+    def _open_by_hand(self, comm: Comm) -> None:
+        """Has the manager know a comm that is open and that it doesn't know, as one that was registered by hand."""
+        if comm.comm_id not in self._calls.open_comms and not getattr(comm, "_closed", False):
+            opened = {"comm_id": comm.comm_id, "target_name": comm.target_name, "data": {"state": {}}}
+            self._calls.open(comm.comm_id, comm.target_name, self._pack(opened), ())
+
+    def unregister_comm(self, comm: Any) -> None:
+        """Forgets a comm, and never waits. One that is open yet is forgotten by the manager too, and nothing is sent.
+        KeyError for one that isn't there, but for one that a frontend has closed meanwhile."""
+        if self.comms.get(comm.comm_id) is comm:
+            del self.comms[comm.comm_id]
+            if not comm._closed and not self._is_forked():
+                self._turns.call_soon(self._drop, comm.comm_id)
+        elif comm not in self._closed_by_frontends:
+            raise KeyError(comm.comm_id)
+
+    def _drop(self, comm_id: Any) -> None:
+        if isinstance(comm_id, str) and comm_id not in self.comms:
+            self._calls.drop(comm_id)
 
     def get_comm(self, comm_id: str) -> Any:
-        """The open comm of an id, or None, which is logged."""
+        """The comm of an id, or None, which is logged."""
         comm = self.comms.get(comm_id)
         if comm is None:
-            self.log.warning("No such comm: %s", comm_id)
+            self._comm_log.warning("No such comm: %s", comm_id)
         return comm
 
     # What frontends send.
 
     def comm_open(self, stream: Any, ident: Any, msg: Message) -> None:
         """Plays an open, and calls the target's callback where it is one."""
-        content = played = _object(msg["content"])
-        heard, held, buffers = msg, None, msg.get("buffers") or ()
-        target_name, data = content.get("target_name"), content.get("data")
-        is_old = target_name == WIDGET and old_widgets.is_old_ask(data)
-        if is_old:
-            played, held = {**content, "data": {"state": {}}}, {}
-            heard = {**msg, "metadata": {"version": "2.1.0"}}
-        elif target_name != WIDGET:  # an opaque target, or none
-            played, buffers = {"comm_id": content.get("comm_id"), "target_name": target_name}, ()
-        outcome = self._heard(heard, played, buffers)
-        if outcome is None or outcome.reply != Reply.OPENED:
-            return
-        comm = self._make(comm_id=content["comm_id"], target_name=target_name, primary=False)
-        self.register_comm(comm)
-        if is_old:
-            self._old.add(comm.comm_id)
-        elif target_name == WIDGET:
-            held = _widgets.placed(data["state"] or {}, data.get("buffer_paths") or (), buffers)
-        f = self.targets.get(target_name)
-        if held is not None:
-            self._watch(comm.comm_id, held)
-        try:
-            if not self._is_taken(comm, msg, f):
-                self._give_up(comm)
-            elif held is not None:
-                self._last_word(comm, held, None)
-        finally:
-            if held is not None:
-                self._unwatch(comm.comm_id, held)
+        self._turns.call_unlocked(self._comm_open, msg)
 
     def comm_msg(self, stream: Any, ident: Any, msg: Message) -> None:
-        """Plays a message, and calls the comm's callback, but for a `request_state`, which the manager answers."""
-        content = _object(msg["content"])
-        comm_id = content.get("comm_id")
-        comm = self.comms.get(comm_id) if isinstance(comm_id, str) else None
-        if comm is not None and self._kinds.get(comm.target_name) is OPAQUE:
-            played: Any = {"comm_id": comm.comm_id}
-            if self._heard(msg, played, ()) is not None:
-                self._deliver(comm, msg)
-        elif comm is not None and isinstance(content.get("data"), dict):
-            self._widget_msg(comm, msg)
-        else:
-            self._heard(msg, content, msg.get("buffers"))
+        """Plays a message, and calls the comm's callback."""
+        self._turns.call_unlocked(self._comm_msg, msg)
 
     def comm_close(self, stream: Any, ident: Any, msg: Message) -> None:
         """Plays a close, and calls the comm's callback for it."""
-        if self._heard(msg, msg["content"], ()) is None:
-            return
-        comm_id = msg["content"]["comm_id"]
-        comm = self.comms.pop(comm_id, None)
-        if comm is not None:
-            comm._closed = True
-            try:
-                comm.handle_close(msg)
-            except Exception:
-                self.log.error("Exception in comm_close for %s", comm_id, exc_info=True)
+        self._turns.call_unlocked(self._comm_close, msg)
 
     def comm_info(self, msg: Message) -> bytes:
         """The content of the reply to a `comm_info_request`, as JSON."""
-        with self._lock:
-            outcome = self._outcome(self._message, "comm_info_request", NOTHING, msg["content"], ())
-        self._agree("comm_info_request", outcome)
-        return outcome.sent[0].content
+        return self._turns.call(self._info, self._pack(_object(msg.get("content"))))
 
-    # What the kernel's code says on a comm.
+    def _info(self, request: bytes) -> bytes:
+        for comm in tuple(self.comms.values()):
+            self._open_by_hand(comm)
+        return self._calls.info(request)
 
-    def publish(
-        self,
-        comm_id: str,
-        target_name: str,
-        /,
-        msg_type: str,
-        data: Any = None,
-        metadata: Any = None,
-        buffers: Any = None,
-        **keys: Any,
-    ) -> None:
-        """Plays what the kernel says on a comm, and sends it; not in a forked child, which has no frontends. Metadata,
-        and the data of a close, are the caller's: the manager says nothing of them. Raises CommRefused where the
-        manager refuses, ValueError or TypeError for what isn't JSON."""
-        if os.getpid() != self._pid:
+    def _comm_open(self, msg: Message) -> None:
+        content = played = _object(msg.get("content"))
+        heard, buffers = msg, msg.get("buffers") or ()
+        target_name, data = content.get("target_name"), content.get("data")
+        is_old = target_name == WIDGET and old_widgets.is_old_ask(data)
+        if is_old:
+            played, heard = {**content, "data": {"state": {}}}, {**msg, "metadata": VERSION}
+        elif target_name != WIDGET:  # an opaque target, or none
+            played, buffers = {"comm_id": content.get("comm_id"), "target_name": target_name}, ()
+        if self._heard("comm_open", heard, played, buffers) is None:
             return
-        data = {} if data is None else data
-        frame = (dict(metadata or {}), list(buffers or ()), self._request())
-        if msg_type == "comm_close":
-            self._soon(self._close, comm_id, self._content(comm_id, data, keys), *frame)
-        elif msg_type == "comm_open":
-            self._play(self._open, comm_id, target_name, data, keys, *frame, late=self._open_late)
-        else:
-            self._play(self._say, comm_id, target_name, msg_type, data, keys, *frame)
-
-    def _content(self, comm_id: str, data: Any, keys: dict[str, Any], text: str | None = None) -> bytes:
-        """The content of a message; `text` is the data's, where it has been written."""
-        if text is None:
-            return self._dumps({"comm_id": comm_id, "data": data, **keys}).encode()
-        return f'{self._dumps({"comm_id": comm_id, **keys})[:-1]},"data":{text}}}'.encode()
-
-    def _open(self, comm_id: str, name: str, data: Any, keys: Any, metadata: Any, buffers: Any, parent: Any) -> None:
-        if name == WIDGET:
-            self._open_widget(comm_id, data, keys, metadata, buffers, parent)
+        comm = self._comm_of(content)
+        if comm is None:  # it was closed meanwhile
             return
-        content = self._content(comm_id, data, keys)
-        self._kind(name)
-        opened = {"comm_id": comm_id, "target_name": name}
-        self._agree("comm_open", self._outcome(self._message, "comm_open", NOTHING, opened, ()))
+        if target_name != WIDGET:
+            self._accept(comm, msg)
+            return
+        if is_old:
+            self._calls.old.add(comm.comm_id)
+        state = {} if is_old else _placed(content["data"], buffers)
+        with self._last_word.watched(comm.comm_id, state) as watch:
+            if self._accept(comm, msg):
+                self._last_word.say(comm, watch)
+
+    def _accept(self, comm: Comm, msg: Message) -> bool:
+        """Calls the target's callback for a comm; gives whether it took it. Else the comm is closed."""
+        f = self.targets.get(comm.target_name)
         try:
-            self._send("comm_open", comm_id, content, metadata, buffers, parent)
-        except BaseException:
-            self._drop(comm_id)  # no frontend has heard of it
-            raise
-
-    def _open_late(self, comm_id: str, *parts: Any) -> None:
-        """An open that came amid another call. Where it is refused, its maker can't be told any more: the comm is
-        closed."""
-        try:
-            self._open(comm_id, *parts)
-        except BaseException:
-            comm = self.comms.pop(comm_id, None)
-            if comm is not None:
-                comm._closed = True
-            raise
-
-    def _open_widget(self, comm_id: str, data: Any, keys: Any, metadata: Any, buffers: Any, parent: Any) -> None:
-        is_old = old_widgets.is_old_open(data)
-        played = old_widgets.from_kernel("comm_open", data) if is_old else data
-        is_told_old = is_old and self._is_old_browser
-        launches = isinstance(played, dict) and _LAUNCHED.issuperset(played) and "state" in played
-        launches = launches and _LAUNCHED_AS_IT_IS(comm_id) is not None
-        state = self._dumps(played.get("state")) if launches else None
-        is_said_by_manager = launches and not is_told_old and keys.get("target_module") is None
-        if not is_said_by_manager:
-            content = self._content(comm_id, data if is_told_old else played, keys, state if is_told_old else None)
-        frames, kept = self._long.handed_in(buffers) if buffers else ((), [])
-        self._kind(WIDGET)
-        if launches:
-            paths = played.get("buffer_paths")
-            where = self._dumps(paths) if paths else "[]"
-            outcome = self._with_frames(kept, self.proved.launch, WIDGET, comm_id, state, where, frames)
-        else:
-            opened = {"comm_id": comm_id, "target_name": WIDGET, "data": played}
-            outcome = self._with_frames(kept, self._message, "comm_open", _VERSION, opened, frames)
-        self._agree_on("comm_open", outcome, kept)
-        try:
-            if kept:
-                self._long.taken(comm_id, {}, self._plain(played.get("buffer_paths") or []), kept)
-            if is_old:
-                self._old.add(comm_id)
-            if is_said_by_manager:
-                self._out(outcome, parent, metadata)
-            else:
-                self._send("comm_open", comm_id, content, {"version": "2.1.0", **metadata}, buffers, parent)
-        except BaseException:
-            self._drop(comm_id)
-            raise
-
-    def _agree_on(self, kind: str, outcome: Outcome, kept: Kept) -> None:
-        if kept and outcome.reply not in DONE:
-            self._long.refused(kept)
-        self._agree(kind, outcome)
-
-    def _say(
-        self, comm_id: str, name: str, kind: str, data: Any, keys: Any, metadata: Any, buffers: Any, parent: Any
-    ) -> None:
-        if comm_id in self._old and isinstance(data, dict):
-            data = old_widgets.from_kernel(kind, data)
-        method = data.get("method") if name == WIDGET and isinstance(data, dict) else None
-        if method == "update":
-            self._push(comm_id, data.get("state"), data.get("buffer_paths"), buffers, parent, metadata)
-        else:
-            content = self._content(comm_id, data, keys)
-            outcome = self._outcome(self.proved.send, comm_id, NOTHING)
-            self._agree(kind, outcome)
-            self._send(kind, comm_id, content, metadata, buffers, parent)
-
-    def _push(
-        self, comm_id: str, state: Any, paths: Any, buffers: Any, parent: Any, metadata: dict[str, Any] | None = None
-    ) -> None:
-        text, where = self._dumps({} if state is None else state), self._dumps(paths) if paths else "[]"
-        frames, kept = self._long.handed_in(buffers) if buffers else ((), [])
-        outcome = self._with_frames(kept, self.proved.push, comm_id, text, where, frames)
-        self._agree_on("comm_msg", outcome, kept)
-        placed = read(where) if paths else []
-        if kept or comm_id in self._long.tokens:
-            self._long.taken(comm_id, read(text), placed, kept)
-        if self._held:
-            self._now_holds(comm_id, text, placed, buffers)
-        self._out(outcome, parent, metadata)
-
-    def _close(self, comm_id: str, content: bytes, metadata: Any, buffers: Any, parent: Any) -> None:
-        outcome = self._outcome(self.proved.close, comm_id)
-        self._forget(comm_id)
-        for sent in outcome.sent:
-            self._send(sent.msg_type, comm_id, content, metadata, buffers, parent)
-
-    # Callbacks, and what a widget holds after them.
-
-    def _deliver(self, comm: Any, msg: Message) -> None:
-        try:
-            comm.handle_msg(msg)
+            if f is not None:
+                f(comm, msg)
+                return True
+            self._comm_log.error("No such comm target registered: %s", comm.target_name)
         except Exception:
-            self.log.error("Exception in comm_msg for %s", comm.comm_id, exc_info=True)
-
-    def _is_taken(self, comm: Any, msg: Message, f: Any) -> bool:
-        if f is None:
-            self.log.error("No such comm target registered: %s", comm.target_name)
-            return False
-        try:
-            f(comm, msg)
-        except Exception:
-            self.log.error("Exception opening comm with target: %s", comm.target_name, exc_info=True)
-            return False
-        return True
-
-    def _give_up(self, comm: Any) -> None:
+            self._comm_log.error("Exception opening comm with target: %s", comm.target_name, exc_info=True)
         try:
             comm.close()
         except Exception:
-            self.log.error("Could not close comm during `comm_open` failure clean-up", exc_info=True)
+            self._comm_log.error("Could not close comm during `comm_open` failure clean-up", exc_info=True)
+        return False
 
-    def _widget_msg(self, comm: Any, msg: Message) -> None:
-        content, comm_id = msg["content"], msg["content"]["comm_id"]
-        data = said = old_widgets.from_frontend(content["data"])
+    def _comm_msg(self, msg: Message) -> None:
+        content = _object(msg.get("content"))
+        comm, data = self._comm_of(content), content.get("data")
+        if comm is None:
+            self._heard("comm_msg", msg, content, msg.get("buffers"))
+        elif comm.target_name == WIDGET:
+            if isinstance(data, dict):
+                self._widget_msg(comm, msg, content, data)
+            else:
+                self._heard("comm_msg", msg, content, msg.get("buffers"))
+        elif self._heard("comm_msg", msg, {"comm_id": comm.comm_id}, ()) is not None:
+            if asks_for_states(comm, data):
+                self._page_loads.answer(comm, tuple(self.comms.values()), msg)
+            else:
+                self._deliver(comm, msg)
+
+    def _comm_close(self, msg: Message) -> None:
+        content = _object(msg.get("content"))
+        comm = self._comm_of(content)
+        is_closed = self._heard("comm_close", msg, {"comm_id": content.get("comm_id")}, ()) is not None
+        if is_closed and comm is not None:
+            try:
+                comm.handle_close(msg)
+            except Exception:
+                self._comm_log.error("Exception in comm_close for %s", comm.comm_id, exc_info=True)
+
+    def _comm_of(self, content: dict[str, Any]) -> Any:
+        """The comm that a message is about, or None."""
+        comm_id = content.get("comm_id")
+        return self.comms.get(comm_id) if isinstance(comm_id, str) else None
+
+    def _heard(self, kind: str, msg: Message, content: dict[str, Any], buffers: Any) -> Outcome | None:
+        """Plays a message of a frontend, with this content; None where it is refused, which is logged."""
+        try:
+            outcome = self._turns.call(self._hear, kind, msg, content, self._pack(content), buffers)
+        except _NOT_PLAYABLE as error:
+            self.log.warning("%s: %s", kind, error)
+            return None
+        if outcome.reply in DONE:
+            return outcome
+        if outcome.reply is Reply.NO_COMM:
+            self._comm_log.warning("No such comm: %s", content.get("comm_id"))
+        elif outcome.reason is Reason.NO_TARGET:
+            self._comm_log.error("No such comm target registered: %s", content.get("target_name"))
+        else:
+            self.log.warning("%s: %s", kind, outcome.words)
+        return None
+
+    def _hear(self, kind: str, msg: Message, content: dict[str, Any], text: bytes, buffers: Any) -> Outcome:
+        if kind == "comm_open":
+            return self._hear_open(msg, content, text, buffers)
+        comm = self._comm_of(content)
+        if comm is not None and content["comm_id"] not in self._calls.open_comms:
+            self._open_by_hand(comm)
+        outcome = self._calls.hear(kind, msg, content, text, buffers)
+        if comm is not None and outcome.reply is Reply.CLOSED:
+            self.comms.pop(comm.comm_id, None)  # which a close by the kernel may have taken out meanwhile
+            comm._closed = True
+            with contextlib.suppress(TypeError):  # a class that has no weak references
+                self._closed_by_frontends.add(comm)
+        return outcome
+
+    def _hear_open(self, msg: Message, content: dict[str, Any], text: bytes, buffers: Any) -> Outcome:
+        outcome = None
+        try:
+            outcome = self._calls.hear("comm_open", msg, content, text, buffers)
+            if outcome.reply is Reply.OPENED:
+                comm = self._make(comm_id=content["comm_id"], target_name=content["target_name"], primary=False)
+                if comm.comm_id != content["comm_id"]:  # `comm` has another one where it is empty
+                    comm.comm_id = content["comm_id"]
+                self.register_comm(comm)
+        except BaseException:
+            if outcome is None or outcome.reply is Reply.OPENED:
+                self._drop(content.get("comm_id"))
+            raise
+        return outcome
+
+    def _deliver(self, comm: Comm, msg: Message) -> None:
+        try:
+            comm.handle_msg(msg)
+        except Exception:
+            self._comm_log.error("Exception in comm_msg for %s", comm.comm_id, exc_info=True)
+
+    def _widget_msg(self, comm: Comm, msg: Message, content: dict[str, Any], data: dict[str, Any]) -> None:
+        said = old_widgets.from_frontend(data)
         method = said.get("method")
+        if method == "request_state":
+            self._state_request(comm, msg, content)
+            return
         is_update = method == "update"
         buffers = list(msg.get("buffers") or ()) if is_update else []
         keys = _widgets.keys_of(comm) if is_update else None
         if keys is not None:
             said, buffers = _widgets.known_part(said, buffers, keys)
-        played = content if said is content["data"] else {**content, "data": said}
-        if self._heard(msg, played, buffers) is None or method == "request_state":
+        played = content if said is data else {**content, "data": said}
+        if self._heard("comm_msg", msg, played, buffers) is None:
             return
-        if comm_id in self._old:
-            data = old_widgets.to_kernel(content["data"])
-        if data is not content["data"]:
-            msg = {**msg, "content": {**content, "data": data}}
+        comm_id = content["comm_id"]
+        if comm_id in self._calls.old:
+            heard = old_widgets.to_kernel(data)
+            msg = msg if heard is data else {**msg, "content": {**content, "data": heard}}
         if not is_update:
             self._deliver(comm, msg)
             return
-        state = said.get("state")  # without which the manager takes nothing
-        held = {} if state is None else _widgets.placed(state, said.get("buffer_paths") or (), buffers)
+        held = _placed(said, buffers)
         told = list(held)
-        self._watch(comm_id, held)
-        try:
+        with self._last_word.watched(comm_id, held) as watch:
             self._deliver(comm, msg)
-            self._last_word(comm, held, told)
-        finally:
-            self._unwatch(comm_id, held)
+            self._last_word.say(comm, watch, told)
+
+    def _state_request(self, comm: Comm, msg: Message, content: dict[str, Any]) -> None:
+        """The widget answers, as it does in ipywidgets, and so has a say in what of it goes out. Where it says nothing
+        the manager answers with what it has, which is what the frontends were told."""
+        if comm.comm_id not in self._calls.open_comms:
+            self._turns.call(self._open_by_hand, comm)
+        with self._last_word.watched(comm.comm_id, {}) as watch:
+            self._deliver(comm, msg)
+            self._last_word.say(comm, watch, list(watch.held))
+        if not watch.is_answered:
+            self._heard("comm_msg", msg, content, ())

@@ -1,0 +1,247 @@
+/* The type Turns: one call at a time of Python's functions. The lock is taken, held and given back within one call of
+ * C, so that no exception that a signal raises, which may come between any two steps of Python's, leaves it held. */
+#include "native.h"
+
+typedef struct {
+  PyObject_HEAD
+  PyThread_type_lock lock;
+  unsigned long owner;   /* the thread whose call is under way; 0 where none is */
+  PyObject *waiting;     /* a list: the calls that come right after it, under the lock; each a tuple (f, arguments) */
+  PyObject *afterwards;  /* a list, or NULL: those that the same thread makes once it has given the lock back */
+  PyObject *on_error;    /* is told the exception that a waiting call raised */
+} turns;
+
+/* An exception that was caught; all NULL is none. */
+typedef struct {
+  PyObject *type, *value, *trace;
+} caught;
+
+static void catch(caught *into) {
+  if (into->type) { /* the first is raised again, another is shown */
+    PyErr_WriteUnraisable(NULL);
+    return;
+  }
+  PyErr_Fetch(&into->type, &into->value, &into->trace);
+}
+
+static int add(PyObject **list, PyObject *f, PyObject *arguments) {
+  PyObject *call = PyTuple_Pack(2, f, arguments);
+  if (call && !*list) *list = PyList_New(0);
+  int status = call && *list ? PyList_Append(*list, call) : -1;
+  Py_XDECREF(call);
+  return status;
+}
+
+/* Takes the first call out of a list that has one. */
+static PyObject *first(PyObject *list) {
+  PyObject *call = Py_XNewRef(PyList_GetItem(list, 0));
+  if (call && PySequence_DelItem(list, 0) < 0) Py_CLEAR(call);
+  return call;
+}
+
+static PyObject *made(PyObject *call) {
+  return PyObject_Call(PyTuple_GetItem(call, 0), PyTuple_GetItem(call, 1), NULL);
+}
+
+/* What a waiting call raised: an Exception is for `on_error`, once the lock is free; any other, as KeyboardInterrupt,
+ * is raised in the thread whose call it came after. */
+static void failed(turns *self, caught *interrupt) {
+  if (!PyErr_ExceptionMatches(PyExc_Exception)) {
+    catch(interrupt);
+    return;
+  }
+  caught error = {NULL, NULL, NULL};
+  catch(&error);
+  PyErr_NormalizeException(&error.type, &error.value, &error.trace);
+  if (error.trace) PyException_SetTraceback(error.value, error.trace);
+  PyObject *arguments = PyTuple_Pack(1, error.value);
+  if (!arguments || add(&self->afterwards, self->on_error, arguments) < 0) PyErr_WriteUnraisable(self->on_error);
+  Py_XDECREF(arguments);
+  Py_XDECREF(error.type);
+  Py_XDECREF(error.value);
+  Py_XDECREF(error.trace);
+}
+
+/* Gives the lock back where no call waits. Nothing runs between the look and that, so that none is left behind. */
+static PyObject *given_back(turns *self, caught *interrupt) {
+  while (PyList_Size(self->waiting) > 0) {
+    PyObject *call = first(self->waiting), *result = call ? made(call) : NULL;
+    if (!result) failed(self, interrupt);
+    Py_XDECREF(result);
+    Py_XDECREF(call);
+  }
+  PyObject *afterwards = self->afterwards;
+  self->afterwards = NULL;
+  self->owner = 0;
+  PyThread_release_lock(self->lock);
+  return afterwards;
+}
+
+static void make_each(PyObject *calls, caught *interrupt) {
+  for (Py_ssize_t i = 0; i < PyList_Size(calls); i++) {
+    PyObject *result = made(PyList_GetItem(calls, i));
+    if (!result && PyErr_ExceptionMatches(PyExc_Exception)) PyErr_WriteUnraisable(NULL);
+    else if (!result) catch(interrupt);
+    Py_XDECREF(result);
+  }
+}
+
+/* Makes a call under the lock, which this thread has taken, and what comes after it. */
+static PyObject *turn(turns *self, PyObject *f, PyObject *arguments) {
+  caught error = {NULL, NULL, NULL};
+  self->owner = PyThread_get_thread_ident();
+  PyObject *result = PyObject_Call(f, arguments, NULL);
+  if (!result) catch(&error);
+  PyObject *afterwards = given_back(self, &error);
+  if (afterwards) make_each(afterwards, &error);
+  Py_XDECREF(afterwards);
+  if (!error.type) return result;
+  Py_CLEAR(result);
+  PyErr_Restore(error.type, error.value, error.trace);
+  return NULL;
+}
+
+/* Waits for the lock; -1 where a signal's handler raises an exception meanwhile. */
+static int take(turns *self) {
+  PyLockStatus status = PyThread_acquire_lock_timed(self->lock, 0, 0);
+  while (status != PY_LOCK_ACQUIRED) {
+    PyThreadState *let_go = PyEval_SaveThread();
+    status = PyThread_acquire_lock_timed(self->lock, -1, 1);
+    PyEval_RestoreThread(let_go);
+    if (status == PY_LOCK_INTR && PyErr_CheckSignals() < 0) return -1;
+  }
+  return 0;
+}
+
+static int is_amid(const turns *self) { return self->owner == PyThread_get_thread_ident(); }
+
+/* The arguments of f, which is the first of these. */
+static PyObject *rest(PyObject *const *given, Py_ssize_t count) {
+  if (count < 1) {
+    PyErr_SetString(PyExc_TypeError, "which function is to be called?");
+    return NULL;
+  }
+  PyObject *arguments = PyTuple_New(count - 1);
+  for (Py_ssize_t i = 1; arguments && i < count; i++) PyTuple_SetItem(arguments, i - 1, Py_NewRef(given[i]));
+  return arguments;
+}
+
+enum way { CALL, IN_TURN, SOON, UNLOCKED };
+
+static PyObject *none_if(int status) { return status < 0 ? NULL : Py_NewRef(Py_None); }
+
+static PyObject *made_in(turns *self, enum way way, PyObject *f, PyObject *arguments) {
+  int amid = is_amid(self);
+  if (way == UNLOCKED && amid) return none_if(add(&self->afterwards, f, arguments));
+  if (way == UNLOCKED || (way == CALL && amid)) return PyObject_Call(f, arguments, NULL);
+  if (way == IN_TURN && amid) return none_if(add(&self->waiting, f, arguments));
+  if (way == SOON && (amid || !PyThread_acquire_lock(self->lock, NOWAIT_LOCK)))
+    return none_if(add(&self->waiting, f, arguments));
+  if (way != SOON) return take(self) < 0 ? NULL : turn(self, f, arguments);
+  PyObject *result = turn(self, f, arguments);
+  Py_XDECREF(result);
+  return none_if(result ? 0 : -1);
+}
+
+static PyObject *make(PyObject *object, enum way way, PyObject *const *given, Py_ssize_t count) {
+  PyObject *arguments = rest(given, count);
+  PyObject *result = arguments ? made_in((turns *)object, way, given[0], arguments) : NULL;
+  Py_XDECREF(arguments);
+  return result;
+}
+
+#define WAY(function, way)                                                                                        \
+  static PyObject *function(PyObject *self, PyObject *const *given, Py_ssize_t count) {                            \
+    return make(self, way, given, count);                                                                         \
+  }
+WAY(turns_call, CALL)
+WAY(turns_in_turn, IN_TURN)
+WAY(turns_soon, SOON)
+WAY(turns_unlocked, UNLOCKED)
+#undef WAY
+
+static PyObject *turns_is_amid(PyObject *self, PyObject *none) {
+  (void)none;
+  return PyBool_FromLong(is_amid((turns *)self));
+}
+
+/* ---- Its making and its end. */
+
+static int make_turns(PyObject *object, PyObject *arguments, PyObject *names) {
+  static char *parameters[] = {"on_error", NULL};
+  turns *self = (turns *)object;
+  PyObject *on_error;
+  if (!PyArg_ParseTupleAndKeywords(arguments, names, "O:Turns", parameters, &on_error)) return -1;
+  PyObject *before = self->on_error;
+  self->on_error = Py_NewRef(on_error);
+  Py_XDECREF(before);
+  if (!self->waiting) self->waiting = PyList_New(0);
+  if (!self->lock) self->lock = PyThread_allocate_lock();
+  if (self->waiting && self->lock) return 0;
+  PyErr_NoMemory();
+  return -1;
+}
+
+static int traverse_turns(PyObject *object, visitproc visit, void *arg) {
+  turns *self = (turns *)object;
+  Py_VISIT(Py_TYPE(object));
+  Py_VISIT(self->waiting);
+  Py_VISIT(self->afterwards);
+  Py_VISIT(self->on_error);
+  return 0;
+}
+
+static int clear_turns(PyObject *object) {
+  turns *self = (turns *)object;
+  Py_CLEAR(self->afterwards);
+  Py_CLEAR(self->on_error);
+  return 0;
+}
+
+static void end_turns(PyObject *object) {
+  turns *self = (turns *)object;
+  PyTypeObject *type = Py_TYPE(object);
+  PyObject_GC_UnTrack(object);
+  clear_turns(object);
+  Py_CLEAR(self->waiting);
+  if (self->lock) PyThread_free_lock(self->lock);
+  freefunc release = (freefunc)PyType_GetSlot(type, Py_tp_free);
+  release(object);
+  Py_DECREF(type);
+}
+
+#define METHOD(name, function, words) {name, (PyCFunction)(void (*)(void))function, METH_FASTCALL, words}
+static PyMethodDef methods[] = {
+    METHOD("call", turns_call,
+           "call($self, f, /, *arguments)\n--\n\nCalls f under the lock, and gives what it gives. Amid a call of this "
+           "thread it is called at once."),
+    METHOD("call_in_turn", turns_in_turn,
+           "call_in_turn($self, f, /, *arguments)\n--\n\nCalls f under the lock, and gives what it gives. Amid a call "
+           "of this thread it is called right after that one, and None is given."),
+    METHOD("call_soon", turns_soon,
+           "call_soon($self, f, /, *arguments)\n--\n\nCalls f under the lock where no call is under way, else right "
+           "after the one that is, whatever thread makes that: never waits."),
+    METHOD("call_unlocked", turns_unlocked,
+           "call_unlocked($self, f, /, *arguments)\n--\n\nCalls f without the lock: at once, or, amid a call of this "
+           "thread, when that and what waited for it are through."),
+    {"is_amid", turns_is_amid, METH_NOARGS, "is_amid($self, /)\n--\n\nWhether this thread is amid a call."},
+    {NULL, NULL, 0, NULL},
+};
+#undef METHOD
+
+static const char doc[] =
+    "Turns(on_error)\n--\n\nOne call at a time, of whatever thread. on_error(exception) is told, without the lock, "
+    "what a call raised that came right after another one.";
+
+static PyType_Slot slots[] = {
+    {Py_tp_doc, (void *)doc},           {Py_tp_init, make_turns},   {Py_tp_dealloc, end_turns},
+    {Py_tp_traverse, traverse_turns},   {Py_tp_clear, clear_turns}, {Py_tp_methods, methods},
+    {0, NULL},
+};
+
+PyType_Spec turns_type = {
+    .name = "rolgunai._native.Turns",
+    .basicsize = sizeof(turns),
+    .flags = Py_TPFLAGS_DEFAULT | Py_TPFLAGS_HAVE_GC,
+    .slots = slots,
+};

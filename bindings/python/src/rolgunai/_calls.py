@@ -1,0 +1,258 @@
+"""The calls on the proved manager, each of which sends what comes of it.
+
+They are made one at a time, under the hub's lock (`rolgunai._native.Turns`). What the manager can't have is kept beside
+it: long buffers, and which comms speak version 1 of the widget protocol in Python.
+"""
+
+from __future__ import annotations
+
+import collections
+from collections.abc import Callable, Collection
+from typing import Any
+
+from rolgunai import ArgumentError, Kind, Manager, Outcome, OutcomeMemoryError, Reason, Reply, old_widgets
+from rolgunai._kernel import WIDGET, CommRefused, Message, Send, State
+from rolgunai._long_buffers import Kept, LongBuffers
+from rolgunai._watches import Watches
+from rolgunai._wire import read
+
+MOST_COMMS = 4096
+NOTHING = b"{}"
+_VERSION = b'{"version":"2.1.0"}'
+_HEADERS = {
+    kind: b'{"msg_type":"%s"}' % kind.encode() for kind in ("comm_open", "comm_msg", "comm_close", "comm_info_request")
+}
+# By names of their own, and not in a set: Python 3.11 runs code of its own to find an enumeration's member or its hash.
+_DELIVERED, _OPENED, _CLOSED, _NO_COMM = Reply.DELIVERED, Reply.OPENED, Reply.CLOSED, Reply.NO_COMM
+DONE = (_DELIVERED, Reply.FOR_KERNEL, _OPENED, _CLOSED, Reply.COMM_INFO, Reply.STATE)
+Pack = Callable[[Any], bytes]
+
+
+class Calls:
+    """`pack` writes JSON, `served` has the names of the targets that frontends may open comms of, and `is_old_browser`
+    says whether frontends speak version 1 of the widget protocol to comms that do so in Python."""
+
+    def __init__(self, send: Send, pack: Pack, served: Callable[[], Collection[str]], is_old_browser: bool) -> None:
+        self.long = LongBuffers()
+        self.old: set[str] = set()  # the ids of the comms whose Python side speaks version 1
+        self.open_comms: dict[str, str] = {}  # the target of each comm that is open, by its id
+        self.watches = Watches()
+        self.send = send
+        self._pack, self._served, self._is_old_browser = pack, served, is_old_browser
+        self._manager = Manager(comms=MOST_COMMS, decimals=True)
+        self._targets: set[str] = set()  # those that the manager knows
+        self._open_of: collections.Counter[str] = collections.Counter()  # how many comms of each target are open
+
+    def speaks_old(self, is_old: bool) -> bool:
+        """Whether frontends speak version 1 of the widget protocol to a comm that does so in Python."""
+        return is_old and self._is_old_browser
+
+    # Targets: the manager knows those that comms may be or are open of.
+
+    def know_target(self, target_name: str) -> None:
+        """Has the manager know a target, as one of widgets or an opaque one."""
+        if target_name not in self._targets:
+            self._made(self._manager.register, Kind.WIDGET if target_name == WIDGET else Kind.OPAQUE, target_name)
+            self._targets.add(target_name)
+
+    def forget_target(self, target_name: str) -> None:
+        """Has the manager forget one that no comm is open of and that no frontend may open one of."""
+        is_used = self._open_of[target_name] > 0 or target_name == WIDGET or target_name in self._served()
+        if target_name in self._targets and not is_used:
+            del self._open_of[target_name]
+            self._targets.discard(target_name)
+            self._manager.unregister(target_name)
+
+    def _began(self, comm_id: str, target_name: str) -> None:
+        self.open_comms[comm_id] = target_name
+        self._open_of[target_name] += 1
+
+    def _ended(self, comm_id: str) -> None:
+        """A comm is closed."""
+        self.old.discard(comm_id)
+        self.long.forget(comm_id)
+        self.watches.forget(comm_id)
+        target_name = self.open_comms.pop(comm_id, None)
+        if target_name is not None:
+            self._open_of[target_name] -= 1
+            self.forget_target(target_name)
+
+    # What frontends say.
+
+    def hear(self, kind: str, msg: Message, content: dict[str, Any], text: bytes, buffers: Any) -> Outcome:
+        """Plays a message of a frontend, with this content, of which `text` is the JSON."""
+        metadata = NOTHING
+        if kind == "comm_open":
+            metadata = self._pack(msg.get("metadata") or {})
+            target_name = content.get("target_name")
+            if isinstance(target_name, str) and target_name in self._served():
+                self.know_target(target_name)
+        frames, kept = self.long.handed_in(buffers, is_lent=True) if buffers else ((), [])
+        try:
+            outcome = self._manager.message(_HEADERS[kind], metadata, text, frames)
+        except Exception as error:
+            outcome = self._after(error, kept)
+        if outcome.reply is _CLOSED:
+            self._ended(content["comm_id"])
+        else:
+            if outcome.reply is _OPENED:
+                self._began(content["comm_id"], content["target_name"])
+            if kept or self.long.tokens:
+                self._keep_long(kind, content, outcome, kept)
+        if outcome.sent:
+            self._send_all(outcome, msg)
+        return outcome
+
+    def _keep_long(self, kind: str, content: dict[str, Any], outcome: Outcome, kept: Kept) -> None:
+        """Of what a frontend sent, an open's state and an update's stay with the manager."""
+        is_taken = outcome.reply is _OPENED if kind == "comm_open" else outcome.reply is _DELIVERED
+        data = content.get("data") if is_taken else None
+        state = data.get("state") if isinstance(data, dict) else None
+        if (
+            isinstance(data, dict)
+            and isinstance(state, dict)
+            and (kind == "comm_open" or data.get("method") == "update")
+        ):
+            self.long.taken(content["comm_id"], state, data.get("buffer_paths") or [], kept)
+        else:
+            self.long.refused(kept)
+
+    def info(self, text: bytes) -> bytes:
+        """The content of the reply to a `comm_info_request`, whose own content is `text`."""
+        outcome = self._made(self._manager.message, _HEADERS["comm_info_request"], NOTHING, text, ())
+        self._agree("comm_info_request", outcome)
+        return outcome.sent[0].content
+
+    def state(self, comm_id: str) -> tuple[State, list[list[Any]], list[Any]] | None:
+        """What the manager has of a widget: the state, and its buffers with their paths. None where it has none."""
+        outcome = self._made(self._manager.state, comm_id)
+        if outcome.reply is not Reply.STATE or outcome.content is None:
+            return None
+        held = read(outcome.content)
+        return held["state"], held["buffer_paths"], self.long.given_out(outcome.buffers)
+
+    # What the kernel's code says.
+
+    def open(self, comm_id: str, target_name: str, text: bytes, buffers: Any, paths: Any = None) -> None:
+        """Opens a comm by its `comm_open`, of which `text` is the content: of a widget's in version 2 of the widget
+        protocol, with buffers at these paths. Nothing is sent. One that has the id gives way, and its frontends aren't
+        told."""
+        if comm_id in self.open_comms:
+            self.drop(comm_id)
+        frames, kept = self.long.handed_in(buffers) if buffers and target_name == WIDGET else ((), [])
+        self.know_target(target_name)
+        self._began(comm_id, target_name)
+        is_open = False
+        try:
+            outcome = self._manager.message(_HEADERS["comm_open"], _VERSION, text, frames)
+            is_open = outcome.reply is _OPENED
+        except Exception as error:
+            outcome = self._after(error, kept)
+            is_open = outcome.reply is _OPENED
+        finally:
+            if not is_open:
+                self._ended(comm_id)
+        if not is_open:
+            self.long.refused(kept)
+        elif kept:
+            self.long.taken(comm_id, {}, paths or [], kept)
+        self._agree("comm_open", outcome)
+
+    def push(
+        self,
+        comm_id: str,
+        state: bytes,
+        paths: bytes,
+        buffers: Any,
+        parent: Any,
+        metadata: dict[str, Any] | None = None,
+    ) -> bool:
+        """Changes these keys of a widget's state, and sends that; gives whether the comm is open."""
+        frames, kept = self.long.handed_in(buffers) if buffers else ((), [])
+        try:
+            outcome = self._manager.push(comm_id, state, paths, frames)
+        except Exception as error:
+            outcome = self._after(error, kept)
+        if outcome.reply is not _DELIVERED:
+            self.long.refused(kept)
+            return self._is_open("comm_msg", outcome)
+        if kept or comm_id in self.long.tokens or comm_id in self.watches.by_comm:
+            placed = read(paths)
+            if kept or comm_id in self.long.tokens:
+                self.long.taken(comm_id, read(state), placed, kept)
+            self.watches.told(comm_id, state, placed, buffers)
+        self._send_all(outcome, parent, metadata)
+        return True
+
+    def say(self, kind: str, comm_id: str, content: bytes, metadata: Any, buffers: Any, parent: Any) -> bool:
+        """Sends what isn't the manager's; gives whether the comm is open, without which nothing goes out."""
+        try:
+            outcome = self._manager.send(comm_id, NOTHING)
+        except Exception as error:
+            outcome = self._after(error, [])
+        if outcome.reply is not _DELIVERED and not self._is_open(kind, outcome):
+            return False
+        self.send(kind, comm_id, content, metadata, buffers, parent)
+        return True
+
+    def close(self, comm_id: str, content: bytes, metadata: Any, buffers: Any, parent: Any) -> bool:
+        """Closes a comm, and sends that; gives whether it was open."""
+        outcome = self._made(self._manager.close, comm_id)
+        if not self._is_open("comm_close", outcome):
+            return False
+        self._ended(comm_id)
+        self.send("comm_close", comm_id, content, metadata, buffers, parent)
+        return True
+
+    def drop(self, comm_id: str) -> None:
+        """Closes a comm, of which nobody is told."""
+        self._made(self._manager.close, comm_id)
+        self._ended(comm_id)
+
+    # How a call is made, and what comes of it.
+
+    def _made(self, call: Callable[..., Outcome], *arguments: Any) -> Outcome:
+        """What a call comes to; one that can't be made is refused."""
+        try:
+            return call(*arguments)
+        except Exception as error:
+            return self._after(error, [])
+
+    def _after(self, error: Exception, kept: Kept) -> Outcome:
+        """What a call came to that raised an error: where there was only no memory for that, it is asked for again.
+        Else it is raised, and the buffers aren't kept."""
+        if isinstance(error, OutcomeMemoryError):
+            return self._manager.outcome()
+        self.long.refused(kept)
+        if isinstance(error, ArgumentError):
+            raise CommRefused(error.status.name.lower()) from None
+        raise error
+
+    def _is_open(self, kind: str, outcome: Outcome) -> bool:
+        """Whether the comm that a call was about is open. What else the manager refuses is raised."""
+        if outcome.reply is not _NO_COMM:
+            self._agree(kind, outcome)
+            return True
+        return False
+
+    def _agree(self, kind: str, outcome: Outcome) -> None:
+        if outcome.reply in DONE:
+            return
+        words = f"{kind}: {outcome.words}"
+        if outcome.reason == Reason.TOO_MANY_COMMS:
+            words += (
+                f": {len(self.open_comms)} comms are open, and no more than {MOST_COMMS} may be. Close those that are "
+                "no longer shown: widget.close(), comm.close(), or ipywidgets.Widget.close_all() for all widgets"
+            )
+        raise CommRefused(words)
+
+    def _send_all(self, outcome: Outcome, parent: Any, metadata: dict[str, Any] | None = None) -> None:
+        """Sends what a call gives."""
+        for kind, comm_id, content, known, frames in outcome.sent:
+            if comm_id in self.old and self._is_old_browser and kind == "comm_msg":
+                content = old_widgets.to_frontend(content, bool(frames))
+            told = {} if known == NOTHING else read(known)
+            if metadata:
+                told.update(metadata)
+            buffers = self.long.given_out(frames) if frames else []
+            self.send(kind, comm_id, content, told, buffers, parent)

@@ -1,0 +1,129 @@
+"""What the kernel's code says on its comms."""
+
+from __future__ import annotations
+
+import logging
+import os
+from collections.abc import Callable
+from typing import Any
+
+from rolgunai import old_widgets
+from rolgunai._calls import Calls, Pack
+from rolgunai._kernel import WIDGET, Comm
+from rolgunai._native import Turns
+
+VERSION = {"version": "2.1.0"}
+
+
+class Publisher:
+    """Writes the JSON of what is said, without the lock, and plays it, with it. `comms` are those that the hub has."""
+
+    def __init__(
+        self,
+        comms: dict[str, Any],
+        calls: Calls,
+        turns: Turns,
+        pack: Pack,
+        request: Callable[[], Any],
+        log: logging.Logger,
+    ) -> None:
+        self._comms, self._calls, self._turns, self._pack = comms, calls, turns, pack
+        self._request, self._log, self._pid = request, log, os.getpid()
+
+    def publish(
+        self, comm: Any, msg_type: str, data: Any = None, metadata: Any = None, buffers: Any = None, **keys: Any
+    ) -> None:
+        """Plays what the kernel says on a comm, and sends it; not in a forked child, which has no frontends. On a comm
+        that isn't open it goes nowhere, as with ipykernel, which sends it to nobody. Metadata, and the data of a close,
+        are the caller's: the manager says nothing of them. Raises CommRefused where the manager refuses; ValueError,
+        TypeError or RecursionError for what JSON can't have."""
+        if os.getpid() != self._pid:
+            return
+        comm_id, parent = comm.comm_id, self._request()  # an attribute of traitlets', which is looked up but once
+        if msg_type == "comm_msg" and isinstance(data, dict) and data.get("method") == "update":
+            if comm.target_name == WIDGET:
+                self._publish_update(comm, comm_id, data, metadata, buffers, parent)
+                return
+        data, metadata, buffers = {} if data is None else data, dict(metadata or {}), list(buffers or ())
+        if msg_type == "comm_open":
+            self._publish_open(comm, data, keys, metadata, buffers, parent)
+            return
+        content = self._pack({"comm_id": comm_id, "data": data, **keys})
+        if msg_type == "comm_close":
+            self._turns.call_soon(self._close, comm, comm_id, content, metadata, buffers, parent)
+        else:
+            self._turns.call_in_turn(self._say, comm, msg_type, comm_id, content, metadata, buffers, parent)
+
+    def _publish_update(
+        self, comm: Comm, comm_id: str, data: dict[str, Any], metadata: Any, buffers: Any, parent: Any
+    ) -> None:
+        if comm_id in self._calls.old:
+            data = old_widgets.from_kernel("comm_msg", data)
+        state, paths = data.get("state"), data.get("buffer_paths")
+        text = self._pack({} if state is None else state)
+        where = self._pack(paths) if paths else b"[]"
+        buffers = list(buffers) if buffers else ()
+        self._turns.call_in_turn(self._push, comm, comm_id, text, where, buffers, parent, metadata)
+
+    def _push(
+        self, comm: Comm, comm_id: str, state: bytes, paths: bytes, buffers: Any, parent: Any, metadata: Any
+    ) -> None:
+        is_anothers = self._comms.get(comm_id, comm) is not comm
+        if is_anothers or not self._calls.push(comm_id, state, paths, buffers, parent, metadata):
+            self._goes_nowhere("comm_msg", comm_id)
+
+    def _say(
+        self, comm: Comm, kind: str, comm_id: str, content: bytes, metadata: Any, buffers: Any, parent: Any
+    ) -> None:
+        is_anothers = self._comms.get(comm_id, comm) is not comm
+        if is_anothers or not self._calls.say(kind, comm_id, content, metadata, buffers, parent):
+            self._goes_nowhere(kind, comm_id)
+
+    def _close(self, comm: Comm, comm_id: str, *parts: Any) -> None:
+        is_anothers = self._comms.get(comm_id, comm) is not comm
+        if is_anothers or not self._calls.close(comm_id, *parts):
+            self._goes_nowhere("comm_close", comm_id)
+
+    def _goes_nowhere(self, kind: str, comm_id: str) -> None:
+        words = "%s on the comm %s, which isn't open, goes nowhere"
+        self._turns.call_unlocked(self._log.debug, words, kind, comm_id)
+
+    def _publish_open(self, comm: Comm, data: Any, keys: Any, metadata: Any, buffers: Any, parent: Any) -> None:
+        named, paths, is_old = {"comm_id": comm.comm_id, "target_name": comm.target_name}, None, False
+        if comm.target_name == WIDGET:
+            metadata, is_old = {**VERSION, **metadata}, old_widgets.is_old_open(data)
+            played = old_widgets.from_kernel("comm_open", data) if is_old else data
+            said = data if self._calls.speaks_old(is_old) else played
+            paths = played.get("buffer_paths") if isinstance(played, dict) else None
+            content = self._pack({**keys, **named, "data": said})
+            text = content if said is played else self._pack({**named, "data": played})
+        else:
+            content, text = self._pack({"comm_id": comm.comm_id, "data": data, **keys}), self._pack(named)
+        parts = comm, is_old, content, text, paths, metadata, buffers, parent
+        job: Callable[..., object] = self._open
+        if self._turns.is_amid():
+            job = self._open_later
+        self._turns.call_in_turn(job, *parts)
+
+    def _open(self, comm: Comm, is_old: bool, content: bytes, text: bytes, paths: Any, *frame: Any) -> None:
+        """Opens a comm, and tells the frontends; where one of these fails, neither is done."""
+        metadata, buffers, parent = frame
+        try:
+            self._calls.open(comm.comm_id, comm.target_name, text, buffers, paths)
+            if is_old:
+                self._calls.old.add(comm.comm_id)
+            self._calls.send("comm_open", comm.comm_id, content, metadata, buffers, parent)
+        except BaseException as error:
+            self._calls.drop(comm.comm_id)
+            if not isinstance(error, Exception):  # after which the comm doesn't unregister itself
+                self._comms.pop(comm.comm_id, None)
+            raise
+
+    def _open_later(self, comm: Comm, *parts: Any) -> None:
+        """An open that came amid another call. Where it fails, its maker can't be told any more: the comm is closed."""
+        try:
+            self._open(comm, *parts)
+        except BaseException:
+            self._comms.pop(comm.comm_id, None)
+            comm._closed = True
+            raise
