@@ -29,15 +29,19 @@ def printed_by(came):
     return "".join(got.content["text"] for got in came if got.kind == "stream")
 
 
+def write_spec(folder):
+    """Makes a folder with the kernelspec of this folder's kernel."""
+    folder.mkdir()
+    argv = [sys.executable, "-B", "-Xfrozen_modules=off", str(KERNEL), "-f", "{connection_file}"]
+    (folder / "kernel.json").write_text(json.dumps({"argv": argv, "display_name": NAME, "language": "python"}))
+
+
 class Frontend:
     def __init__(self, name=NAME, protocol=2, kernels=None, **environment):
         """Starts a kernel: the one of this folder, the stock one, `python3`, or one of the folder `kernels`. The
         frontends speak this version of the widget protocol."""
         self.specs = tempfile.TemporaryDirectory()
-        folder = pathlib.Path(self.specs.name) / NAME
-        folder.mkdir()
-        argv = [sys.executable, "-B", "-Xfrozen_modules=off", str(KERNEL), "-f", "{connection_file}"]
-        (folder / "kernel.json").write_text(json.dumps({"argv": argv, "display_name": NAME, "language": "python"}))
+        write_spec(pathlib.Path(self.specs.name) / NAME)
         specs = KernelSpecManager(kernel_dirs=[str(kernels or self.specs.name)])
         self.kernel = KernelManager(kernel_name=name, kernel_spec_manager=specs)
         environment["ROLGUNAI_BROWSER_PROTOCOL"] = str(protocol)

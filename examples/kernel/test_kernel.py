@@ -80,7 +80,7 @@ def widgets_with_floats(front):
         check(f"{made}: {key}", opened.get(printed.strip(), {}).get(key, printed), loads(text))
 
 
-# What a frontend sends of the value, and what Python has then. JavaScript writes 3.0 as 3.
+# What a frontend sends of the value, and what Python has then, as the widget says it. JavaScript writes 3.0 as 3.
 MOVES = (
     ("2.50", "2.5"),
     ("0.30000000000000004", "0.30000000000000004"),
@@ -94,7 +94,7 @@ MOVES = (
 
 
 def a_float_slider(front):
-    """Moved by the frontend: the manager has the text that it sent, Python the float."""
+    """Moved by the frontend: Python has the float, which a page that is loaded is told."""
     made = "f = ipywidgets.FloatSlider(value=5.5, max=10, step=0.05); print(f.comm.comm_id)"
     printed, came = front.run(f"{made}; f.observe(lambda change: heard.append(change['new']), 'value'); heard = []")
     slider, state = printed.strip(), came[-1].content["data"]["state"]
@@ -105,8 +105,8 @@ def a_float_slider(front):
         printed = front.run("print(repr(f.value), heard == [f.value], heard.clear())")[0]
         check(f"a move to {text} reaches Python", printed, f"{held} True None\n")
         came = front.send("comm_msg", request)
-        has = update({**state, "value": loads(text)})
-        check(f"the manager has {text}", [got.content["data"] for got in came], [has])
+        has = update({**state, "value": loads(held)})
+        check(f"a page is told of {text}", [got.content["data"] for got in came], [has])
     came = front.send("comm_msg", {"comm_id": slider, "data": update({"value": Number("12.75")})})
     check("Python's bound comes back", [got.content["data"] for got in came], [update({"value": Number("10.0")})])
 
@@ -203,15 +203,14 @@ def a_widget_of_ones_own(front):
     check("its state has both changes", [(got.content["data"], got.buffers) for got in came], wanted)
     custom = {"comm_id": gauge, "data": {"method": "custom", "content": {"go": True}}}
     check("a custom message", front.send("comm_msg", custom, buffers=[b"\x01", b""]), [])
-    check("what it heard", front.run("print(heard)")[0], "[('update', [b'new']), ('custom', [b'\\x01', b''])]\n")
+    heard = "[('update', [b'new']), ('request_state', []), ('custom', [b'\\x01', b''])]\n"
+    check("what it heard, as by ipykernel", front.run("print(heard)")[0], heard)
     check("a fault isn't heard", front.send("comm_msg", {"comm_id": gauge, "data": {"method": "dance"}}), [])
     changed = [got.content["data"] for got in front.run("g.set(level=0.5)")[1]]
     check("it changes to a fraction", changed, [update({"level": Number("0.5")})])
     front.send("comm_close", {"comm_id": gauge, "data": {}})
-    check("it heard the close", front.run("print(heard[2:])")[0], "['closed']\n")
-    check(
-        "it is gone", (gauge in front.info(), front.run("g.set(level=3)")[0]), (False, "CommRefused: comm_msg: no_comm")
-    )
+    check("it heard the close", front.run("print(heard[3:])")[0], "['closed']\n")
+    check("it is gone, and says nothing more", (gauge in front.info(), front.run("g.set(level=3)")), (False, ("", [])))
 
 
 OWN_COMMS = """
@@ -240,7 +239,8 @@ def comms_of_ones_own(front):
         return front.send("comm_open", {"comm_id": comm_id, "target_name": target, "data": data})
 
     def said(came):
-        return [(got.kind, got.content["comm_id"], got.content["data"]) for got in came]
+        """What is said on comms; since 6.18 ipykernel shows the errors of callbacks too."""
+        return [(got.kind, got.content["comm_id"], got.content["data"]) for got in came if got.kind != "stream"]
 
     check("an open is heard and answered", said(open_comm("mine", x=1)), [("comm_msg", "mine", {"hello": {"x": 1}})])
     came = front.send("comm_msg", {"comm_id": "mine", "data": {"n": 21}}, buffers=[b"\x00" * 70000, b"", b"\xff"])
@@ -253,7 +253,7 @@ def comms_of_ones_own(front):
     )
     check("a target that fails", said(open_comm("other", fails=True)), [("comm_close", "other", {})])
     check("no such target", said(open_comm("other", "nobody")), [("comm_close", "other", {})])
-    check("no such comm", front.send("comm_msg", {"comm_id": "other", "data": {"n": 1}}), [])
+    check("no such comm", said(front.send("comm_msg", {"comm_id": "other", "data": {"n": 1}})), [])
     check("comm_info of a target", (front.info("my.target"), front.info("nobody")), ({"mine": "my.target"}, {}))
     front.send("comm_close", {"comm_id": "mine", "data": {"bye": 1}})
     check("the close is heard", (front.run("print(ended)")[0], front.info("my.target")), ("[{'bye': 1}]\n", {}))
@@ -262,11 +262,10 @@ def comms_of_ones_own(front):
     printed, came = front.run(
         "comms.unregister_target('my.target', opened); print([c for c in comms.comms if c in 'ab'])"
     )
-    check(
-        "to unregister closes the comms, in their order",
-        (said(came), printed),
-        ([("comm_close", "b", {}), ("comm_close", "a", {})], "[]\n"),
-    )
+    check("to unregister leaves the comms, as in ipykernel", (said(came), printed), ([], "['b', 'a']\n"))
+    check("but no other opens", said(open_comm("c")), [("comm_close", "c", {})])
+    came = front.run("for comm_id in 'ba': comms.comms[comm_id].close()")[1]
+    check("until they close", (kinds(came), front.info("my.target")), (["comm_close"] * 2, {}))
 
 
 # What a frontend sends, and what comes of twice that.
@@ -279,12 +278,15 @@ DOUBLES = (
     ("1e300", "2e+300"),
     ("18446744073709551616", "36893488147419103232"),
 )
-# What no JSON number is: nothing goes out.
+# Numbers that JSON hasn't, which go out as by ipykernel: what makes them, and the data that go out.
 NO_NUMBERS = (
-    "comms.get_comm('n').send({'x': float('nan')})",
-    "comms.get_comm('n').send({'x': [-float('inf')]})",
-    "Comm(target_name='front.target', data={'x': float('inf')})",
-    "g = Gauge(float('nan'), b'')",
+    ("comms.get_comm('n').send({'x': float('nan')})", {"x": "nan"}),
+    ("comms.get_comm('n').send({'x': [-float('inf')]})", {"x": ["-inf"]}),
+    ("i = Comm(target_name='front.target', data={'x': float('inf')}); i.close()", {"x": "inf"}),
+    (
+        "g = Gauge(float('nan'), b'')",
+        {"state": {"level": "nan", "picture": {}}, "buffer_paths": [["picture", "png"]]},
+    ),
 )
 
 
@@ -298,9 +300,9 @@ def fractions_of_ones_own(front):
     for text, twice in DOUBLES:
         came = front.send("comm_msg", {"comm_id": "n", "data": {"n": loads(text)}})
         check(f"twice {text}", [got.content["data"] for got in came], [{"twice": loads(twice)}])
-    for code in NO_NUMBERS:
+    for code, data in NO_NUMBERS:
         printed, came = front.run(code)
-        check(f"{code} is refused", (printed.partition(":")[0], came), ("ValueError", []))
+        check(f"{code} goes out", (printed, came[0].content["data"]), ("", data))
     front.run("comms.unregister_target('my.target', opened)")
     printed, came = front.run("k = Comm(target_name='front.target', data={'x': 0.5}, metadata={'m': 1.5})")
     opened = [(printed, got.content["data"], got.metadata) for got in came]
@@ -309,14 +311,19 @@ def fractions_of_ones_own(front):
         check(code, [got.content["data"] for got in front.run(code)[1]], [loads(text)])
 
 
-# As where the garbage collector ends something amid a call, whose end closes a comm.
+# As where the garbage collector ends something amid a call, whose end closes a comm. Whoever has put another `send` in
+# the place of the session's sees what comms say.
 AMID = """
-class Amid(dict):
-    def items(self):
-        k.close({"bye": 1})
-        return super().items()
+session = get_ipython().kernel.session
+send = session.send
 
-k.send({"n": Amid(x=1)})
+def seen(*parts, **keys):
+    session.send = send
+    k.close({"bye": 1})
+    return send(*parts, **keys)
+
+session.send = seen
+k.send({"n": 1})
 """
 
 
@@ -334,7 +341,7 @@ def a_comm_of_the_kernels(front):
     came = front.send("comm_msg", {"comm_id": comm_id, "data": {"y": [1]}})
     check("it hears", (printed_by(came), {got.kind for got in came}), ("{'y': [1]}\n", {"stream"}))
     printed, came = front.run(AMID)
-    wanted = [("comm_msg", {"n": {"x": 1}}), ("comm_close", {"bye": 1})]
+    wanted = [("comm_msg", {"n": 1}), ("comm_close", {"bye": 1})]
     check(
         "a close amid a call comes after it", (printed, [(got.kind, got.content["data"]) for got in came]), ("", wanted)
     )
@@ -350,7 +357,8 @@ def two_tabs_and_a_kill(front):
     tab.stop_channels()
     front.kill()
     check("a new kernel has no comms", front.info(), {})
-    check("and knows none", front.send("comm_msg", {"comm_id": "t", "data": {"n": 1}}), [])
+    came = front.send("comm_msg", {"comm_id": "t", "data": {"n": 1}})
+    check("and knows none", [got.kind for got in came if got.kind != "stream"], [])
     printed, came = front.run("import ipywidgets; s = ipywidgets.IntSlider(value=6); print(s.comm.comm_id)")
     check("a slider opens again", (kinds(came), came[-1].content["data"]["state"]["value"]), (["comm_open"] * 3, 6))
     front.send("comm_msg", {"comm_id": printed.strip(), "data": update({"value": 8})})
@@ -373,7 +381,8 @@ PARTS = (
 
 
 def main():
-    front = Frontend(JUPYTER_WIDGETS_ECHO="0")  # test_last_word.py has echoes
+    # test_last_word.py has echoes; since 6.18 ipykernel warns of its own class of comms
+    front = Frontend(JUPYTER_WIDGETS_ECHO="0", PYTHONWARNINGS="ignore::DeprecationWarning")
     for part in PARTS:
         try:
             part(front)
