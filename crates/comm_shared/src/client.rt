@@ -14,7 +14,7 @@ use crate::reader::{SharedReadFault, SharedReader};
 use comm_core::Call;
 use comm_targets::Target;
 use comm_value::Text;
-use comm_versions::{InfoRead, RawFront, StateRead};
+use comm_versions::{InfoRead, StateRead};
 use std::alloc::{AllocError, Global};
 use std::marker::Model;
 
@@ -72,15 +72,17 @@ impl SharedClient {
         self.reader.seen()
     }
 
-    // Whether the front has all that it has seen, and of its seat just what it made.
-    fn knows<T: Target>(&self, manager: &SharedManager<T>, front: &RawFront) -> bool
-        requires front { front.now ≡ manager.now }
-        requires same { manager.now.origin ≡ self.now.origin }
+    /// Whether the history has all that it has seen, and of its seat just what it made: so it has, where each client is
+    /// used with its own manager and has a seat of its own. Only then a change of it is made.
+    #[must_use]
+    pub fn knows<T: Target>(&self, manager: &SharedManager<T>) -> bool
+        requires { manager.now.origin ≡ self.now.origin }
         ensures seen { result ≡ true → IsPrefix self.now.own.seen manager.now.entries }
         ensures number { result ≡ true
             → length (mine manager.now.entries self.now.own.client) ≡ self.now.own.number }
     {
-        manager.count_of(self.seat) == self.number && self.reader.precedes(front)
+        let front = manager.front();
+        manager.count_of(self.seat) == self.number && self.reader.precedes(&front)
     }
 
     /// Makes the change of a call that hands no target in. It is the last entry of the history, which begins with all
@@ -98,7 +100,7 @@ impl SharedClient {
         ensures call { IfOk result (λ a. a.call ≡ self.new.own.number) }
         ensures err { OnErr result ((self.new ≡ self.old) × (manager.new ≡ manager.old)) }
     {
-        if !self.knows(manager, &manager.front()) {
+        if !self.knows(manager) {
             drop(call);
             return Err(ChangeFault::Stranger);
         }
@@ -125,7 +127,7 @@ impl SharedClient {
         ensures err { OnErr result ((self.new ≡ self.old) × (manager.new ≡ manager.old)) }
         ensures back { IfErr result (λ e. T.means e.1 ≡ T.means target) }
     {
-        if !self.knows(manager, &manager.front()) {
+        if !self.knows(manager) {
             drop(name);
             return Err((ChangeFault::Stranger, target));
         }

@@ -16,6 +16,6 @@ mod writer;
 
 pub use change::ChangeFault;
 pub use client::SharedClient;
-pub use manager::{SharedChange, SharedManager};
+pub use manager::{OpenFault, SharedChange, SharedManager};
 pub use reader::{SharedReadFault, SharedReader};
 pub use seats::Seats;

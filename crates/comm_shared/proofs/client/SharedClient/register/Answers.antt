@@ -16,5 +16,5 @@ returns-clause-made g c =
     let made = subst (λ (s : ℕ). IsMade before.entries after.entries s (length (mine before.entries s) + 1) (register_of c.args.name (g.T.Target.means c.args.target)) m.made.reply m.made.outgoing.items) seat_is m.ensures.next in
     let call = m.ensures.call ∙ ap (λ (s : ℕ). length (mine before.entries s) + 1) seat_is in
     has_made_as old before after (register_of c.args.name (g.T.Target.means c.args.target)) m.made.reply m.made.outgoing.items m.made.number m.made.call some c.requires.same m.ensures.origin
-    (c.if-not-knows.ensures.seen refl) (c.if-not-knows.ensures.number refl) made c.front-2.ensures.legal c.front-2.ensures.few m.ensures.number call
-    c.self.inside.seat c.advance.new.self seat_is (c.advance.ensures ∙ c.front-2.ensures.front)
+    (c.if-not-knows.ensures.seen refl) (c.if-not-knows.ensures.number refl) made c.front.ensures.legal c.front.ensures.few m.ensures.number call
+    c.self.inside.seat c.advance.new.self seat_is (c.advance.ensures ∙ c.front.ensures.front)
