@@ -126,6 +126,12 @@ def pages_that_are_loaded():
         [shown.comm.comm_id, "silent"],
     )
     check("ipywidgets isn't asked", OfIpywidgets.heard, [])
+    silent.close()
+
+
+def other_messages_on_the_control_comm():
+    kernel = Kernel()
+    kernel.manager.register_target(CONTROL, lambda made, message: made.on_msg(OfIpywidgets().handle))
     kernel.hear("comm_open", "c", {}, target_name=CONTROL)
     kernel.hear("comm_msg", "c", {"method": "other"})
     check("but what it alone knows", OfIpywidgets.heard, [{"method": "other"}])
@@ -134,7 +140,6 @@ def pages_that_are_loaded():
     kernel.hear("comm_open", "own", {}, target_name=CONTROL)
     came = kernel.hear("comm_msg", "own", {"method": "request_states"})
     check("a target of one's own is left alone", (came, len(heard)), ([], 1))
-    silent.close()
 
 
 def pages_that_are_loaded_meanwhile():
@@ -174,4 +179,11 @@ def pages_that_are_loaded_meanwhile():
 
 
 if __name__ == "__main__":
-    sys.exit(run(states_that_are_asked_for, pages_that_are_loaded, pages_that_are_loaded_meanwhile))
+    sys.exit(
+        run(
+            states_that_are_asked_for,
+            pages_that_are_loaded,
+            other_messages_on_the_control_comm,
+            pages_that_are_loaded_meanwhile,
+        )
+    )

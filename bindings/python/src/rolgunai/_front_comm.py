@@ -19,21 +19,11 @@ class Comm(base_comm.BaseComm):
 
     manager: Hub | None = None  # that it is registered with
 
-    def __init__(
-        self,
-        target_name: str = "comm",
-        data: Any = None,
-        metadata: Any = None,
-        buffers: Any = None,
-        comm_id: str | None = None,
-        primary: bool = True,
-        target_module: str | None = None,
-        topic: bytes | None = None,
-        **kwargs: Any,
-    ) -> None:
-        if comm_id and not topic:  # `comm` makes none of an id that isn't ASCII
-            topic = f"comm-{comm_id}".encode()
-        super().__init__(target_name, data, metadata, buffers, comm_id, primary, target_module, topic, **kwargs)
+    def __init__(self, *words: Any, **keys: Any) -> None:
+        comm_id = words[4] if len(words) > 4 else keys.get("comm_id")
+        if comm_id and len(words) < 8:  # `comm` makes no topic of an id that isn't ASCII
+            keys.setdefault("topic", f"comm-{comm_id}".encode())
+        super().__init__(*words, **keys)
 
     def publish_msg(
         self, msg_type: str, data: Any = None, metadata: Any = None, buffers: Any = None, **keys: Any
