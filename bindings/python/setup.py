@@ -54,9 +54,9 @@ os.chdir(HERE)
 setup(
     version=VERSION,
     license="MIT",
-    packages=["rolgunai"],
+    packages=["rolgunai", "rolgunai.conformance"],
     package_dir={"": "src"},
-    package_data={"rolgunai": ["py.typed", "*.pyi"]},
+    package_data={"rolgunai": ["py.typed", "*.pyi"], "rolgunai.conformance": ["scenarios/*.txt", "cells/*.txt"]},
     include_package_data=False,
     ext_modules=[NATIVE],
     cmdclass={"build_ext": BuildWithLibrary},

@@ -1,0 +1,66 @@
+"""python -m rolgunai.conformance KERNEL: plays the scenarios on a kernel, with a line for each.
+
+The status is 0 where nothing failed, 1 where something did, and 2 where nothing could be played.
+"""
+
+from __future__ import annotations
+
+import argparse
+import sys
+from pathlib import Path
+
+from jupyter_client.kernelspec import NoSuchKernel
+
+from rolgunai.conformance.cells import cells_for
+from rolgunai.conformance.frontend import Frontend, NotAnswering
+from rolgunai.conformance.play import FAILED, Player, Result
+from rolgunai.conformance.report import about, line, totals, write
+from rolgunai.conformance.scenario import Scenario, scenarios
+
+
+def arguments(words: list[str] | None) -> argparse.Namespace:
+    parser = argparse.ArgumentParser(prog="python -m rolgunai.conformance", description="Tests a kernel's comms.")
+    parser.add_argument("kernel", help="the kernel's name, as `jupyter kernelspec list` has it")
+    parser.add_argument("--only", action="append", metavar="NAME", help="a scenario or a group; may be given again")
+    parser.add_argument("--storm", type=float, default=2, metavar="SECONDS", help="how long a storm lasts (2)")
+    parser.add_argument("--report", action="append", default=[], metavar="FILE", help="a .json or .html to write too")
+    parser.add_argument("--cells", metavar="FILE", help="cells for a language that the suite doesn't know")
+    parser.add_argument("--kernels", metavar="FOLDER", help="the folder that has the kernelspec, instead of Jupyter's")
+    parser.add_argument("--timeout", type=float, default=30, metavar="SECONDS", help="how long an answer may take (30)")
+    return parser.parse_args(words)
+
+
+def chosen(only: list[str] | None) -> list[Scenario]:
+    found = list(scenarios())
+    for name in only or []:
+        if not any(name in (scenario.name, scenario.group) for scenario in found):
+            sys.exit(f"there is no scenario or group {name}")
+    return [each for each in found if not only or each.name in only or each.group in only]
+
+
+def main(words: list[str] | None = None) -> int:
+    asked = arguments(words)
+    wanted = chosen(asked.only)
+    try:
+        frontend = Frontend(asked.kernel, asked.timeout, asked.kernels)
+    except (NoSuchKernel, NotAnswering) as error:
+        print(f"{asked.kernel} doesn't start: {error}", file=sys.stderr)
+        return 2
+    results: list[Result] = []
+    try:
+        print(f"{asked.kernel}: {about(frontend.info)}", flush=True)
+        language = frontend.info.get("language_info", {}).get("name", "")
+        player = Player(frontend, cells_for(language, Path(asked.cells) if asked.cells else None), asked.storm)
+        for scenario in wanted:
+            results.append(player.play(scenario))
+            print(line(results[-1]), flush=True)
+    finally:
+        frontend.close()
+    for file in asked.report:
+        write(Path(file), asked.kernel, frontend.info, results)
+    print(totals(results))
+    return int(any(result.outcome == FAILED for result in results))
+
+
+if __name__ == "__main__":
+    sys.exit(main())
