@@ -11,7 +11,7 @@ from rolgunai.conformance.frontend import Message
 Json = Any
 WIDGET = "jupyter.widget"
 TARGETS = {"echo": "conformance.echo", "greeter": "conformance.greeter", "closer": "conformance.closer",
-           "listener": "conformance.listener"}  # fmt: skip
+           "listener": "conformance.listener", "raiser": "conformance.raiser"}  # fmt: skip
 
 
 class Reference:
@@ -77,6 +77,8 @@ class Reference:
         if name == TARGETS["greeter"] and outcome.reply == Reply.OPENED:
             greeting = {"data": data, "metadata": metadata.get("conformance")}
             return self.sends(comm_id, greeting, buffers)
+        if name == TARGETS["raiser"] and outcome.reply == Reply.OPENED:
+            return [message_of(sent) for sent in self.manager.close(comm_id).sent]
         if name == TARGETS["echo"] and outcome.reply == Reply.FOR_KERNEL:
             return self.sends(comm_id, data, buffers)
         if name == TARGETS["closer"] and outcome.reply == Reply.FOR_KERNEL:
