@@ -132,6 +132,8 @@ changes("swaps_buffers", lambda sent: sent._replace(buffers=sent.buffers[::-1]))
 changes("loses_empty_buffers", lambda sent: sent._replace(buffers=[each for each in sent.buffers if each]))
 changes("cuts_buffers", lambda sent: sent._replace(buffers=[each[: 1 << 20] for each in sent.buffers]))
 changes("kernel_open_loses_buffers", lambda sent: sent._replace(buffers=[]), ("comm_open",))
+changes("kernel_send_loses_buffers", lambda sent: sent._replace(buffers=sent.buffers[1:]))
+changes("close_data_list", data_changed(lambda data: []), ("comm_close",))
 changes("open_loses_metadata", data_changed(lambda data: {**data, "metadata": None}))
 changes("no_parent", lambda sent: sent._replace(parent="none"))
 changes("ascii_only", data_changed(lambda data: json.loads(json.dumps(data).replace("\\u", "?"))))
@@ -157,6 +159,7 @@ def drops(name, when):
 drops("unknown_target_silent", lambda call, sent: sent.kind == "comm_close")
 drops("never_answers", lambda call, sent: sent.kind == "comm_msg")
 drops("kernel_send_lost", lambda call, sent: call["kind"] == "send")
+drops("unregistered_open_silent", lambda call, sent: call["kind"] == "open_unregistered")
 drops("kernel_close_silent", lambda call, sent: call["kind"] == "close")
 drops("kernel_update_silent", lambda call, sent: call["kind"] == "widget_set")
 drops("widget_close_silent", lambda call, sent: call["kind"] == "widget_close")
@@ -352,7 +355,10 @@ def forgets_comms(kernel, call, answer):
 @fault
 def drops_some(kernel, call, answer):
     kernel.count = getattr(kernel, "count", 0) + 1
-    return [] if kernel.count % 50 == 0 else answer()
+    return [] if kernel.count % 20 == 0 else answer()
+
+
+FAULTS["info_drops_some"] = FAULTS["states_drops_some"] = drops_some
 
 
 @fault

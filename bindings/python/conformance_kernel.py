@@ -18,7 +18,7 @@ from rolgunai import Kind
 from rolgunai.conformance.frontend import Message
 from rolgunai.conformance.reference import TARGETS, WIDGET, Reference, message_of
 
-CONTROL_TARGET, FRONT = "jupyter.widget.control", "conformance.front"
+CONTROL_TARGET, FRONT, THEIRS = "jupyter.widget.control", "conformance.front", "conformance.theirs"
 SUBSHELL = "conformance-subshell"
 COMM_TYPES = ("comm_open", "comm_msg", "comm_close", "comm_info_request")
 
@@ -28,8 +28,8 @@ class Comms:
 
     def __init__(self):
         self.reference = Reference()
-        self.reference.manager.register(Kind.OPAQUE, CONTROL_TARGET)
-        self.reference.manager.register(Kind.OPAQUE, FRONT)
+        for target in (CONTROL_TARGET, FRONT, THEIRS):
+            self.reference.manager.register(Kind.OPAQUE, target)
         self.own = self.widget = ""
         self.controls = set()
         self.dead = False
@@ -41,14 +41,14 @@ class Comms:
         if kind == "comm_open" and content.get("target_name") == CONTROL_TARGET:
             self.controls.add(comm_id)
         if kind == "comm_msg" and isinstance(comm_id, str) and comm_id in self.controls:
-            state = json.loads(self.reference.manager.state(self.widget).content)
+            state = json.loads(self.reference.manager.state(self.widget).content) if self.widget else {}
             told = {"method": "update_states", "states": {self.widget: state}, "buffer_paths": []}
             out += self.reference.sends(comm_id, told, [])
         return out
 
-    def open(self):
+    def open(self, target=FRONT, number=1):
         self.own = str(uuid.uuid4())
-        content = {"comm_id": self.own, "target_name": FRONT, "data": {"n": 1}}
+        content = {"comm_id": self.own, "target_name": target, "data": {"n": number}}
         self.reference.message("comm_open", json.dumps(content).encode())
         return [Message("iopub", "comm_open", content, {"k": [1]}, [b"\0\xff"], "")]
 
@@ -58,7 +58,7 @@ class Comms:
 
     def close(self):
         out = [message_of(each) for each in self.reference.manager.close(self.own).sent]
-        for message in out:
+        for message in out:  # with data of the kernel's own
             message.content["data"] = {"bye": 1}
         return out
 
@@ -152,6 +152,8 @@ class BrokenKernel(Kernel):
             return [message_of(each) for each in comms.reference.manager.push(comms.widget, '{"value": 7}').sent]
         elif word == "widget_close":
             return [message_of(each) for each in comms.reference.manager.close(comms.widget).sent]
+        elif word == "open_unregistered":
+            return comms.open(THEIRS, 3)
         elif word in ("open", "send", "close"):
             return getattr(comms, word)()
         return []

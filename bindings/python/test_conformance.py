@@ -19,7 +19,8 @@ from rolgunai.conformance.scenario import ScenarioError, parse, scenarios
 HERE = Path(__file__).resolve().parent
 CELLS = (
     "echo unregister greeter closer raiser listener heard open send close ipywidgets widget widget_value widget_set "
-    "widget_close image image_value"
+    "widget_close image image_value buffers close_data open_unregistered "
+    "control churn_comms churn_widgets churn_end"
 ).split()
 HEAD = "title: t\ngroup: opening\nsource: s\nholds: h\nfault: f\n\n"
 BAD_TEXTS = [

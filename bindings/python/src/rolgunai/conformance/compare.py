@@ -77,12 +77,15 @@ def normal(message: Message, names: Names) -> Json:
     if message.kind == "comm_info_reply":
         comms = content.get("comms") or {}
         return [message.kind, {key: comms[key].get("target_name") for key in sorted(comms) if names.own(key)}]
+    if message.kind == "comm_close":
+        return [message.kind, content.get("comm_id")]
     data = content.get("data", {})
     buffers: Json = [buffer.hex() for buffer in message.buffers]
     if isinstance(data, dict) and data.get("method") in UPDATES:
         state = with_buffers(data.get("state", {}), data.get("buffer_paths", []), message.buffers)
         data, buffers = {"method": data["method"], "state": state}, []
-    return [message.kind, content.get("comm_id"), content.get("target_name"), data, buffers]
+    target = [content.get("target_name")] if message.kind == "comm_open" else []
+    return [message.kind, content.get("comm_id"), *target, data, buffers]
 
 
 def fits(wanted: Json, got: Json, names: Names) -> bool:

@@ -13,6 +13,7 @@ from jupyter_client import KernelManager
 from jupyter_client.kernelspec import KernelSpecManager
 
 Json = Any
+QUIET = 1.0  # seconds
 
 
 class Message(NamedTuple):
@@ -135,25 +136,30 @@ class Frontend:
                 found.append(Message(channel, got["msg_type"], got["content"], got["metadata"], buffers, parent))
         return found
 
-    def reply_to(self, sent: str) -> Json:
+    def reply_to(self, sent: str, seconds: float | None = None) -> Json:
         """The content of the reply to a request.
 
-        Raises NotAnswering where none comes.
+        Raises NotAnswering where none comes in time.
         """
-        end = time.monotonic() + self.timeout
+        end = time.monotonic() + (seconds or self.timeout)
         while time.monotonic() < end:
             for got in self.receive(0.1):
                 if got.parent == sent and got.channel != "iopub":
                     return got.content
-        raise NotAnswering(f"no reply within {self.timeout:g} s")
+        raise NotAnswering(f"no reply within {seconds or self.timeout:g} s")
 
     def gather(self, sent: list[str], channel: str) -> Came:
-        """What came of messages that were sent on a channel, until the kernel has answered what is sent behind them.
+        """What came of messages that were sent on a channel, until the kernel has answered what is sent behind them. On
+        control, where a kernel needn't take kernel_info_request, it has a second for them, and is asked on shell.
 
-        Raises NotAnswering where it doesn't.
+        Raises NotAnswering where it doesn't answer.
         """
-        probe = self.send(channel, "kernel_info_request", b"{}")
         came, replied, idle = Came(), False, False
+        quiet = time.monotonic() + (QUIET if channel == "control" else 0)
+        while time.monotonic() < quiet:
+            for message in self.receive(0.1):
+                self.take(message, sent, came)
+        probe = self.send("shell", "kernel_info_request", b"{}")
         end = time.monotonic() + self.timeout
         while not (replied and idle):
             got = self.receive(0.1)

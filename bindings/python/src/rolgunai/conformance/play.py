@@ -11,7 +11,7 @@ from typing import Any
 from rolgunai.conformance.compare import Names, buffers_of, message_fits, normal, shown
 from rolgunai.conformance.frontend import Came, Frontend, Message, NotAnswering
 from rolgunai.conformance.reference import Reference
-from rolgunai.conformance.scenario import Due, Scenario, Step
+from rolgunai.conformance.scenario import Due, Parts, Scenario, Step
 from rolgunai.conformance.storm import storm
 
 Json = Any
@@ -163,6 +163,8 @@ class Playing:
             yield f"the execution states were {came.states}, due are busy and idle"
         if due.manager:
             yield from self.as_manager(answers, came)
+        elif due.each:
+            yield from self.each(due.each, step.times, came)
         elif not due.anything:
             yield from self.as_listed(due, came)
         for message in self.mine(came) if due.parent else []:
@@ -179,6 +181,11 @@ class Playing:
         wanted, got = (self.normal(messages) for messages in (answers, self.mine(came)))
         if wanted != got:
             yield f"came: {shown(got)}; due: {shown(wanted)}"
+
+    def each(self, wanted: Parts, times: int, came: Came) -> Iterator[str]:
+        found = sum(message_fits(wanted, message, self.names) for message in came.messages)
+        if found != times:
+            yield f"{times} messages were sent, and {found} came of {wanted.kind} {wanted.content}"
 
     def as_listed(self, due: Due, came: Came) -> Iterator[str]:
         rest = list(came.messages)

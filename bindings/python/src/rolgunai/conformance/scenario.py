@@ -39,6 +39,7 @@ class Due:
     end: bool = False
     printed: str | None = None
     messages: list[Parts] = field(default_factory=list)
+    each: Parts | None = None  # one for each message of the step
 
 
 @dataclass
@@ -135,6 +136,9 @@ class _Reader:
             setattr(self.due, kind, True)
         elif kind == "printed":
             self.due.printed = content
+        elif kind == "each":
+            kind, _, content = content.partition(" ")
+            self.due.each = Parts(kind, content or "{}")
         elif kind.startswith("comm_"):
             self.last = Parts(kind, content or "{}")
             self.due.messages.append(self.last)

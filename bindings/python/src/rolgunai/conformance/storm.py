@@ -24,6 +24,7 @@ class Storm:
         self.requests: dict[str, str] = {}
         self.replies: Counter[str] = Counter()
         self.sent = 0
+        self.asked = [("shell", "comm_info_request", header), ("control", "kernel_info_request", {})]
 
     def under_way(self) -> int:
         return self.sent - len(self.echoes) + len(self.requests) - len(self.replies)
@@ -33,8 +34,7 @@ class Storm:
         data = json.dumps({"comm_id": self.comm_id, "data": {"number": self.sent}}).encode()
         self.frontend.send("shell", "comm_msg", data, **self.header)
         self.sent += 1
-        asked = (("shell", "comm_info_request", self.header), ("control", "kernel_info_request", {}))
-        for channel, kind, header in asked:
+        for channel, kind, header in self.asked:
             self.requests[self.frontend.send(channel, kind, b"{}", **header)] = f"{kind} on {channel}"
 
     def receive(self, seconds: float) -> bool:
@@ -73,7 +73,12 @@ def storm(frontend: Frontend, words: str, seconds: float) -> list[str]:
     comm_id = str(uuid.uuid4())
     opened = {"comm_id": comm_id, "target_name": "conformance.echo", "data": {}}
     frontend.send("shell", "comm_open", json.dumps(opened).encode(), **header)
-    faults = list(blow(Storm(frontend, comm_id, header), seconds))
+    blown = Storm(frontend, comm_id, header)
+    try:
+        frontend.reply_to(frontend.send("control", "kernel_info_request", b"{}"), 3)
+    except NotAnswering:
+        del blown.asked[1:]  # it isn't among what control has to take
+    faults = list(blow(blown, seconds))
     frontend.send("shell", "comm_close", json.dumps({"comm_id": comm_id, "data": {}}).encode(), **header)
     if header:
         frontend.reply_to(frontend.send("control", "delete_subshell_request", json.dumps(header).encode()))
