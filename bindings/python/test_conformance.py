@@ -1,10 +1,13 @@
 """Tests of the conformance suite: each scenario fails on a kernel that is broken so (conformance_kernel.py), and passes
-on the same kernel unbroken.
+on the same kernel unbroken; on this package's kernel nothing fails, and on the stock one what conformance_known.txt says.
 
-    test_conformance.py PACKAGE    # the folder where the package is built
+    test_conformance.py PACKAGE              # the folder where the package is built
+    test_conformance.py PACKAGE --kernels    # this package's kernel and the stock one alone
 """
 
+import contextlib
 import json
+import os
 import sys
 import tempfile
 from pathlib import Path
@@ -12,8 +15,10 @@ from pathlib import Path
 sys.path.insert(0, sys.argv[1])
 
 import checks
+import ipykernel
+from rolgunai.conformance.cells import cells_for
 from rolgunai.conformance.frontend import Frontend
-from rolgunai.conformance.play import CHOICE, FAILED, PASSED, Player
+from rolgunai.conformance.play import CHOICE, FAILED, PASSED, SKIPPED, Player
 from rolgunai.conformance.scenario import ScenarioError, parse, scenarios
 
 HERE = Path(__file__).resolve().parent
@@ -35,21 +40,33 @@ BAD_TEXTS = [
 ]
 
 
-def write_spec(folder):
-    argv = [sys.executable, "-B", "-Xfrozen_modules=off", str(HERE / "conformance_kernel.py"), sys.argv[1], "-f"]
-    folder.mkdir()
-    spec = {"argv": [*argv, "{connection_file}"], "display_name": "broken", "language": "conformance"}
-    (folder / "kernel.json").write_text(json.dumps(spec))
+COMMANDS = {
+    "broken": ["-B", str(HERE / "conformance_kernel.py"), sys.argv[1]],
+    "stock": ["-m", "ipykernel_launcher"],
+    "proved": ["-m", "rolgunai.kernel"],
+}
+PATH = os.pathsep.join(filter(None, [sys.argv[1], os.environ.get("PYTHONPATH")]))
+
+
+@contextlib.contextmanager
+def player(name, **keys):
+    """A player on one of these kernels."""
+    with tempfile.TemporaryDirectory() as folder:
+        argv = [sys.executable, "-Xfrozen_modules=off", *COMMANDS[name], "-f", "{connection_file}"]
+        spec = {"argv": argv, "display_name": name, "language": "python", "env": {"PYTHONPATH": PATH}}
+        (Path(folder) / name).mkdir()
+        (Path(folder) / name / "kernel.json").write_text(json.dumps(spec))
+        frontend = Frontend(name, 60, folder)
+        try:
+            cells = {cell: cell for cell in CELLS} if name == "broken" else cells_for("python")
+            yield Player(frontend, cells, 0.5, **keys)
+        finally:
+            frontend.close()
 
 
 def scenarios_and_faults():
-    with tempfile.TemporaryDirectory() as folder:
-        write_spec(Path(folder) / "broken")
-        frontend = Frontend("broken", 15, folder)
-        try:
-            play_all(Player(frontend, {cell: cell for cell in CELLS}, 0.5))
-        finally:
-            frontend.close()
+    with player("broken", anew=False) as broken:
+        play_all(broken)
 
 
 def play_all(player):
@@ -63,10 +80,38 @@ def play_all(player):
             checks.check(f"{scenario.name}, with the fault {fault}", result.outcome, FAILED)
 
 
+def known_failures():
+    """Of the stock kernel that is here: whether each is always seen, by the scenarios' names."""
+    stock = "ipykernel-" + ".".join(map(str, ipykernel.version_info[:2]))
+    lines = (HERE / "conformance_known.txt").read_text().split("\n\n")[1].splitlines()
+    words = [line.partition(":")[0].split() for line in lines]
+    return {name: often == "always" for kernel, name, often in words if kernel == stock}
+
+
+def stock_kernel():
+    known = known_failures()
+    with player("stock") as stock:
+        for scenario in scenarios():
+            result = stock.play(scenario)
+            may = {True: [FAILED], False: [FAILED, PASSED, SKIPPED], None: [PASSED, CHOICE, SKIPPED]}
+            said = f"the stock kernel, {scenario.name}: {result.reasons}"
+            checks.check(said, result.outcome in may[known.get(scenario.name)], True)
+
+
+def proved_kernel():
+    with player("proved") as proved:
+        for scenario in scenarios():
+            result = proved.play(scenario)
+            checks.check(f"the proved kernel, {scenario.name}: {result.reasons}", result.outcome != FAILED, True)
+            may_skip = scenario.name == "storm_subshell" or scenario.group == "widgets" or "control" in scenario.needs
+            checks.check(f"it skips {scenario.name}: {result.reasons}", result.outcome != SKIPPED or may_skip, True)
+
+
 def texts():
     for what, text in BAD_TEXTS:
         checks.check(what, type(checks.raised(lambda text=text: parse("text", text))), ScenarioError)
 
 
 if __name__ == "__main__":
-    sys.exit(checks.run(texts, scenarios_and_faults))
+    own = [] if sys.argv[2:] == ["--kernels"] else [texts, scenarios_and_faults]
+    sys.exit(checks.run(*own, stock_kernel, proved_kernel))

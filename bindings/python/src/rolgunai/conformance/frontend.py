@@ -160,10 +160,12 @@ class Frontend:
             for message in self.receive(0.1):
                 self.take(message, sent, came)
         probe = self.send("shell", "kernel_info_request", b"{}")
-        end = time.monotonic() + self.timeout
+        last = begin = time.monotonic()
         while not (replied and idle):
-            got = self.receive(0.1)
-            if not got and (time.monotonic() > end or not self.kernel.is_alive()):
+            got, now = self.receive(0.1), time.monotonic()
+            last = now if got else last
+            silent = now > last + self.timeout or not got and not self.kernel.is_alive()
+            if silent or now > begin + 4 * self.timeout:
                 raise NotAnswering(self.why_not())
             for message in got:
                 state = message.content.get("execution_state") if message.kind == "status" else None

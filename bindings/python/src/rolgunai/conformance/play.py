@@ -42,21 +42,25 @@ class Skip(Exception):
 class Player:
     """Plays scenarios on one kernel, which it starts anew where one left it without an answer."""
 
-    def __init__(self, frontend: Frontend, cells: dict[str, str], storm_seconds: float = 2) -> None:
+    def __init__(self, frontend: Frontend, cells: dict[str, str], storm_seconds: float = 2, anew: bool = True) -> None:
+        """`anew` says whether a kernel is started anew after each failure, so that none brings about another."""
         self.frontend = frontend
         self.cells = cells
         self.storm_seconds = storm_seconds
+        self.anew = anew
 
     def play(self, scenario: Scenario) -> Result:
         """Plays a scenario. Never raises what a kernel brings about."""
         result, begin = Result(scenario), time.monotonic()
-        playing = Playing(self, scenario, result)
+        answers = True
         try:
-            playing.all()
+            Playing(self, scenario, result).all()
         except Skip as skip:
             result.outcome, result.reasons = SKIPPED, [str(skip)]
         except NotAnswering as error:
+            answers = False
             result.add(FAILED, str(error))
+        if not answers or (self.anew and result.outcome == FAILED):
             self.frontend.restart()
         result.seconds = time.monotonic() - begin
         return result
@@ -83,7 +87,8 @@ class Playing:
             self.step(number, step)
             if self.ended or self.result.outcome == FAILED:
                 break
-        self.end()
+        if self.result.outcome != FAILED or not self.player.anew:
+            self.end()
 
     def language(self) -> str:
         return str(self.frontend.info.get("language_info", {}).get("name", "?"))

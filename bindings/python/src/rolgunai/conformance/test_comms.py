@@ -1,0 +1,35 @@
+"""The scenarios as tests of pytest: one for each, skipped where there is no --kernel."""
+
+from __future__ import annotations
+
+from collections.abc import Iterator
+from pathlib import Path
+from typing import Any
+
+import pytest
+
+from rolgunai.conformance.cells import cells_for
+from rolgunai.conformance.frontend import Frontend
+from rolgunai.conformance.play import FAILED, SKIPPED, Player
+from rolgunai.conformance.scenario import Scenario, scenarios
+
+
+@pytest.fixture(scope="module")
+def player(request: Any) -> Iterator[Player]:
+    option = request.config.getoption
+    if not option("--kernel", None):
+        pytest.skip("no --kernel")
+    frontend = Frontend(option("--kernel"), option("--kernel-timeout"), option("--kernels"))
+    language = frontend.info.get("language_info", {}).get("name", "")
+    cells = cells_for(language, Path(option("--cells")) if option("--cells") else None)
+    yield Player(frontend, cells, option("--storm"))
+    frontend.close()
+
+
+@pytest.mark.parametrize("scenario", list(scenarios()), ids=lambda scenario: f"{scenario.group}/{scenario.name}")
+def test_comms(player: Player, scenario: Scenario) -> None:
+    result = player.play(scenario)
+    if result.outcome == SKIPPED:
+        pytest.skip("; ".join(result.reasons))
+    if result.outcome == FAILED:
+        pytest.fail("\n".join([scenario.holds, *result.reasons, *result.exchange]), pytrace=False)
