@@ -5,7 +5,8 @@ TOP=$(cd "$(dirname "${BASH_SOURCE[0]}")/.." && pwd)
 
 need_kit() {
   if ! command -v rt >/dev/null 2>&1; then
-    echo "$1: the Rattle kit isn't there: no command 'rt' on the PATH (wanted: $WANTED_KIT)" >&2
+    echo "$1: the Rattle kit isn't there: no command 'rt' on the PATH (wanted: $WANTED_KIT; README.md," \
+      "'A first answer', says from whom)" >&2
     exit 2
   fi
   local version
