@@ -3,24 +3,44 @@
  * A kernel hands each message of a frontend to rolgunai_handle_message, as it came from the wire: three JSON texts and
  * binary buffers. What its own widgets do it tells by rolgunai_launch, rolgunai_push, rolgunai_send and the like. Each
  * call gives the number of its reply and how many messages are to be sent; their parts are asked for one by one.
- * docs/FORMATS.md says what each message and reply means.
+ * docs/FORMATS.md says what each message and reply means; examples/c_kernel is a small kernel.
  *
  *   rolgunai_handle manager = {0};
- *   rolgunai_new(&manager, 4096);
- *   rolgunai_register(&manager, 0, ROLGUNAI_WIDGET, name, name_size, &reply, &sent);
+ *   rolgunai_new_with_decimals(&manager, 4096);
+ *   rolgunai_register(&manager, 0, ROLGUNAI_WIDGET_ECHO, name, name_size, &reply, &sent);
  *   while (receive(&message)) {
  *     status = rolgunai_handle_message(&manager, 0, ..the parts of the message.., &reply, &sent);
  *     for (size_t i = 0; i < sent; i++) send_parts(&manager, i);
  *   }
  *
  * What a kernel has to know:
+ * - A kernel for ipywidgets takes decimals (rolgunai_new_with_decimals), since a FloatSlider's numbers aren't whole,
+ *   and ROLGUNAI_WIDGET_ECHO, so that what one page changes reaches the others. rolgunai_new is for comms with whole
+ *   numbers alone, ROLGUNAI_WIDGET for a single page, or a kernel that pushes what it was told.
  * - Clients are numbered 0 to 3. A client is a caller's number and no frontend: hand in 0, unless the kernel tells its
  *   frontends apart. It stands in the texts and in no message.
- * - A `comm_info_reply` goes on the shell channel to who asked; every other message goes on iopub. The parent header of
- *   what a frontend's message brings about is that message's; of the kernel's own calls, that of the request that the
- *   kernel runs.
- * - An open of a frontend that is ROLGUNAI_REPLY_BAD opens nothing. Where its content has a comm_id, the frontend waits
- *   for a `comm_close`: it is the message 0 that the call sends then.
+ * - A `comm_info_reply` goes to who asked, on the channel on which the request came; every other message goes on iopub.
+ *   The parent header of what a frontend's message brings about is that message's; of the kernel's own calls, that of
+ *   the request that the kernel runs.
+ * - What goes out has the metadata {"version":"2.1.0"} in a `comm_open`, else {}: a kernel may send other metadata. Of
+ *   what comes in, an open's `version` counts, and nothing of it is kept.
+ * - What a widget's `update` changed isn't in its reply, ROLGUNAI_REPLY_DELIVERED. The message in hand has it: each key
+ *   of its `state`, and the first step of each path in its `buffer_paths`, has the value that came, in the old one's
+ *   place. With ROLGUNAI_WIDGET_ECHO the `echo_update` that is sent has just these keys, with their buffers.
+ *   rolgunai_state reads all keys.
+ * - The content of ROLGUNAI_REPLY_FOR_KERNEL is a plain comm's whole `data`, {} where the message has none; of a
+ *   widget, the `content` of a `custom`, any JSON (a `custom` without one is just DELIVERED); of an opaque comm {}.
+ * - An open of a frontend that is ROLGUNAI_REPLY_BAD opens nothing. Where its content has a comm_id that no comm has,
+ *   the frontend is told by a `comm_close`: it is the message 0 that the call sends then.
+ * - An open that gives ROLGUNAI_NOT_JSON (`1e400`, more than 127 deep) sends nothing, and its frontend waits. A kernel
+ *   that can read its comm_id sends a `comm_close`, unless rolgunai_state says that such a comm is open.
+ * - A comm of the kernel's own that is no widget: hand its `comm_open` to rolgunai_handle_message, with a new UUID as
+ *   its id, towards a target that is registered. At ROLGUNAI_REPLY_OPENED send that same message to the frontends. At
+ *   any other reply send nothing, also not the `comm_close` that the call sends: no frontend knows of the comm.
+ * - `jupyter.widget.control`, at which a page asks for the states of all widgets, is no target of the library's. Where
+ *   it isn't registered its open is refused (ROLGUNAI_REASON_NO_TARGET) and closed, and the page is to ask each widget
+ *   by `request_state`, which the manager answers. A kernel that registers it as ROLGUNAI_PLAIN is handed
+ *   {"method":"request_states"}, and answers by rolgunai_send with an `update_states`.
  * - An answer is several calls (the message, then its parts), so a lock has to be held over all of them. In a language
  *   with finalizers it has to be one that the same thread may take again: a `__del__` may send in the middle of a call.
  * - A target stays registered under its name until another is, or it is unregistered; either closes its comms.
@@ -28,6 +48,7 @@
  * A handle is a struct of yours that holds one pointer. Set it to zero before the first call, and then neither read nor
  * write nor copy it: only the library does. Calls may come in any order: a handle that has no manager, since it never
  * had one or was freed, gives ROLGUNAI_CLOSED. No call blocks or calls back, and nothing is kept outside of the handle.
+ * What a call is given is copied.
  *
  * Owed by the caller, since nothing can check it:
  * - No pointer is null, but an `out` whose `out_size` is 0; what is read is readable and what is written writable for
@@ -57,8 +78,8 @@ typedef struct rolgunai_handle {
 } rolgunai_handle;
 
 /* The status that each call gives. Where more than one test fails, the first of CLOSED or ALREADY_OPEN, BAD_LIMIT,
- * BAD_KIND, BAD_SIZES, BAD_NAME, NOT_JSON, EXHAUSTED gives it; ROLGUNAI_MEMORY may come in place of the last four. After
- * any but ROLGUNAI_OK, ROLGUNAI_BUFFER_TOO_SMALL and ROLGUNAI_NO_TEXT the manager is as it was before the call,
+ * BAD_KIND, BAD_SIZES, BAD_NAME, NOT_JSON, EXHAUSTED gives it; ROLGUNAI_MEMORY may come in place of the last four.
+ * After any but ROLGUNAI_OK, ROLGUNAI_BUFFER_TOO_SMALL and ROLGUNAI_NO_TEXT the manager is as it was before the call,
  * with its last result; `out` is as it was after any but ROLGUNAI_OK; and `*size`, `*reply`, `*sent` and `*index` are 0
  * where the call doesn't say otherwise. */
 enum {
@@ -82,14 +103,15 @@ enum {
 enum {
   ROLGUNAI_WIDGET = 2,      /* keeps the state of Jupyter widgets; ipywidgets' target name is "jupyter.widget" */
   ROLGUNAI_PLAIN = 3,       /* takes every open and message, and answers none. A message comes to the kernel in its
-                               reply, ROLGUNAI_REPLY_FOR_KERNEL, and the kernel answers by rolgunai_send */
+                               reply, ROLGUNAI_REPLY_FOR_KERNEL, an open's data doesn't. The kernel answers by
+                               rolgunai_send */
   ROLGUNAI_WIDGET_ECHO = 4, /* as ROLGUNAI_WIDGET, and repeats to the frontends what a frontend's update brought
                                (`echo_update`) */
   ROLGUNAI_OPAQUE = 5       /* as ROLGUNAI_PLAIN, for what nobody here reads: of an open or a message by its parts the
                                type, the id and the target's name count, and neither `data`, metadata nor buffers,
-                               which may be anything that is JSON and needn't be handed in; small ones may be read, in
-                               vain. The reply's content is `{}`: the kernel has the message in hand. A line for one is
-                               read whole, as any line */
+                               which may be anything that is JSON and needn't be handed in. They may be read in vain:
+                               small ones, an open's, and where the content doesn't begin with {"comm_id":, as
+                               frontends write it. A line for one is read whole, as any line */
 };
 
 /* Makes a manager. At most `comms` comms, 1 to 4096, are open at a time; any number of targets may be registered.
@@ -101,8 +123,8 @@ uint32_t rolgunai_new(rolgunai_handle *handle, size_t comms);
  * double's range is no JSON here (`not_json`). A client and the steps of a path are whole numbers still. */
 uint32_t rolgunai_new_with_decimals(rolgunai_handle *handle, size_t comms);
 
-/* Closes the comms, stops the targets, frees all memory. Afterwards the handle has no manager, and rolgunai_new may
- * give it another. */
+/* Ends the comms and then the targets, and frees all memory. It sends nothing: a kernel whose frontends go on takes the
+ * closes of rolgunai_unregister before. Afterwards the handle has no manager, and rolgunai_new may give it another. */
 uint32_t rolgunai_free(rolgunai_handle *handle);
 
 /* ---- What a call came to. The last call is here and below the last to rolgunai_register, rolgunai_handle_message,
@@ -136,7 +158,7 @@ enum {
 };
 
 /* Why a reply is ROLGUNAI_REPLY_BAD, ROLGUNAI_REPLY_REFUSED or ROLGUNAI_REPLY_FAULT. Where the comment has an n it is
- * `*index`, else `*index` is 0. */
+ * `*index`, else `*index` is 0. rolgunai_last_text has it in words. */
 enum {
   ROLGUNAI_REASON_NONE = 0,           /* the reply is another */
   ROLGUNAI_REASON_NOT_JSON = 1,       /* a line isn't a JSON object, or nests too deep */
@@ -203,8 +225,9 @@ uint32_t rolgunai_last_result(rolgunai_handle *handle, uint32_t *reply, size_t *
 uint32_t rolgunai_last_reason(rolgunai_handle *handle, uint32_t *reason, uint64_t *index);
 
 /* Writes a part of a message that the last call sends. The messages are numbered from 0, in the order in which they
- * are to be sent. To ask for a part's size, give an `out_size` of 0. ROLGUNAI_NO_PART comes after the last message,
- * and after a message's last buffer. */
+ * are to be sent. To ask for a part's size, give an `out_size` of 0: ROLGUNAI_BUFFER_TOO_SMALL with the size, but
+ * ROLGUNAI_OK and 0 for a part that is empty, as a buffer may be. ROLGUNAI_NO_PART comes after the last message, and
+ * after a message's last buffer. */
 static inline uint32_t rolgunai_sent_part(rolgunai_handle *handle, size_t message, size_t part, uint8_t *out,
                                           size_t out_size, size_t *size) {
   uint8_t none;
@@ -233,7 +256,17 @@ static inline uint32_t rolgunai_last_text(rolgunai_handle *handle, uint8_t *out,
 
 /* Plays a message of a frontend by its parts: the JSON texts of its header, metadata and content, each `{}` where the
  * message has nothing to say in it; and `count` binary buffers, which stand one after another in `buffers` and have the
- * sizes in `sizes`. Tested are the handle, the sizes, the three JSON texts, and how many calls were made. */
+ * sizes in `sizes`. Tested are the handle, the sizes, the three JSON texts, and how many calls were made.
+ *
+ * Replies, and what is sent, by the header's `msg_type`; any may be BAD (NO_TYPE, UNKNOWN_TYPE, BAD_CONTENT, NOT_WHOLE,
+ * BAD_CLIENT), and then only an open sends, as said at the top:
+ * - comm_open: OPENED; ID_IN_USE; REFUSED (NO_TARGET, TOO_MANY_COMMS, and of a widget WRONG_VERSION, NO_STATE,
+ *   BAD_STATE, BAD_PATH, BUFFER_MISSING), with a `comm_close`.
+ * - comm_msg: NO_COMM; of a plain or an opaque comm FOR_KERNEL; of a widget DELIVERED, with an `update` for a
+ *   `request_state` and ROLGUNAI_WIDGET_ECHO's `echo_update`; FOR_KERNEL; FAULT (NO_METHOD, UNKNOWN_METHOD, BAD_STATE,
+ *   BAD_PATH, BUFFER_MISSING), and the state is as it was.
+ * - comm_close: CLOSED; NO_COMM.
+ * - comm_info_request: COMM_INFO, with a `comm_info_reply`. */
 uint32_t rolgunai_handle_message(rolgunai_handle *handle, uint32_t client, const uint8_t *header, size_t header_size,
                                  const uint8_t *metadata, size_t metadata_size, const uint8_t *content,
                                  size_t content_size, const uint8_t *buffers, size_t buffers_size,
@@ -250,39 +283,46 @@ static inline uint32_t rolgunai_handle_line(rolgunai_handle *handle, const uint8
 
 /* ---- What the kernel does. Ids and names are UTF-8 and not ended by a zero; JSON texts and buffers are handed in as
  * to rolgunai_handle_message. Tested are the handle, the kind, the sizes, the names in their order, the JSON texts in
- * theirs, and how many calls were made. */
+ * theirs, and how many calls were made. Any call but rolgunai_state may be BAD (BAD_CLIENT, and what is named there),
+ * and then sends nothing. */
 
-/* Registers a new target of a kind under a name. A target that has the name is replaced, and its comms are closed. */
+/* Registers a new target of a kind under a name. A target that has the name is replaced, and its comms are closed.
+ * Replies: REGISTERED; REPLACED, with a `comm_close` for each of these comms. */
 uint32_t rolgunai_register(rolgunai_handle *handle, uint32_t client, uint32_t kind, const uint8_t *name,
                            size_t name_size, uint32_t *reply, size_t *sent);
 
-/* Takes the target of a name out: its comms are closed, then it ends. */
+/* Takes the target of a name out: its comms are closed, then it ends. Replies: UNREGISTERED, with a `comm_close` for
+ * each of these comms; NO_TARGET. */
 uint32_t rolgunai_unregister(rolgunai_handle *handle, uint32_t client, const uint8_t *name, size_t name_size,
                              uint32_t *reply, size_t *sent);
 
 /* Opens a comm towards a widget target: a widget of the kernel, with its state, a JSON object, and the buffers at the
- * paths, a JSON list of lists of strings and indices. The comm's id is the UUID, in its form with hyphens. */
+ * paths, a JSON list of lists of strings and indices. The comm's id is the UUID, in its form with hyphens. Replies:
+ * LAUNCHED, with a `comm_open`; ID_IN_USE, NO_TARGET, NOT_WIDGET, REFUSED (TOO_MANY_COMMS), which send nothing; BAD
+ * (BAD_UUID, BAD_FIELD, NOT_WHOLE, BAD_PATH, BUFFER_MISSING). */
 uint32_t rolgunai_launch(rolgunai_handle *handle, uint32_t client, const uint8_t *target, size_t target_size,
                          const uint8_t *uuid, size_t uuid_size, const uint8_t *state, size_t state_size,
                          const uint8_t *paths, size_t paths_size, const uint8_t *buffers, size_t buffers_size,
                          const size_t *sizes, size_t count, uint32_t *reply, size_t *sent);
 
-/* Changes these keys of a widget's state, and sends an `update` with just them. */
+/* Changes these keys of a widget's state, and sends an `update` with just them. Replies: DELIVERED; NO_COMM,
+ * NOT_WIDGET; BAD (BAD_FIELD, NOT_WHOLE, BAD_PATH, BUFFER_MISSING). */
 uint32_t rolgunai_push(rolgunai_handle *handle, uint32_t client, const uint8_t *id, size_t id_size,
                        const uint8_t *state, size_t state_size, const uint8_t *paths, size_t paths_size,
                        const uint8_t *buffers, size_t buffers_size, const size_t *sizes, size_t count,
                        uint32_t *reply, size_t *sent);
 
-/* Sends a `comm_msg` with this `data`, a JSON object, on a comm, past its target. */
+/* Sends a `comm_msg` with this `data`, a JSON object, on a comm, past its target: no state changes. Replies: DELIVERED;
+ * NO_COMM; BAD (BAD_FIELD, NOT_WHOLE). */
 uint32_t rolgunai_send(rolgunai_handle *handle, uint32_t client, const uint8_t *id, size_t id_size,
                        const uint8_t *data, size_t data_size, const uint8_t *buffers, size_t buffers_size,
                        const size_t *sizes, size_t count, uint32_t *reply, size_t *sent);
 
-/* Closes a comm, and sends a `comm_close`. */
+/* Closes a comm, and sends a `comm_close`. Replies: CLOSED; NO_COMM. */
 uint32_t rolgunai_close(rolgunai_handle *handle, uint32_t client, const uint8_t *id, size_t id_size, uint32_t *reply,
                         size_t *sent);
 
-/* Reads a comm's state: ROLGUNAI_REPLY_STATE, ROLGUNAI_REPLY_NO_STATE or ROLGUNAI_REPLY_NO_COMM. */
+/* Reads a comm's state. Replies: STATE, NO_STATE, NO_COMM. */
 uint32_t rolgunai_state(rolgunai_handle *handle, const uint8_t *id, size_t id_size, uint32_t *reply, size_t *sent);
 
 #ifdef __cplusplus
