@@ -1,8 +1,8 @@
 // Rolgunai, the proved comm manager, in C++20: this header and rolgunai_types.hpp over bindings/c/rolgunai.h, to be
 // copied beside it.
 //
-//     rolgunai::manager manager;
-//     manager.register_target(rolgunai::kind::widget, "jupyter.widget");
+//     rolgunai::manager manager(4096, rolgunai::numbers::any);
+//     manager.register_target(rolgunai::kind::widget_echo, "jupyter.widget");
 //     rolgunai::outcome came = manager.message(header, metadata, content, buffers);
 //     for (const rolgunai::sent &sent : came.sent) ..
 //     manager.push(id, R"({"value":7})");

@@ -3,8 +3,8 @@
 //! linked with `librolgunai.a` or `librolgunai.so`.
 //!
 //! ```ignore
-//! let mut manager = Manager::new(4096)?;
-//! manager.register(0, Kind::Widget, "jupyter.widget")?;
+//! let mut manager = Manager::with_decimals(4096)?;
+//! manager.register(0, Kind::WidgetEcho, "jupyter.widget")?;
 //! let came = manager.message(0, header, metadata, content, &buffers)?;
 //! for sent in came.sent { .. }
 //! manager.push(0, id, br#"{"value":7}"#, b"[]", &[])?;

@@ -6,7 +6,7 @@ reply, what it is about, and the messages that are to be sent.
 
     >>> from rolgunai import Kind, Manager, Reply
     >>> manager = Manager(decimals=True)
-    >>> manager.register(Kind.WIDGET, "jupyter.widget").reply.name
+    >>> manager.register(Kind.WIDGET_ECHO, "jupyter.widget").reply.name
     'REGISTERED'
 
 A widget of the kernel: its `comm_open` is to be sent to the frontends.
