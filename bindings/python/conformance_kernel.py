@@ -84,7 +84,8 @@ class BrokenKernel(Kernel):
         self.comms, self.fault = Comms(), works
         for kind in COMM_TYPES:
             self.shell_handlers[kind] = self.control_handlers[kind] = self.hears
-        self.control_handlers["create_subshell_request"] = self.control_handlers["delete_subshell_request"] = self.subshell
+        for kind in ("create_subshell_request", "delete_subshell_request"):
+            self.control_handlers[kind] = self.subshell
 
     @property
     def kernel_info(self):

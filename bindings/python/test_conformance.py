@@ -1,5 +1,5 @@
 """Tests of the conformance suite: each scenario fails on a kernel that is broken so (conformance_kernel.py), and passes
-on the same kernel unbroken; on this package's kernel nothing fails, and on the stock one what conformance_known.txt says.
+on the same kernel unbroken; on this package's kernel nothing fails, on the stock one what conformance_known.txt says.
 
     test_conformance.py PACKAGE              # the folder where the package is built
     test_conformance.py PACKAGE --kernels    # this package's kernel and the stock one alone
@@ -24,7 +24,7 @@ from rolgunai.conformance.scenario import ScenarioError, parse, scenarios
 HERE = Path(__file__).resolve().parent
 CELLS = (
     "echo unregister greeter closer raiser listener heard open send close ipywidgets widget widget_value widget_set "
-    "widget_close image image_value buffers close_data open_unregistered "
+    "widget_close image image_value buffers own_ids close_data open_unregistered "
     "control churn_comms churn_widgets churn_end"
 ).split()
 HEAD = "title: t\ngroup: opening\nsource: s\nholds: h\nfault: f\n\n"

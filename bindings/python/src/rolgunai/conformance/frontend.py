@@ -89,7 +89,8 @@ class Frontend:
 
     def answers(self, seconds: float) -> bool:
         """Whether the kernel is heard on iopub too: what is subscribed to late is lost."""
-        probe, channels = self.send("shell", "kernel_info_request", b"{}"), set()
+        probe = self.send("shell", "kernel_info_request", b"{}")
+        channels: set[str] = set()
         end = time.monotonic() + seconds
         while time.monotonic() < end and channels != {"iopub", "shell"}:
             channels |= {message.channel for message in self.receive(0.1) if message.parent == probe}
@@ -121,7 +122,7 @@ class Frontend:
 
     def receive(self, seconds: float) -> list[Message]:
         """What comes next on any channel, or nothing where that takes longer."""
-        ready = dict(self.poller.poll(seconds * 1000))
+        ready = dict(self.poller.poll(int(seconds * 1000)))
         found = []
         for channel, socket in self.sockets.items():
             if socket not in ready:

@@ -116,6 +116,7 @@ class Playing:
     def step(self, number: int, step: Step) -> None:
         """Does a step, and compares what came with what is due."""
         sent: list[str] = []
+        due: list[Message] = []
         if step.action == "storm":
             if step.parts.kind == "subshell" and SUBSHELLS not in self.frontend.info.get("supported_features", []):
                 raise Skip("the kernel has no subshells")
@@ -123,7 +124,7 @@ class Playing:
                 self.fail(fault)
             return
         if step.action == "cell":
-            came, due = self.run(step.parts.kind), []
+            came = self.run(step.parts.kind)
             if step.parts.kind == "unregister":
                 self.reference.unregister("echo")
         else:
@@ -140,7 +141,9 @@ class Playing:
 
     def send(self, step: Step) -> tuple[list[str], list[Message]]:
         """Sends a step's messages. Gives their msg_ids and what the proved manager answers to them."""
-        parts, sent, due = step.parts, [], []
+        parts = step.parts
+        sent: list[str] = []
+        due: list[Message] = []
         metadata = json.loads(parts.metadata or "{}")
         buffers = buffers_of(parts.buffers)
         for number in range(step.times):

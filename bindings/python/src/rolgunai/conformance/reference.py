@@ -57,8 +57,8 @@ class Reference:
             if target not in self.known:
                 self.known.add(target)
                 self.manager.register(Kind.OPAQUE, target)
-            texts = (json.dumps(part) for part in ({"msg_type": "comm_open"}, came.metadata, content))
-            self.manager.message(*texts, came.buffers)
+            header, metadata = json.dumps({"msg_type": "comm_open"}), json.dumps(came.metadata)
+            self.manager.message(header, metadata, json.dumps(content), came.buffers)
         elif came.kind == "comm_msg" and data.get("method") == "update":
             state, paths = json.dumps(data.get("state", {})), json.dumps(data.get("buffer_paths", []))
             self.manager.push(comm_id, state, paths, came.buffers)

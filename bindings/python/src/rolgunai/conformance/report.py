@@ -11,7 +11,8 @@ from typing import Any
 from rolgunai.conformance.play import FAILED, Result
 
 Json = Any
-STYLE = "body{font:14px sans-serif;margin:2em;max-width:75em}td,th{text-align:left;padding:.2em .8em;vertical-align:top}\
+STYLE = "body{font:14px sans-serif;margin:2em;max-width:75em}\
+td,th{text-align:left;padding:.2em .8em;vertical-align:top}\
 tr{border-top:1px solid #ddd}pre{background:#f4f4f4;padding:.6em;white-space:pre-wrap;overflow-wrap:anywhere}\
 .failed{color:#b00}.passed{color:#070}.skipped,.choice{color:#666}"
 
