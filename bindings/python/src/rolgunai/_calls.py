@@ -10,10 +10,11 @@ import collections
 from collections.abc import Callable, Collection
 from typing import Any
 
-from rolgunai import ArgumentError, Kind, Manager, Outcome, OutcomeMemoryError, Reason, Reply, old_widgets
+from rolgunai import ArgumentError, Kind, Manager, Outcome, OutcomeMemoryError, Reason, Reply, _widgets, old_widgets
 from rolgunai._kernel import WIDGET, CommRefused, Message, Send, State
 from rolgunai._long_buffers import Kept, LongBuffers
-from rolgunai._watches import Watches
+from rolgunai._update import Update
+from rolgunai._watches import Watch, Watches
 from rolgunai._wire import read
 
 MOST_COMMS = 4096
@@ -23,8 +24,9 @@ _HEADERS = {
     kind: b'{"msg_type":"%s"}' % kind.encode() for kind in ("comm_open", "comm_msg", "comm_close", "comm_info_request")
 }
 # By names of their own, and not in a set: Python 3.11 runs code of its own to find an enumeration's member or its hash.
-_DELIVERED, _OPENED, _CLOSED, _NO_COMM = Reply.DELIVERED, Reply.OPENED, Reply.CLOSED, Reply.NO_COMM
-DONE = (_DELIVERED, Reply.FOR_KERNEL, _OPENED, _CLOSED, Reply.COMM_INFO, Reply.STATE)
+DELIVERED, OPENED, CLOSED, NO_COMM = Reply.DELIVERED, Reply.OPENED, Reply.CLOSED, Reply.NO_COMM
+_TAKEN = (DELIVERED, OPENED)
+DONE = (DELIVERED, Reply.FOR_KERNEL, OPENED, CLOSED, Reply.COMM_INFO, Reply.STATE)
 Pack = Callable[[Any], bytes]
 
 
@@ -79,8 +81,11 @@ class Calls:
 
     # What frontends say.
 
-    def hear(self, kind: str, msg: Message, content: dict[str, Any], text: bytes, buffers: Any) -> Outcome:
-        """Plays a message of a frontend, with this content, of which `text` is the JSON."""
+    def hear(
+        self, kind: str, msg: Message, content: dict[str, Any], text: bytes, buffers: Any, watch: Watch | None = None
+    ) -> Outcome:
+        """Plays a message of a frontend, with this content, of which `text` is the JSON. A watch begins with a widget's
+        open or an update that the manager takes."""
         metadata = NOTHING
         if kind == "comm_open":
             metadata = self._pack(msg.get("metadata") or {})
@@ -92,20 +97,27 @@ class Calls:
             outcome = self._manager.message(_HEADERS[kind], metadata, text, frames)
         except Exception as error:
             outcome = self._after(error, kept)
-        if outcome.reply is _CLOSED:
+        if outcome.reply is CLOSED:
             self._ended(content["comm_id"])
         else:
-            if outcome.reply is _OPENED:
+            if outcome.reply is OPENED:
                 self._began(content["comm_id"], content["target_name"])
             if kept or self.long.tokens:
                 self._keep_long(kind, content, outcome, kept)
         if outcome.sent:
             self._send_all(outcome, msg)
+        if watch is not None and outcome.reply in _TAKEN:
+            self.watches.begin(watch, _widgets.state_of(content["data"], buffers))
         return outcome
+
+    def end_watch(self, watch: Watch) -> None:
+        """The callbacks are through that ran while it was told."""
+        self.watches.end(watch)
+        self.long.settle()
 
     def _keep_long(self, kind: str, content: dict[str, Any], outcome: Outcome, kept: Kept) -> None:
         """Of what a frontend sent, an open's state and an update's stay with the manager."""
-        is_taken = outcome.reply is _OPENED if kind == "comm_open" else outcome.reply is _DELIVERED
+        is_taken = outcome.reply is OPENED if kind == "comm_open" else outcome.reply is DELIVERED
         data = content.get("data") if is_taken else None
         state = data.get("state") if isinstance(data, dict) else None
         if (
@@ -113,7 +125,8 @@ class Calls:
             and isinstance(state, dict)
             and (kind == "comm_open" or data.get("method") == "update")
         ):
-            self.long.taken(content["comm_id"], state, data.get("buffer_paths") or [], kept)
+            roots = [path[0] for path in data.get("buffer_paths") or ()]
+            self.long.taken(content["comm_id"], state, roots, kept)
         else:
             self.long.refused(kept)
 
@@ -145,42 +158,34 @@ class Calls:
         is_open = False
         try:
             outcome = self._manager.message(_HEADERS["comm_open"], _VERSION, text, frames)
-            is_open = outcome.reply is _OPENED
+            is_open = outcome.reply is OPENED
         except Exception as error:
             outcome = self._after(error, kept)
-            is_open = outcome.reply is _OPENED
+            is_open = outcome.reply is OPENED
         finally:
             if not is_open:
                 self._ended(comm_id)
         if not is_open:
             self.long.refused(kept)
         elif kept:
-            self.long.taken(comm_id, {}, paths or [], kept)
+            self.long.taken(comm_id, (), [path[0] for path in paths or ()], kept)
         self._agree("comm_open", outcome)
 
-    def push(
-        self,
-        comm_id: str,
-        state: bytes,
-        paths: bytes,
-        buffers: Any,
-        parent: Any,
-        metadata: dict[str, Any] | None = None,
-    ) -> bool:
-        """Changes these keys of a widget's state, and sends that; gives whether the comm is open."""
+    def push(self, comm_id: str, update: Update, parent: Any, metadata: dict[str, Any] | None = None) -> bool:
+        """Changes keys of a widget's state, and sends that; gives whether the comm is open."""
+        state, paths, keys, roots, buffers = update
         frames, kept = self.long.handed_in(buffers) if buffers else ((), [])
         try:
             outcome = self._manager.push(comm_id, state, paths, frames)
         except Exception as error:
             outcome = self._after(error, kept)
-        if outcome.reply is not _DELIVERED:
+        if outcome.reply is not DELIVERED:
             self.long.refused(kept)
             return self._is_open("comm_msg", outcome)
-        if kept or comm_id in self.long.tokens or comm_id in self.watches.by_comm:
-            placed = read(paths)
-            if kept or comm_id in self.long.tokens:
-                self.long.taken(comm_id, read(state), placed, kept)
-            self.watches.told(comm_id, state, placed, buffers)
+        if kept or comm_id in self.long.tokens:
+            self.long.taken(comm_id, keys, roots, kept)
+        if comm_id in self.watches.by_comm:
+            self.watches.told(comm_id, _widgets.placed(read(state), read(paths), buffers))
         self._send_all(outcome, parent, metadata)
         return True
 
@@ -190,7 +195,7 @@ class Calls:
             outcome = self._manager.send(comm_id, NOTHING)
         except Exception as error:
             outcome = self._after(error, [])
-        if outcome.reply is not _DELIVERED and not self._is_open(kind, outcome):
+        if outcome.reply is not DELIVERED and not self._is_open(kind, outcome):
             return False
         self.send(kind, comm_id, content, metadata, buffers, parent)
         return True
@@ -230,7 +235,7 @@ class Calls:
 
     def _is_open(self, kind: str, outcome: Outcome) -> bool:
         """Whether the comm that a call was about is open. What else the manager refuses is raised."""
-        if outcome.reply is not _NO_COMM:
+        if outcome.reply is not NO_COMM:
             self._agree(kind, outcome)
             return True
         return False

@@ -8,14 +8,14 @@ token too. So no bytes of a user's are taken for a token.
     >>> frames, kept = long.handed_in([b"short", picture])
     >>> frames
     [b'short', b'00000000000000000000000']
-    >>> long.taken("a", {}, [["x"], ["y"]], kept)
+    >>> long.taken("a", (), ["x", "y"], kept)
     >>> long.given_out(frames)[1] is picture
     True
 
 An update replaces what stands under each key of a state that it names, so that a buffer is let go of where its key has
 another value, or where its comm ends.
 
-    >>> long.taken("a", {"y": None}, [], [])
+    >>> long.taken("a", ["y"], [], [])
     >>> len(long)
     0
 
@@ -33,7 +33,7 @@ What comes in a frontend's message may be changed until its callbacks ran, which
 from __future__ import annotations
 
 import itertools
-from collections.abc import Iterable
+from collections.abc import Iterable, Sequence
 from typing import Any
 
 SIZE, LONG = 23, 2**16
@@ -80,17 +80,16 @@ class LongBuffers:
         """The manager didn't take them."""
         self._drop(token for _, token in kept)
 
-    def taken(self, comm_id: str, state: Any, paths: list[list[Any]], kept: Kept) -> None:
-        """The manager took an open or an update with this state, as JSON has it: what it replaces is let go of."""
+    def taken(self, comm_id: str, keys: Iterable[str], roots: Sequence[str], kept: Kept) -> None:
+        """The manager took an open or an update of a state with these keys, with a buffer somewhere under each of these
+        roots: what it replaces is let go of."""
         tokens = self.tokens.setdefault(comm_id, {})
         if tokens:
-            for key in state:
+            for key in (*keys, *roots):
                 self._drop(tokens.pop(key, ()))
-            for path in paths:
-                self._drop(tokens.pop(path[0], ()))
         for place, token in kept:
-            if place < len(paths):
-                tokens.setdefault(paths[place][0], []).append(token)
+            if place < len(roots):
+                tokens.setdefault(roots[place], []).append(token)
             else:
                 self._drop((token,))
         if not tokens:

@@ -11,6 +11,7 @@ from rolgunai import old_widgets
 from rolgunai._calls import Calls, Pack
 from rolgunai._kernel import WIDGET, Comm
 from rolgunai._native import Turns
+from rolgunai._update import Update, update_of
 
 VERSION = {"version": "2.1.0"}
 
@@ -59,17 +60,12 @@ class Publisher:
     ) -> None:
         if comm_id in self._calls.old:
             data = old_widgets.from_kernel("comm_msg", data)
-        state, paths = data.get("state"), data.get("buffer_paths")
-        text = self._pack({} if state is None else state)
-        where = self._pack(paths) if paths else b"[]"
-        buffers = list(buffers) if buffers else ()
-        self._turns.call_in_turn(self._push, comm, comm_id, text, where, buffers, parent, metadata)
+        update = update_of(data.get("state"), data.get("buffer_paths"), buffers, self._pack)
+        self._turns.call_in_turn(self._push, comm, comm_id, update, parent, metadata)
 
-    def _push(
-        self, comm: Comm, comm_id: str, state: bytes, paths: bytes, buffers: Any, parent: Any, metadata: Any
-    ) -> None:
+    def _push(self, comm: Comm, comm_id: str, update: Update, parent: Any, metadata: Any) -> None:
         is_anothers = self._comms.get(comm_id, comm) is not comm
-        if is_anothers or not self._calls.push(comm_id, state, paths, buffers, parent, metadata):
+        if is_anothers or not self._calls.push(comm_id, update, parent, metadata):
             self._goes_nowhere("comm_msg", comm_id)
 
     def _say(

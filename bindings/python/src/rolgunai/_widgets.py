@@ -69,6 +69,12 @@ def placed(state: Data, paths: Iterable[list[Any]], buffers: Iterable[Any]) -> D
     return state
 
 
+def state_of(data: Data, buffers: Iterable[Any]) -> Data:
+    """The state that the data of an open or an update have. The manager takes nothing of data without one."""
+    state = data.get("state")
+    return {} if state is None else placed(state, data.get("buffer_paths") or (), buffers)
+
+
 def separated(value: Any, path: list[Any], paths: list[list[Any]], buffers: list[Any]) -> Any:
     """A state without its bytes, whose paths and buffers are appended."""
     if isinstance(value, dict):

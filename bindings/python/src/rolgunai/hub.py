@@ -45,13 +45,14 @@ import weakref
 from collections.abc import Callable
 from typing import Any
 
-from rolgunai import Outcome, Reason, Reply, _widgets, old_widgets
-from rolgunai._calls import DONE, Calls, Pack
-from rolgunai._kernel import WIDGET, Comm, CommRefused, Message, Send, State
+from rolgunai import Outcome, Reason, _widgets, old_widgets
+from rolgunai._calls import CLOSED, DONE, NO_COMM, OPENED, Calls, Pack
+from rolgunai._kernel import WIDGET, Comm, CommRefused, Message, Send
 from rolgunai._last_word import LastWord
 from rolgunai._native import Turns
 from rolgunai._page_loads import PageLoads, asks_for_states
 from rolgunai._publisher import VERSION, Publisher
+from rolgunai._watches import Watch
 from rolgunai._wire import packer
 
 __all__ = ["CommRefused", "Hub"]
@@ -63,12 +64,6 @@ _NOT_PLAYABLE = (TypeError, ValueError, RecursionError)
 def _object(content: Any) -> dict[str, Any]:
     """The content of a message; one that isn't an object counts as empty, and is refused."""
     return content if isinstance(content, dict) else {}
-
-
-def _placed(data: dict[str, Any], buffers: Any) -> State:
-    """The state that the data of an open or an update have. The manager takes nothing of data without one."""
-    state = data.get("state")
-    return {} if state is None else _widgets.placed(state, data.get("buffer_paths") or (), buffers)
 
 
 class Hub:
@@ -210,18 +205,22 @@ class Hub:
             played, heard = {**content, "data": {"state": {}}}, {**msg, "metadata": VERSION}
         elif target_name != WIDGET:  # an opaque target, or none
             played, buffers = {"comm_id": content.get("comm_id"), "target_name": target_name}, ()
-        if self._heard("comm_open", heard, played, buffers) is None:
-            return
-        comm = self._comm_of(content)
-        if comm is None:  # it was closed meanwhile
-            return
-        if target_name != WIDGET:
-            self._accept(comm, msg)
-            return
-        if is_old:
-            self._calls.old.add(comm.comm_id)
-        state = {} if is_old else _placed(content["data"], buffers)
-        with self._last_word.watched(comm.comm_id, state) as watch:
+        if target_name == WIDGET:
+            self._widget_open(msg, heard, played, buffers, is_old)
+        elif self._heard("comm_open", heard, played, buffers) is not None:
+            comm = self._comm_of(content)
+            if comm is not None:  # else it was closed meanwhile
+                self._accept(comm, msg)
+
+    def _widget_open(self, msg: Message, heard: Message, played: dict[str, Any], buffers: Any, is_old: bool) -> None:
+        with self._last_word.watch(str(played.get("comm_id"))) as watch:
+            if self._heard("comm_open", heard, played, buffers, watch) is None:
+                return
+            comm = self._comm_of(played)
+            if comm is None:
+                return
+            if is_old:
+                self._calls.old.add(comm.comm_id)
             if self._accept(comm, msg):
                 self._last_word.say(comm, watch)
 
@@ -244,13 +243,10 @@ class Hub:
     def _comm_msg(self, msg: Message) -> None:
         content = _object(msg.get("content"))
         comm, data = self._comm_of(content), content.get("data")
-        if comm is None:
+        if comm is not None and isinstance(data, dict) and self._is_widget(comm, content["comm_id"]):
+            self._widget_msg(comm, msg, content, data)
+        elif comm is None or comm.target_name == WIDGET:
             self._heard("comm_msg", msg, content, msg.get("buffers"))
-        elif comm.target_name == WIDGET:
-            if isinstance(data, dict):
-                self._widget_msg(comm, msg, content, data)
-            else:
-                self._heard("comm_msg", msg, content, msg.get("buffers"))
         elif self._heard("comm_msg", msg, {"comm_id": comm.comm_id}, ()) is not None:
             if asks_for_states(comm, data):
                 self._page_loads.answer(comm, tuple(self.comms.values()), msg)
@@ -272,16 +268,23 @@ class Hub:
         comm_id = content.get("comm_id")
         return self.comms.get(comm_id) if isinstance(comm_id, str) else None
 
-    def _heard(self, kind: str, msg: Message, content: dict[str, Any], buffers: Any) -> Outcome | None:
-        """Plays a message of a frontend, with this content; None where it is refused, which is logged."""
+    def _is_widget(self, comm: Comm, comm_id: str) -> bool:
+        """Whether a comm is a widget's; it has its target by an attribute of traitlets', whose reading takes longer."""
+        return (self._calls.open_comms.get(comm_id) or comm.target_name) == WIDGET
+
+    def _heard(
+        self, kind: str, msg: Message, content: dict[str, Any], buffers: Any, watch: Watch | None = None
+    ) -> Outcome | None:
+        """Plays a message of a frontend, with this content; None where it is refused, which is logged. A watch begins
+        with what is heard."""
         try:
-            outcome = self._turns.call(self._hear, kind, msg, content, self._pack(content), buffers)
+            outcome = self._turns.call(self._hear, kind, msg, content, self._pack(content), buffers, watch)
         except _NOT_PLAYABLE as error:
             self.log.warning("%s: %s", kind, error)
             return None
         if outcome.reply in DONE:
             return outcome
-        if outcome.reply is Reply.NO_COMM:
+        if outcome.reply is NO_COMM:
             self._comm_log.warning("No such comm: %s", content.get("comm_id"))
         elif outcome.reason is Reason.NO_TARGET:
             self._comm_log.error("No such comm target registered: %s", content.get("target_name"))
@@ -289,31 +292,35 @@ class Hub:
             self.log.warning("%s: %s", kind, outcome.words)
         return None
 
-    def _hear(self, kind: str, msg: Message, content: dict[str, Any], text: bytes, buffers: Any) -> Outcome:
+    def _hear(
+        self, kind: str, msg: Message, content: dict[str, Any], text: bytes, buffers: Any, watch: Watch | None
+    ) -> Outcome:
         if kind == "comm_open":
-            return self._hear_open(msg, content, text, buffers)
+            return self._hear_open(msg, content, text, buffers, watch)
         comm = self._comm_of(content)
         if comm is not None and content["comm_id"] not in self._calls.open_comms:
             self._open_by_hand(comm)
-        outcome = self._calls.hear(kind, msg, content, text, buffers)
-        if comm is not None and outcome.reply is Reply.CLOSED:
+        outcome = self._calls.hear(kind, msg, content, text, buffers, watch)
+        if outcome.reply is CLOSED and comm is not None:
             self.comms.pop(comm.comm_id, None)  # which a close by the kernel may have taken out meanwhile
             comm._closed = True
             with contextlib.suppress(TypeError):  # a class that has no weak references
                 self._closed_by_frontends.add(comm)
         return outcome
 
-    def _hear_open(self, msg: Message, content: dict[str, Any], text: bytes, buffers: Any) -> Outcome:
+    def _hear_open(
+        self, msg: Message, content: dict[str, Any], text: bytes, buffers: Any, watch: Watch | None
+    ) -> Outcome:
         outcome = None
         try:
-            outcome = self._calls.hear("comm_open", msg, content, text, buffers)
-            if outcome.reply is Reply.OPENED:
+            outcome = self._calls.hear("comm_open", msg, content, text, buffers, watch)
+            if outcome.reply is OPENED:
                 comm = self._make(comm_id=content["comm_id"], target_name=content["target_name"], primary=False)
                 if comm.comm_id != content["comm_id"]:  # `comm` has another one where it is empty
                     comm.comm_id = content["comm_id"]
                 self.register_comm(comm)
         except BaseException:
-            if outcome is None or outcome.reply is Reply.OPENED:
+            if outcome is None or outcome.reply is OPENED:
                 self._drop(content.get("comm_id"))
             raise
         return outcome
@@ -330,24 +337,28 @@ class Hub:
         if method == "request_state":
             self._state_request(comm, msg, content)
             return
-        is_update = method == "update"
-        buffers = list(msg.get("buffers") or ()) if is_update else []
-        keys = _widgets.keys_of(comm) if is_update else None
+        if method == "update":
+            self._widget_update(comm, msg, content, data, said)
+            return
+        played = content if said is data else {**content, "data": said}
+        if self._heard("comm_msg", msg, played, ()) is not None:
+            self._deliver(comm, msg)
+
+    def _widget_update(
+        self, comm: Comm, msg: Message, content: dict[str, Any], data: dict[str, Any], said: dict[str, Any]
+    ) -> None:
+        buffers, keys = list(msg.get("buffers") or ()), _widgets.keys_of(comm)
         if keys is not None:
             said, buffers = _widgets.known_part(said, buffers, keys)
         played = content if said is data else {**content, "data": said}
-        if self._heard("comm_msg", msg, played, buffers) is None:
-            return
         comm_id = content["comm_id"]
-        if comm_id in self._calls.old:
-            heard = old_widgets.to_kernel(data)
-            msg = msg if heard is data else {**msg, "content": {**content, "data": heard}}
-        if not is_update:
-            self._deliver(comm, msg)
-            return
-        held = _placed(said, buffers)
-        told = list(held)
-        with self._last_word.watched(comm_id, held) as watch:
+        with self._last_word.watch(comm_id) as watch:
+            if self._heard("comm_msg", msg, played, buffers, watch) is None:
+                return
+            told = list(watch.held)
+            if comm_id in self._calls.old:
+                heard = old_widgets.to_kernel(data)
+                msg = msg if heard is data else {**msg, "content": {**content, "data": heard}}
             self._deliver(comm, msg)
             self._last_word.say(comm, watch, told)
 
@@ -356,7 +367,8 @@ class Hub:
         the manager answers with what it has, which is what the frontends were told."""
         if comm.comm_id not in self._calls.open_comms:
             self._turns.call(self._open_by_hand, comm)
-        with self._last_word.watched(comm.comm_id, {}) as watch:
+        with self._last_word.watch(comm.comm_id) as watch:
+            self._turns.call(self._calls.watches.begin, watch, {})
             self._deliver(comm, msg)
             self._last_word.say(comm, watch, list(watch.held))
         if not watch.is_answered:
