@@ -12,7 +12,7 @@ from typing import Any
 Data = dict[str, Any]
 _NUMBERS = (int, float)
 _BYTES = (bytes, bytearray, memoryview)
-_PLAIN = (int, float, str, bool, bytes)
+_PLAIN = frozenset((int, float, str, bool, bytes, type(None)))
 _OF_IPYWIDGETS = "ipywidgets.widgets.widget"
 
 
@@ -60,7 +60,7 @@ def copied(value: Any) -> Any:
 
 def placed(state: Data, paths: Iterable[list[Any]], buffers: Iterable[Any]) -> Data:
     """A copy of a state, with its buffers at their paths."""
-    state = copied(state)
+    state = dict(state) if _PLAIN.issuperset(map(type, state.values())) else copied(state)
     for path, buffer in zip(paths, buffers):
         at: Any = state
         for step in path[:-1]:
@@ -101,16 +101,18 @@ def separated(value: Any, path: list[Any], paths: list[list[Any]], buffers: list
 
 def same(one: Any, other: Any) -> bool:
     """Whether two values are the same to a frontend: 3 and 3.0 are, and neither 1 and true nor a text and its bytes."""
+    if one is other:
+        return True
     if isinstance(one, bool) or isinstance(other, bool):
-        return one is other
+        return False
     if isinstance(one, _NUMBERS) and isinstance(other, _NUMBERS):
         return one == other or (one != one and other != other)  # nan
     if one is None or other is None:
-        return one is other
+        return False
     if isinstance(one, str) and isinstance(other, str):
         return one == other
     if isinstance(one, _BYTES) and isinstance(other, _BYTES):
-        return one is other or _flat(one) == _flat(other)
+        return _flat(one) == _flat(other)
     if isinstance(one, (list, tuple)) and isinstance(other, (list, tuple)):
         return len(one) == len(other) and all(map(same, one, other))
     if isinstance(one, dict) and isinstance(other, dict):
@@ -129,11 +131,10 @@ def differences(widget: Any, keys: Iterable[str] | None, held: Data, plain: Call
     if keys is None:
         holds = widget.get_state()
     else:
-        known = widget.keys
-        asked = [key for key in keys if key in known and not (key in held and _is_plainly(widget, key, held[key]))]
-        holds = {
-            key: widget.get_state(key)[key] for key in asked
-        }  # of several keys at once, Debian's ipywidgets 6 fails
+        asked = [key for key in keys if not (key in held and _is_plainly(widget, key, held[key]))]
+        known = widget.keys if asked else ()
+        # Of several keys at once, Debian's ipywidgets 6 fails.
+        holds = {key: widget.get_state(key)[key] for key in asked if key in known}
     return {key: value for key, value in holds.items() if not (key in held and _is_told(held[key], value, plain))}
 
 
@@ -147,7 +148,7 @@ def _is_plainly(widget: Any, key: str, held: Any) -> bool:
     kind = type(widget)
     if kind.get_state.__module__ != _OF_IPYWIDGETS or kind._trait_to_json.__module__ != _OF_IPYWIDGETS:
         return False
-    value = getattr(widget, key)
+    value = getattr(widget, key, widget)  # nothing plain, where it has no such key
     return type(value) in _PLAIN and same(held, value) and widget.trait_metadata(key, "to_json") is None
 
 

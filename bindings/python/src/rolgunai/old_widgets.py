@@ -10,8 +10,10 @@ from __future__ import annotations
 import json
 from typing import Any
 
+from rolgunai._native import write
+
 Data = dict[str, Any]
-_PATHS = '"data":{"buffer_paths":'
+_PATHS = b'"data":{"buffer_paths":'
 _decoder = json.JSONDecoder()
 
 
@@ -56,8 +58,9 @@ def to_frontend(content: bytes, has_buffers: bool) -> bytes:
     """The content of a `comm_msg` of the manager's in version 2, as a frontend reads it in version 1. An update without
     buffers is the same in both."""
     if has_buffers:  # the manager writes the keys in their order, so that the paths come first
-        before, _, after = content.decode().partition(_PATHS)
+        before, _, rest = content.partition(_PATHS)
+        after = rest.decode()
         paths, end = _decoder.raw_decode(after)
-        keys = ",".join([json.dumps(path[0]) for path in paths])
-        return f'{before}"data":{{"buffers":[{keys}]{after[end:]}'.encode()
+        keys = write([path[0] for path in paths])
+        return b'%s"data":{"buffers":%s%s' % (before, keys, after[end:].encode())
     return content
