@@ -30,6 +30,7 @@ NEEDED = (
 BY_NAME = "only because a proof file names what the edit took away"
 ONE_JOB = ["--jobs", "1"]
 ONLY = re.compile(r"only=\d+ proved=\d+$")  # how a check of some functions ends, which gives no verdict on the crate
+UNKNOWN = re.compile(r"has no function `([^`]+)`")
 
 
 def version():
@@ -112,9 +113,17 @@ class Kit:
 
     def refusal(self, name, texts, paths, kept):
         """The lines in which the prover refuses these functions of the crate with these texts; none where it proves
-        them, or can't read the texts."""
-        flags = [*ONE_JOB, *(word for path in paths for word in ("--only", path))]
-        ran = self.rt.checked(self.crates[name], texts, flags, kept and str(kept))
+        them, or can't read the texts. A function that goes by another name is left out."""
+        paths = list(paths)
+        while paths:
+            flags = [*ONE_JOB, *(word for path in paths for word in ("--only", path))]
+            ran = self.rt.checked(self.crates[name], texts, flags, kept and str(kept))
+            unknown = UNKNOWN.search(ran.stdout) if ran.returncode == 2 else None
+            if not unknown or unknown[1] not in paths:
+                break
+            paths.remove(unknown[1])
+        else:
+            return []
         lines = ran.stdout.rstrip("\n").split("\n")
         is_read = not any(self.rt.unread(it, texts) for it in lines) and not self.rt.rtlib.STALE.search(ran.stdout)
         return lines if is_read and ran.returncode == 1 and ONLY.match(lines[-1]) else []
