@@ -16,6 +16,7 @@ from rolgunai.conformance.storm import storm
 
 Json = Any
 SUBSHELLS = "kernel subshells"  # among the supported_features of kernel_info_reply
+EXCHANGE = 200  # lines of a report
 PASSED, FAILED, CHOICE, SKIPPED = "passed", "failed", "choice", "skipped"
 
 
@@ -97,7 +98,9 @@ class Playing:
         self.result.add(FAILED, reason)
 
     def log(self, mark: str, value: Json) -> None:
-        self.result.exchange.append(f"{mark} {shown(value)}")
+        exchange = self.result.exchange
+        if len(exchange) < EXCHANGE:
+            exchange.append(f"{mark} {shown(value)}" if len(exchange) < EXCHANGE - 1 else "..")
 
     def run(self, cell: str) -> Came:
         self.log("cell", f"[{cell}]")
