@@ -124,7 +124,8 @@ def appended(name):
 def other_versions(clone):
     """Commits a library whose version isn't the header's, and moves the tag and the record there."""
     committed(edited("crates/comm_c/src/version.rt", "VERSION: u32 = ", "VERSION: u32 = 7"))(clone)
-    gate.git(clone, "tag", "--force", gate.git(clone, "tag").strip())
+    for tag in gate.git(clone, "tag").split():
+        gate.git(clone, "tag", "--force", tag)
     gate.write(clone, gate.sources(clone), SAID, gate.kit_version())
 
 
@@ -138,7 +139,7 @@ REFUSED = [
     ("a file that isn't committed", edited("README.md", "# ", "#  "), "the checkout isn't clean:  M README.md"),
     ("a file that git doesn't know", lambda clone: (clone / "crates/x.rt").touch(), "isn't clean: ?? crates/x.rt"),
     ("sources that the gate didn't see", committed(appended("README.md")), "and other sources are checked out"),
-    ("no tag", lambda clone: gate.git(clone, "tag", "-d", gate.git(clone, "tag").strip()), "hasn't the tag v"),
+    ("no tag", lambda clone: gate.git(clone, "tag", "-d", *gate.git(clone, "tag").split()), "hasn't the tag v"),
     ("versions that differ", other_versions, "crates/comm_c/src/version.rt: "),
 ]
 
