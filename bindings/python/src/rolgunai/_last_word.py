@@ -35,12 +35,14 @@ class LastWord:
     def say(self, comm: Comm, watch: Watch, keys: Iterable[str] | None = None) -> None:
         """What the widget holds of the keys, or of all, goes to the manager and to every frontend where it isn't what
         they were told: a value that was refused, clamped, made another, or changed in place. Once it went, it is looked
-        at again, since another thread may have said something else meanwhile."""
+        at again, since another thread may have said something else meanwhile: who says the last word looks last."""
         widget = _widgets.widget_of(comm)
         if widget is None or comm._closed:
             return
         try:
-            for _ in range(_LOOKS):
+            looks = 0
+            while looks < _LOOKS:
+                times = watch.times
                 differ = _widgets.differences(widget, keys, watch.held, self._plain)
                 if not differ:
                     return
@@ -48,17 +50,19 @@ class LastWord:
                 buffers: list[Any] = []
                 state = _widgets.separated(differ, [], paths, buffers)
                 update = update_of(state, paths, buffers, self._pack)
-                self._turns.call(self._calls.push, comm.comm_id, update, self._request())
+                if not self._turns.call(self._calls.push, comm.comm_id, update, self._request()):
+                    return
+                looks += watch.times <= times + 1  # else another thread said something meanwhile
         except Exception:
             self._log.warning("The state of %s couldn't be compared", comm.comm_id, exc_info=True)
 
-    def ask(self, comm: Comm) -> None:
-        """Has the manager have what the widget holds, as where it was changed in place."""
+    def ask(self, comm: Comm, keys: Iterable[str] | None = None) -> None:
+        """Has the manager have what the widget holds of the keys, or of all, as where it was changed in place."""
         if _widgets.widget_of(comm) is None:
             return
         with self.watch(comm.comm_id) as watch:
             self._turns.call(self._begin_as_told, watch)
-            self.say(comm, watch)
+            self.say(comm, watch, keys)
 
     def _begin_as_told(self, watch: Watch) -> None:
         told = self._calls.state(watch.comm_id)

@@ -10,6 +10,7 @@ from typing import Any
 from rolgunai import old_widgets
 from rolgunai._calls import Calls, Pack
 from rolgunai._kernel import WIDGET, Comm
+from rolgunai._last_word import LastWord
 from rolgunai._native import Turns
 from rolgunai._update import Update, update_of
 
@@ -24,12 +25,13 @@ class Publisher:
         comms: dict[str, Any],
         calls: Calls,
         turns: Turns,
+        last_word: LastWord,
         pack: Pack,
         request: Callable[[], Any],
         log: logging.Logger,
     ) -> None:
         self._comms, self._calls, self._turns, self._pack = comms, calls, turns, pack
-        self._request, self._log, self._pid = request, log, os.getpid()
+        self._last_word, self._request, self._log, self._pid = last_word, request, log, os.getpid()
 
     def publish(
         self, comm: Any, msg_type: str, data: Any = None, metadata: Any = None, buffers: Any = None, **keys: Any
@@ -67,6 +69,8 @@ class Publisher:
         is_anothers = self._comms.get(comm_id, comm) is not comm
         if is_anothers or not self._calls.push(comm_id, update, parent, metadata):
             self._goes_nowhere("comm_msg", comm_id)
+        elif self._calls.watches.changes_hands(comm_id):
+            self._turns.call_unlocked(self._last_word.ask, comm, (*update.keys, *update.roots))
 
     def _say(
         self, comm: Comm, kind: str, comm_id: str, content: bytes, metadata: Any, buffers: Any, parent: Any

@@ -32,7 +32,9 @@ target are as the kernel has them.
 Threads. A call and the sending of what comes of it are under one lock, which no callback runs under. A close never
 waits for it: where another call is under way it comes right after that one, so that `__del__` may close a comm at any
 moment and on any thread. A frontend's message that comes amid a call of its own thread, as of a frontend in the same
-process that answers at once, is handled when that call is through.
+process that answers at once, is handled when that call is through. Where two threads speak of a widget's state, each
+looks afterwards whether what the frontends were told last is what the widget holds, and puts it right: what one says it
+may have read before the other set it.
 """
 
 from __future__ import annotations
@@ -103,7 +105,9 @@ class Hub:
         self._last_word = LastWord(self._calls, self._turns, self._pack, request, self.log)
         self._page_loads = PageLoads(self._calls, self._turns, self._last_word, self._pack)
         # What the kernel's code says on a comm: each of its messages comes this way, which is a short one.
-        self.publish = Publisher(self.comms, self._calls, self._turns, self._pack, request, self.log).publish
+        self.publish = Publisher(
+            self.comms, self._calls, self._turns, self._last_word, self._pack, request, self.log
+        ).publish
         self._closed_by_frontends: weakref.WeakSet[Any] = weakref.WeakSet()
 
     def _failed_later(self, error: Exception) -> None:
@@ -360,6 +364,8 @@ class Hub:
                 heard = old_widgets.to_kernel(data)
                 msg = msg if heard is data else {**msg, "content": {**content, "data": heard}}
             self._deliver(comm, msg)
+            if watch.is_crossed:  # an echo of ipywidgets' may have gone out after what another thread said
+                watch.held = {}
             self._last_word.say(comm, watch, told)
 
     def _state_request(self, comm: Comm, msg: Message, content: dict[str, Any]) -> None:
