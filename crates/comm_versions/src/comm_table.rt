@@ -172,6 +172,17 @@ impl CommTable {
         }
     }
 
+    /// The name of the target of an open comm; None where no comm has the id.
+    pub fn target(&self, id: &Text) -> Option<&Text>
+        ensures { option_map (λ t. t.now) result
+            ≡ option_map (λ c. c.target) (at self.now id.now) }
+    {
+        match self.get(id) {
+            Some(open) => Some(open.target()),
+            None => None,
+        }
+    }
+
     /// The open comms with the names of their targets, in the byte order of the ids: all, or those of one target. The
     /// strings are shared. Err: memory.
     pub fn infos(&self, alloc: Global, asked: Option<&Text>) -> Result<Infos, AllocError>
