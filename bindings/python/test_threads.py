@@ -209,6 +209,27 @@ def both_sides_close():
     check("each is closed by one of both", len(kernel.came()) + len(heard), 500)
 
 
+class Meanwhile(dict):
+    """Has something done once, right after a look at it."""
+
+    def get(self, *words):
+        found, act, self.act = super().get(*words), self.act, None
+        if act is not None:
+            act()
+        return found
+
+
+def closed_while_it_is_unregistered():
+    kernel = Kernel()
+    made = Comm("t", comm_id="x")
+    closes = {"content": {"comm_id": "x", "data": {}}}
+    kernel.manager.comms = comms = Meanwhile(kernel.manager.comms)
+    comms.act = lambda: kernel.manager.comm_close(None, None, closes)
+    check("a frontend closes it then: no error", raised(lambda: kernel.manager.unregister_comm(made)), None)
+    comms.act = None
+    check("nothing is left", (comms, kernel.info()), ({}, {}))
+
+
 def closes_beside_comm_info():
     """A close never waits; it is sent once the call that is under way on another thread is through."""
     kernel = Kernel()
@@ -234,6 +255,7 @@ if __name__ == "__main__":
             a_forked_child,
             locks_of_others,
             both_sides_close,
+            closed_while_it_is_unregistered,
             closes_beside_comm_info,
         )
     )

@@ -159,12 +159,12 @@ class Hub:
     def unregister_comm(self, comm: Any) -> None:
         """Forgets a comm, and never waits. One that is open yet is forgotten by the manager too, and nothing is sent.
         KeyError for one that isn't there, but for one that a frontend has closed meanwhile."""
-        if self.comms.get(comm.comm_id) is comm:
-            del self.comms[comm.comm_id]
+        comm_id = comm.comm_id
+        if self.comms.get(comm_id) is comm and self.comms.pop(comm_id, None) is comm:
             if not comm._closed and not self._is_forked():
-                self._turns.call_soon(self._drop, comm.comm_id)
+                self._turns.call_soon(self._drop, comm_id)
         elif comm not in self._closed_by_frontends:
-            raise KeyError(comm.comm_id)
+            raise KeyError(comm_id)
 
     def _drop(self, comm_id: Any) -> None:
         if isinstance(comm_id, str) and comm_id not in self.comms:
@@ -306,10 +306,10 @@ class Hub:
             self._open_by_hand(comm)
         outcome = self._calls.hear(kind, msg, content, text, buffers, watch)
         if outcome.reply is CLOSED and comm is not None:
-            self.comms.pop(comm.comm_id, None)  # which a close by the kernel may have taken out meanwhile
-            comm._closed = True
             with contextlib.suppress(TypeError):  # a class that has no weak references
-                self._closed_by_frontends.add(comm)
+                self._closed_by_frontends.add(comm)  # before another thread can see that it is gone
+            comm._closed = True
+            self.comms.pop(comm.comm_id, None)  # which a close by the kernel may have taken out meanwhile
         return outcome
 
     def _hear_open(
