@@ -130,17 +130,29 @@ enum way { CALL, IN_TURN, SOON, UNLOCKED };
 
 static PyObject *none_if(int status) { return status < 0 ? NULL : Py_NewRef(Py_None); }
 
+/* The call is put together before the look at the lock: amid that the garbage collector may run code of Python's, and
+ * so other threads. Nothing runs between the look and the list's growing, so that who has the lock finds it there. */
+static PyObject *made_soon(turns *self, int amid, PyObject *f, PyObject *arguments) {
+  PyObject *call = PyTuple_Pack(2, f, arguments), *result = NULL;
+  if (!call) return NULL;
+  if (amid || !PyThread_acquire_lock(self->lock, NOWAIT_LOCK)) {
+    int status = PyList_Append(self->waiting, call);
+    Py_DECREF(call);
+    return none_if(status);
+  }
+  result = turn(self, f, arguments);
+  Py_DECREF(call);
+  Py_XDECREF(result);
+  return none_if(result ? 0 : -1);
+}
+
 static PyObject *made_in(turns *self, enum way way, PyObject *f, PyObject *arguments) {
   int amid = is_amid(self);
   if (way == UNLOCKED && amid) return none_if(add(&self->afterwards, f, arguments));
   if (way == UNLOCKED || (way == CALL && amid)) return PyObject_Call(f, arguments, NULL);
   if (way == IN_TURN && amid) return none_if(add(&self->waiting, f, arguments));
-  if (way == SOON && (amid || !PyThread_acquire_lock(self->lock, NOWAIT_LOCK)))
-    return none_if(add(&self->waiting, f, arguments));
   if (way != SOON) return take(self) < 0 ? NULL : turn(self, f, arguments);
-  PyObject *result = turn(self, f, arguments);
-  Py_XDECREF(result);
-  return none_if(result ? 0 : -1);
+  return made_soon(self, amid, f, arguments);
 }
 
 static PyObject *make(PyObject *object, enum way way, PyObject *const *given, Py_ssize_t count) {
