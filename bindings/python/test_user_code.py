@@ -10,6 +10,7 @@ import sys
 
 from comms_kernel import WIDGET, Kernel, opened, said  # first, since it says where the package is
 from checks import check, raised, run
+from rolgunai import _calls
 from rolgunai._wire import packer
 from rolgunai.comms import Comm, CommRefused
 from test_widgets import Holds, keeps, takes
@@ -199,14 +200,33 @@ def many_targets():
     check("a comm of theirs stays", (kernel.info(), again), ({kept.comm_id: "kept"}, [None] * 3))
 
 
+# The error where as many comms are open as may be.
+FULL = "comm_open: refused too_many_comms: {0} comms are open, of which {1} are widgets, and no more than {0} may be. "
+CLOSE = (
+    "Close those that are no longer shown: widget.close(), comm.close(), or ipywidgets.Widget.close_all() for all "
+    "widgets"
+)
+
+
 def the_most_comms():
-    kernel = Kernel()
-    made = [Comm("t") for _ in range(4096)]
-    words = str(raised(lambda: Comm("t")))
-    for part in ("too_many_comms", "4096 comms are open", "close()", "Widget.close_all()"):
-        check(f"the error names {part}", part in words, True)
-    made.pop().close()
-    check("then there is room", (raised(lambda: Comm("t")), len(kernel.info())), (None, 4096))
+    limit = _calls.MOST_COMMS
+    for most, shown, widgets in ((3, "3", 1), (1200, "1,200", 1000), (4096, "4,096", 2)):
+        _calls.MOST_COMMS = most
+        kernel = Kernel()
+        targets = [WIDGET] * widgets + ["t"] * (most - widgets)
+        made = [Comm(target, {"state": {}}) for target in targets]
+        kernel.came()
+        words = FULL.format(shown, f"{widgets:,}") + CLOSE
+        for target in ("t", WIDGET):
+            check(f"the error of {target}", str(raised(lambda: Comm(target, {"state": {}}))), words)
+        kernel.manager.register_target("t", lambda opened, message: None)
+        with logged("rolgunai") as lines:
+            came = kernel.hear("comm_open", "x", {}, target_name="t")
+        closed = said("x", {}, kind="comm_close")
+        check("a frontend's open is closed, and logged so", (came, lines), ([closed], [("WARNING", words)]))
+        made.pop().close()
+        check("then there is room", (raised(lambda: Comm("t")), len(kernel.info())), (None, most))
+    _calls.MOST_COMMS = limit
 
 
 # Numbers that JSON hasn't, and what jupyter_client makes of them, strictly written.

@@ -241,15 +241,20 @@ class Calls:
         return False
 
     def _agree(self, kind: str, outcome: Outcome) -> None:
-        if outcome.reply in DONE:
-            return
+        if outcome.reply not in DONE:
+            raise CommRefused(self.words_of(kind, outcome))
+
+    def words_of(self, kind: str, outcome: Outcome) -> str:
+        """What isn't taken, and why, for people; where too many comms are open, what they can do."""
         words = f"{kind}: {outcome.words}"
-        if outcome.reason == Reason.TOO_MANY_COMMS:
-            words += (
-                f": {len(self.open_comms)} comms are open, and no more than {MOST_COMMS} may be. Close those that are "
-                "no longer shown: widget.close(), comm.close(), or ipywidgets.Widget.close_all() for all widgets"
-            )
-        raise CommRefused(words)
+        if outcome.reason != Reason.TOO_MANY_COMMS:
+            return words
+        widgets = self._open_of[WIDGET]
+        return (
+            f"{words}: {len(self.open_comms):,} comms are open, of which {widgets:,} are widgets, and no more than "
+            f"{MOST_COMMS:,} may be. Close those that are no longer shown: widget.close(), comm.close(), or "
+            "ipywidgets.Widget.close_all() for all widgets"
+        )
 
     def _send_all(self, outcome: Outcome, parent: Any, metadata: dict[str, Any] | None = None) -> None:
         """Sends what a call gives."""

@@ -293,7 +293,7 @@ class Hub:
         elif outcome.reason is Reason.NO_TARGET:
             self._comm_log.error("No such comm target registered: %s", content.get("target_name"))
         else:
-            self.log.warning("%s: %s", kind, outcome.words)
+            self.log.warning(self._calls.words_of(kind, outcome))
         return None
 
     def _hear(
