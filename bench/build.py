@@ -36,6 +36,8 @@ def build(name):
     words = ["cargo", "build", "--release", "--offline", "--quiet"]
     for it in source:
         words += ["--config", it]
+    if not shutil.which("cargo"):
+        raise SystemExit("bench/build.py: there is no cargo on the PATH (bench/README.md has the packages)")
     subprocess.run(words, cwd=work, env={**os.environ, "CARGO_BUILD_JOBS": "2"}, check=True)
     return program(name)
 
