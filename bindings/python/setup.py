@@ -56,7 +56,10 @@ setup(
     license="MIT",
     packages=["rolgunai", "rolgunai.conformance"],
     package_dir={"": "src"},
-    package_data={"rolgunai": ["py.typed", "*.pyi"], "rolgunai.conformance": ["scenarios/*.txt", "cells/*.txt"]},
+    package_data={
+        "rolgunai": ["py.typed", "*.pyi"],
+        "rolgunai.conformance": ["scenarios/*.txt", "cells/*.txt", "CONFORMANCE.md"],
+    },
     include_package_data=False,
     ext_modules=[NATIVE],
     cmdclass={"build_ext": BuildWithLibrary},

@@ -8,6 +8,7 @@ from release_lib import archives
 
 POLICY = "manylinux_2_17_x86_64"
 WANTED = "3.11 or later, with Debian's python3-dev, python3-setuptools and python3-wheel"
+NO_PACKAGE = ("test_*", "checks.py", "bench.py", "play.py", "stand_in", "comms_kernel.py", "conformance_*")
 ASKED = """import os, sys, sysconfig, setuptools, wheel
 sys.exit(sys.version_info < (3, 11) or not os.path.exists(os.path.join(sysconfig.get_path("include"), "Python.h")))"""
 
@@ -22,10 +23,12 @@ def builder():
 
 
 def laid_out(release, library, licenses, into):
-    """The folder that an sdist is made of: bindings/python without its tests, the library, its header, and licenses."""
+    """The folder that an sdist is made of: bindings/python without its tests, the page of the conformance suite, the
+    library, its header, and licenses."""
     source = release.sources / "bindings/python"
-    left_out = ("test_*", "checks.py", "bench.py", "play.py", "stand_in", "comms_kernel.py")
-    shutil.copytree(source, into, ignore=shutil.ignore_patterns(*left_out))
+    left_out = shutil.ignore_patterns(*NO_PACKAGE)
+    shutil.copytree(source, into, ignore=lambda folder, names: left_out(folder, names) if folder == str(source) else [])
+    shutil.copy(release.sources / "docs/CONFORMANCE.md", into / "src/rolgunai/conformance")
     (into / "packed").mkdir()
     shutil.copy(library, into / "packed/librolgunai.a")
     shutil.copy(release.sources / "bindings/c/rolgunai.h", into / "packed")
