@@ -1,5 +1,5 @@
 #!/usr/bin/env python3
-"""Builds the peers in plain Rust, offline, in bench/build: bench/build.py [line_peer] [thread_peer]
+"""Builds the peers in plain Rust, offline, in bench/out: bench/build.py [line_peer] [thread_peer]
 
 Their crates are Debian's (dpkg -L tells where), which stand in for the usual source. It prints the program of each."""
 import os
@@ -24,12 +24,12 @@ def crates():
 
 def program(name):
     """Where a peer's program is."""
-    return HERE / "build" / name / "target" / "release" / name
+    return HERE / "out" / name / "target" / "release" / name
 
 
 def build(name):
     """Builds one of the peers of the sources as they are."""
-    work = HERE / "build" / name
+    work = HERE / "out" / name
     shutil.rmtree(work / "src", ignore_errors=True)
     shutil.copytree(HERE / name, work, dirs_exist_ok=True)
     source = ['source.crates-io.replace-with="packaged"', f'source.packaged.directory="{crates()}"']
