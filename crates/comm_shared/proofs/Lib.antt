@@ -1,3 +1,4 @@
 pub mod Standing
 pub mod Clients
 pub mod Opening
+pub mod Crossing

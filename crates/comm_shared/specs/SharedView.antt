@@ -1,7 +1,8 @@
 -- What contracts see of a client: which history it belongs to, and of that what it made and has seen.
-use Rattle.std.specs.Prelude.{◌≡◌, ℕ, List, [], length}
+use Rattle.std.specs.Prelude.{◌≡◌, ◌≤◌, ℕ, List, [], length}
+use mathlib.Core.List.{IsPrefix}
 use Rattle.comm_messages.specs.declared.outgoing.Outgoing.{Outgoing}
-use Rattle.comm_core.specs.History.{mine}
+use Rattle.comm_core.specs.History.{IsLegal, mine}
 use Rattle.comm_core.specs.declared.call.Call.{Call}
 use Rattle.comm_core.specs.declared.entry.Entry.{Entry}
 use Rattle.comm_core.specs.declared.entry.Entry.TheVariants.{Change, End}
@@ -9,8 +10,8 @@ use Rattle.comm_core.specs.declared.limits.Limits.{Limits}
 use Rattle.comm_core.specs.declared.reply.Reply.{Reply}
 use Rattle.comm_versions.specs.Asked.{IsNext}
 use Rattle.comm_versions.specs.ClientView.{ClientView, client_view}
-use Rattle.comm_versions.specs.Known.{Known, Origin}
-use Rattle.comm_versions.specs.Mine.{IsAnswered}
+use Rattle.comm_versions.specs.Known.{Known, Origin, known}
+use Rattle.comm_versions.specs.Mine.{IsAnswered, made}
 
 pub record SharedView : Type 0 where
   pub origin : Origin
@@ -52,3 +53,25 @@ pub record HasMade (old new : SharedView) (asked : Call) (number : ℕ) (reply :
   pub history_is : answered.before ≡ before.entries
   pub origin_is : new.origin ≡ old.origin
   pub origin_stays : after.origin ≡ old.origin
+
+-- ---- reads
+
+-- what a client has seen of which history
+abbrev pub seen_of : SharedView → Known
+seen_of v = known v.origin v.own.seen
+
+-- A read was at this front, which is what has been seen now: a legal history of at least `since` entries, which begins
+-- with all that had been seen.
+pub record HasRead (old new : Known) (since front : ℕ) : Type 0 where
+  pub origin_is : new.origin ≡ old.origin
+  pub later : IsPrefix old.entries new.entries
+  pub reaches : since ≤ length new.entries
+  pub legal : IsLegal new.origin.clients new.origin.limit new.entries
+  pub front_is : front ≡ length new.entries
+
+-- the same client of the same history, which made the same changes
+pub record HasMadeNone (old new : SharedView) : Type 0 where
+  pub origin_is : new.origin ≡ old.origin
+  pub client_is : new.own.client ≡ old.own.client
+  pub number_is : new.own.number ≡ old.own.number
+  pub made_is : made new.own ≡ made old.own

@@ -1,5 +1,5 @@
 //! One change of a core whose history others read.
-ghost use Rattle.std.specs.Prelude.{◌≡◌, ◌+◌, ◌<◌, ◌++◌, ◌∷◌, [], length, IfOk, IfErr, OnErr, OnOk, option_map};
+ghost use Rattle.std.specs.Prelude.{◌≡◌, ◌+◌, ◌<◌, ◌++◌, ◌∷◌, [], length, IfOk, IfErr, IsErrOf, OnErr, OnOk, option_map};
 ghost use Rattle.std.specs.Prelude.{slice_index};
 ghost use Rattle.comm_core.specs.History.{mine};
 ghost use Rattle.comm_core.specs.Ready.{HandsNothingIn, IsReady, machine, register_of, undone};
@@ -7,6 +7,7 @@ ghost use Rattle.comm_core.specs.Tables.{IdleWhere};
 ghost use Rattle.comm_targets.specs.Meaning.{IsIdle};
 ghost use Rattle.comm_shared.specs.Between.{Stands};
 ghost use Rattle.comm_shared.specs.SharedView.{IsMade, most_changes};
+ghost use Rattle.comm_shared.specs.declared.change.ChangeFault.TheVariants.{Full};
 
 use crate::writer::SharedWriter;
 use comm_core::{
@@ -123,6 +124,7 @@ pub fn change<T: Target>(
     ensures call { IfOk result (λ m. m.call ≡ length (mine writer.old.entries seat) + 1) }
     ensures idle { IfOk result (λ m. IdleWhere m.finished.ended) }
     ensures same { OnErr result (writer.new ≡ writer.old) }
+    ensures full { IsErrOf result Full → length writer.old.entries ≡ most_changes }
 {
     if writer.len() >= MAX_CHANGES {
         drop(call);
@@ -158,6 +160,7 @@ pub fn register<T: Target>(
     ensures idle { IfOk result (λ m. IdleWhere m.finished.ended) }
     ensures same { OnErr result (writer.new ≡ writer.old) }
     ensures back { IfErr result (λ e. T.means e.1 ≡ T.means target) }
+    ensures full { IfErr result (λ e. e.0 ≡ Full → length writer.old.entries ≡ most_changes) }
 {
     if writer.len() >= MAX_CHANGES {
         drop(name);

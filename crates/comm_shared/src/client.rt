@@ -1,16 +1,18 @@
 //! A client: who makes changes and reads.
-ghost use Rattle.std.specs.Prelude.{◌≡◌, ◌+◌, ◌≤◌, ◌<◌, length, true, IfOk, IfErr, OnErr, OnOk, option_map};
+ghost use Rattle.std.specs.Prelude.{◌≡◌, length, true, IfOk, IfErr, IsErrOf, OnErr, OnOk, option_map};
 ghost use mathlib.Core.List.{IsPrefix};
-ghost use Rattle.comm_core.specs.History.{IsLegal, mine, replay};
+ghost use Rattle.comm_core.specs.History.{mine, replay};
+ghost use Rattle.comm_core.specs.Machine.{at};
 ghost use Rattle.comm_core.specs.Reads.{infos, state_of};
 ghost use Rattle.comm_core.specs.Ready.{HandsNothingIn, register_of};
 ghost use Rattle.comm_targets.specs.Meaning.{IsIdle};
-ghost use Rattle.comm_versions.specs.Mine.{made};
-ghost use Rattle.comm_shared.specs.SharedView.{HasMade, newcomer};
+ghost use Rattle.comm_shared.specs.SharedView.{HasMade, HasMadeNone, HasRead, most_changes, newcomer};
+ghost use Rattle.comm_shared.specs.SharedView.{seen_of};
+ghost use Rattle.comm_shared.specs.declared.change.ChangeFault.TheVariants as fault;
 
 use crate::change::ChangeFault;
 use crate::manager::{SharedChange, SharedManager};
-use crate::reader::{SharedReadFault, SharedReader};
+use crate::reader::{SharedReadFault, SharedReader, TargetRead};
 use comm_core::Call;
 use comm_targets::Target;
 use comm_value::Text;
@@ -99,6 +101,7 @@ impl SharedClient {
             manager.old manager.new) }
         ensures call { IfOk result (λ a. a.call ≡ self.new.own.number) }
         ensures err { OnErr result ((self.new ≡ self.old) × (manager.new ≡ manager.old)) }
+        ensures full { IsErrOf result fault.Full → length manager.old.entries ≡ most_changes }
     {
         if !self.knows(manager) {
             drop(call);
@@ -126,6 +129,8 @@ impl SharedClient {
         ensures call { IfOk result (λ a. a.call ≡ self.new.own.number) }
         ensures err { OnErr result ((self.new ≡ self.old) × (manager.new ≡ manager.old)) }
         ensures back { IfErr result (λ e. T.means e.1 ≡ T.means target) }
+        ensures full { IfErr result (λ e.
+            e.0 ≡ fault.Full → length manager.old.entries ≡ most_changes) }
     {
         if !self.knows(manager) {
             drop(name);
@@ -137,47 +142,59 @@ impl SharedClient {
         Ok(made)
     }
 
+    /// From now on it has seen the whole history, with no change of its own. Err, always Stranger: it is as it was.
+    pub fn catch_up<T: Target>(&mut self, manager: &SharedManager<T>) -> Result<(), ChangeFault>
+        requires same { manager.now.origin ≡ self.old.origin }
+        ensures seen { OnOk result (seen_of self.new ≡ manager.now) }
+        ensures later { IsPrefix self.old.own.seen self.new.own.seen }
+        ensures made { HasMadeNone self.old self.new }
+        ensures err { OnErr result (self.new ≡ self.old) }
+        ensures stranger { IfErr result (λ e. e ≡ fault.Stranger) }
+    {
+        if !self.knows(manager) {
+            return Err(ChangeFault::Stranger);
+        }
+        self.reader.advance(manager.front());
+        Ok(())
+    }
+
     /// The open comms with the names of their targets, all or those of one target, after `since` entries or more, and
-    /// after all that this client had seen. Err: the client is as it was.
+    /// after all that this client had seen. Err: the client is as it was, as after each read.
     pub fn infos(
         &mut self,
         alloc: Global,
         since: u64,
         asked: Option<&Text>,
     ) -> Result<InfoRead, SharedReadFault>
-        ensures origin { self.new.origin ≡ self.old.origin }
-        ensures later { IsPrefix self.old.own.seen self.new.own.seen }
-        ensures since { OnOk result (since ≤ length self.new.own.seen) }
-        ensures legal { OnOk result
-            (IsLegal self.new.origin.clients self.new.origin.limit self.new.own.seen) }
-        ensures front { IfOk result (λ r. r.front ≡ length self.new.own.seen) }
+        ensures read { IfOk result (λ r. HasRead (seen_of self.old) (seen_of self.new) since r.front) }
         ensures answer { IfOk result (λ r. r.comms
             ≡ infos (replay self.new.origin.limit self.new.own.seen)
             (option_map (λ t. t.now) asked.entry)) }
-        ensures made { (self.new.own.client ≡ self.old.own.client)
-            × (self.new.own.number ≡ self.old.own.number)
-            × (made self.new.own ≡ made self.old.own) }
+        ensures made { HasMadeNone self.old self.new }
         ensures err { OnErr result (self.new ≡ self.old) }
     {
         self.reader.read_infos(alloc, since, asked)
     }
 
-    /// The state of the comm of this id, after `since` entries or more, and after all that this client had seen. Err: the
-    /// client is as it was.
+    /// The state of the comm of this id, as `infos` reads.
     pub fn state(&mut self, since: u64, id: &Text) -> Result<StateRead, SharedReadFault>
-        ensures origin { self.new.origin ≡ self.old.origin }
-        ensures later { IsPrefix self.old.own.seen self.new.own.seen }
-        ensures since { OnOk result (since ≤ length self.new.own.seen) }
-        ensures legal { OnOk result
-            (IsLegal self.new.origin.clients self.new.origin.limit self.new.own.seen) }
-        ensures front { IfOk result (λ r. r.front ≡ length self.new.own.seen) }
+        ensures read { IfOk result (λ r. HasRead (seen_of self.old) (seen_of self.new) since r.front) }
         ensures answer { IfOk result (λ r. r.answer
             ≡ state_of (replay self.new.origin.limit self.new.own.seen) id.now) }
-        ensures made { (self.new.own.client ≡ self.old.own.client)
-            × (self.new.own.number ≡ self.old.own.number)
-            × (made self.new.own ≡ made self.old.own) }
+        ensures made { HasMadeNone self.old self.new }
         ensures err { OnErr result (self.new ≡ self.old) }
     {
         self.reader.read_state(since, id)
+    }
+
+    /// The name of the target of the comm of this id, as `infos` reads. None: no comm has the id.
+    pub fn target(&mut self, since: u64, id: &Text) -> Result<TargetRead, SharedReadFault>
+        ensures read { IfOk result (λ r. HasRead (seen_of self.old) (seen_of self.new) since r.front) }
+        ensures answer { IfOk result (λ r. r.name ≡ option_map (λ c. c.target)
+            (at (replay self.new.origin.limit self.new.own.seen).comms id.now)) }
+        ensures made { HasMadeNone self.old self.new }
+        ensures err { OnErr result (self.new ≡ self.old) }
+    {
+        self.reader.read_target(since, id)
     }
 }

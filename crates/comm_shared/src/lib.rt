@@ -17,5 +17,5 @@ mod writer;
 pub use change::ChangeFault;
 pub use client::SharedClient;
 pub use manager::{OpenFault, SharedChange, SharedManager};
-pub use reader::{SharedReadFault, SharedReader};
+pub use reader::{SharedReadFault, SharedReader, TargetRead};
 pub use seats::Seats;

@@ -1,15 +1,18 @@
 //! The manager of one thread with its history, which clients read.
-ghost use Rattle.std.specs.Prelude.{◌≡◌, ◌+◌, ◌≤◌, [], length, replicate, IfErr, IfOk, OnErr};
+ghost use Rattle.std.specs.Prelude.{◌≡◌, ◌↔◌, ◌+◌, ◌≤◌, [], length, replicate, IfErr, IfOk, IsErrOf, OnErr};
 ghost use Rattle.comm_core.specs.History.{IsLegal, mine, replay};
+ghost use Rattle.comm_core.specs.Limits.{IsCommsLimit};
 ghost use Rattle.comm_core.specs.Ready.{HandsNothingIn, machine, register_of};
 ghost use Rattle.comm_core.specs.Tables.{IdleWhere};
 ghost use Rattle.comm_targets.specs.Meaning.{IsIdle};
 ghost use Rattle.comm_shared.specs.SharedView.{IsMade, most_changes, seats};
+ghost use Rattle.comm_shared.specs.declared.change.ChangeFault.TheVariants as change_fault;
+ghost use Rattle.comm_shared.specs.declared.manager.OpenFault.TheVariants.{BadLimit};
 
 use crate::change::{ChangeFault, MadeChange, change, register};
 use crate::reader::SharedReader;
 use crate::writer::SharedWriter;
-use comm_core::{Call, Core, Finished, Limits, Reply};
+use comm_core::{Call, Core, Finished, Reply};
 use comm_messages::Outgoing;
 use comm_targets::Target;
 use comm_value::Text;
@@ -22,7 +25,7 @@ use std::marker::Model;
 pub enum OpenFault {
     /// Memory ran out.
     Memory,
-    /// The number of comms that may be open isn't from 1 to 4,096.
+    /// The number of comms that may be open isn't from 1 to 1,048,576.
     BadLimit,
 }
 
@@ -108,14 +111,10 @@ impl<T: Target> SharedManager<T> {
     pub fn new(alloc: Global, comms: usize) -> Result<SharedManager<T>, OpenFault>
         ensures entries { IfOk result (λ m. m.entries ≡ []) }
         ensures limit { IfOk result (λ m. m.origin.limit ≡ comms) }
+        ensures clients { IfOk result (λ m. m.origin.clients ≡ seats) }
+        ensures bad_limit { IsErrOf result BadLimit ↔ ¬ (IsCommsLimit comms) }
     {
-        let limits = Limits {
-            clients: 4,
-            comms,
-            history: 4_294_967_295,
-            outbox: 65_536,
-        };
-        let Ok(core) = Core::new(alloc, limits) else {
+        let Ok(core) = Core::with_comms_limit(alloc, comms) else {
             return Err(OpenFault::BadLimit);
         };
         match history_of(alloc, comms) {
@@ -142,6 +141,7 @@ impl<T: Target> SharedManager<T> {
         ensures number { IfOk result (λ m. m.number ≡ length self.new.entries) }
         ensures call { IfOk result (λ m. m.call ≡ length (mine self.old.entries seat) + 1) }
         ensures err { OnErr result (self.new ≡ self.old) }
+        ensures full { IsErrOf result change_fault.Full → length self.old.entries ≡ most_changes }
     {
         let made = change(
             self.alloc,
@@ -170,6 +170,8 @@ impl<T: Target> SharedManager<T> {
         ensures call { IfOk result (λ m. m.call ≡ length (mine self.old.entries seat) + 1) }
         ensures err { OnErr result (self.new ≡ self.old) }
         ensures back { IfErr result (λ e. T.means e.1 ≡ T.means target) }
+        ensures full { IfErr result (λ e.
+            e.0 ≡ change_fault.Full → length self.old.entries ≡ most_changes) }
     {
         let made = register(
             self.alloc,

@@ -1,9 +1,11 @@
 //! What a client reads by.
-ghost use Rattle.std.specs.Prelude.{◌≡◌, ◌≤◌, length, true, IfOk, OnErr, OnOk, option_map};
+ghost use Rattle.std.specs.Prelude.{◌≡◌, ◌≤◌, length, true, IfOk, OnErr, option_map};
 ghost use mathlib.Core.List.{IsPrefix};
 ghost use Rattle.std.specs.Arc.{arc_value};
-ghost use Rattle.comm_core.specs.History.{IsLegal, replay};
+ghost use Rattle.comm_core.specs.History.{replay};
+ghost use Rattle.comm_core.specs.Machine.{at};
 ghost use Rattle.comm_core.specs.Reads.{infos, state_of};
+ghost use Rattle.comm_shared.specs.SharedView.{HasRead};
 
 use crate::shown_version::ShownVersion;
 use comm_core::{StateAnswer, comms_in_order_are_the_comms, replays_are_consistent};
@@ -25,6 +27,13 @@ pub enum SharedReadFault {
     /// What is shown isn't as late as was asked for, or versions came faster than they could be looked at.
     #[error("the change isn't shown yet")]
     Again,
+}
+
+/// The name of the target of a comm, if that was open, and after how many entries.
+#[derive(Drop)]
+pub struct TargetRead {
+    pub front: u64,
+    pub name: Option<Text>,
 }
 
 /// Reads the comms that are shown, with no lock and no wait. Contracts see what it has seen of the history.
@@ -58,6 +67,20 @@ fn state_in(version: &Version, id: &Text) -> Result<StateAnswer, AllocError>
     replays_are_consistent();
     comms_in_order_are_the_comms();
     version.root.state(id)
+}
+
+// The name of the target of the comm of this id in a version. None: no comm has the id.
+fn target_in(version: &Version, id: &Text) -> Result<Option<Text>, AllocError>
+    ensures { IfOk result (λ n. n ≡ option_map (λ c. c.target)
+        (at (replay version.now.front.origin.limit version.now.front.entries).comms id.now)) }
+{
+    let _legal = version.front.len();
+    replays_are_consistent();
+    comms_in_order_are_the_comms();
+    match version.root.target(id) {
+        Some(name) => Ok(Some(name.copy()?)),
+        None => Ok(None),
+    }
 }
 
 // The comms of a version that are asked for.
@@ -123,53 +146,67 @@ impl SharedReader {
         Ok(version)
     }
 
+    // It has seen the front of this version now: so many entries.
+    fn arrive(&mut self, since: u64, version: &Version) -> u64
+        requires origin { version.now.front.origin ≡ self.old.origin }
+        requires later { IsPrefix self.old.entries version.now.front.entries }
+        requires since { since ≤ length version.now.front.entries }
+        ensures read { HasRead self.old self.new since result }
+        ensures now { self.new ≡ version.now.front }
+    {
+        self.front = version.front.copy();
+        version.front.len()
+    }
+
     /// The open comms with the names of their targets, all or those of one target, after `since` entries or more, and
-    /// after all that this reader had seen. Err: the reader is as it was.
+    /// after all that this reader had seen. Err: the reader is as it was, as after each read.
     pub fn read_infos(
         &mut self,
         alloc: Global,
         since: u64,
         asked: Option<&Text>,
     ) -> Result<InfoRead, SharedReadFault>
-        ensures origin { self.new.origin ≡ self.old.origin }
-        ensures later { IsPrefix self.old.entries self.new.entries }
-        ensures since { OnOk result (since ≤ length self.new.entries) }
-        ensures legal { OnOk result
-            (IsLegal self.new.origin.clients self.new.origin.limit self.new.entries) }
-        ensures front { IfOk result (λ r. r.front ≡ length self.new.entries) }
+        ensures read { IfOk result (λ r. HasRead self.old self.new since r.front) }
         ensures answer { IfOk result (λ r. r.comms
             ≡ infos (replay self.new.origin.limit self.new.entries)
             (option_map (λ t. t.now) asked.entry)) }
         ensures err { OnErr result (self.new ≡ self.old) }
     {
         let version = self.look(since)?;
-        let front = version.front.len();
         let Ok(comms) = infos_in(alloc, &version, asked) else {
             return Err(SharedReadFault::Memory);
         };
-        self.front = version.front.copy();
+        let front = self.arrive(since, &version);
         Ok(InfoRead { front, comms })
     }
 
-    /// The state of the comm of this id, after `since` entries or more, and after all that this reader had seen. Err:
-    /// the reader is as it was.
+    /// The state of the comm of this id, as `read_infos` reads.
     pub fn read_state(&mut self, since: u64, id: &Text) -> Result<StateRead, SharedReadFault>
-        ensures origin { self.new.origin ≡ self.old.origin }
-        ensures later { IsPrefix self.old.entries self.new.entries }
-        ensures since { OnOk result (since ≤ length self.new.entries) }
-        ensures legal { OnOk result
-            (IsLegal self.new.origin.clients self.new.origin.limit self.new.entries) }
-        ensures front { IfOk result (λ r. r.front ≡ length self.new.entries) }
+        ensures read { IfOk result (λ r. HasRead self.old self.new since r.front) }
         ensures answer { IfOk result (λ r. r.answer
             ≡ state_of (replay self.new.origin.limit self.new.entries) id.now) }
         ensures err { OnErr result (self.new ≡ self.old) }
     {
         let version = self.look(since)?;
-        let front = version.front.len();
         let Ok(answer) = state_in(&version, id) else {
             return Err(SharedReadFault::Memory);
         };
-        self.front = version.front.copy();
+        let front = self.arrive(since, &version);
         Ok(StateRead { front, answer })
+    }
+
+    /// The name of the target of the comm of this id, as `read_infos` reads. None: no comm has the id.
+    pub fn read_target(&mut self, since: u64, id: &Text) -> Result<TargetRead, SharedReadFault>
+        ensures read { IfOk result (λ r. HasRead self.old self.new since r.front) }
+        ensures answer { IfOk result (λ r. r.name ≡ option_map (λ c. c.target)
+            (at (replay self.new.origin.limit self.new.entries).comms id.now)) }
+        ensures err { OnErr result (self.new ≡ self.old) }
+    {
+        let version = self.look(since)?;
+        let Ok(name) = target_in(&version, id) else {
+            return Err(SharedReadFault::Memory);
+        };
+        let front = self.arrive(since, &version);
+        Ok(TargetRead { front, name })
     }
 }
