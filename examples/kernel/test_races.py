@@ -1,7 +1,7 @@
 """Races of a kernel's threads (races.py) over the stock kernel and over the proved one. Over the proved one none goes
 wrong, nor where the GIL changes hands every microsecond; how many do over the stock one is told beside it.
 
-test_races.py [--long] [RACE..], where each RACE is a function of races.py; all of them, where none is named. With --long
+test_races.py [--long] [RACE..], where each RACE is a function of races.py; all of them where none is named. With --long
 sliders are moved 10,000 times, and threads storm for a minute. Where the kernel stops answering, as ipykernel 7.2 does
 at times whatever its comms are, another one goes on. The last line is 'N passed, M failed'.
 """
