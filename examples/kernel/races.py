@@ -23,7 +23,7 @@ going = True
 
 
 class Race(NamedTuple):
-    """What went wrong, `run(page, times)`, from which version of ipywidgets on, and how often it is tried, and in a long
+    """What goes wrong, `run(page, times)`, from which version of ipywidgets on, how often it is tried, and in a long
     run."""
 
     words: str
