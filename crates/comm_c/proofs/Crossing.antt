@@ -14,19 +14,13 @@ use Rattle.std.proofs.Crossing.{crosses, frees}
 use Rattle.std.specs.declared.option.Option.{Option}
 use Rattle.std.specs.declared.option.Option.TheVariants.{None, Some}
 use Rattle.std_alloc.proofs.SendSync.{quiet, lies}
-use Rattle.comm_core.proofs.target_table.TargetTable.TheSendSync as Boxes
-use Rattle.comm_core.proofs.Crossing.{dict_send, outgoings_send, reply_field_send, values}
-use Rattle.comm_core.specs.contracts.manager.Core as core
-use Rattle.comm_core.specs.contracts.comms.Comms as comms
-use Rattle.comm_core.specs.contracts.comm.Comm as comm
-use Rattle.comm_messages.proofs.infos.Infos.TheSendSync as Infos
+use Rattle.comm_core.proofs.Crossing.{outgoings_send, reply_field_send, values}
 use Rattle.comm_messages.specs.contracts.parts.PartsScratch as scratch
-use Rattle.ordered_table.proofs.table.Table.TheSendSync as Table
 use Rattle.comm_targets.proofs.Sends.{echo_sends, counter_sends, plain_sends}
 use Rattle.comm_targets.specs.contracts.counter.Counter as counter
 use Rattle.comm_targets.specs.contracts.echo.Echo as echo
 use Rattle.comm_targets.specs.contracts.plain.PlainTarget as plain
-use Rattle.comm_targets.specs.declared.target.Target as target
+use Rattle.comm_shared.proofs.Crossing.{core_send}
 use Rattle.comm_value.proofs.text.Text.TheSendSync as Text
 use Rattle.comm_value.specs.contracts.known_texts.KnownTexts as known_texts
 use Rattle.widget_target.proofs.Sends.{widget_sends}
@@ -43,15 +37,6 @@ use Rattle.comm_c.specs.contracts.builtin_target.BuiltinTarget as builtin_target
 use Rattle.comm_c.specs.contracts.subject.Subject as subject
 use Rattle.comm_core.specs.contracts.reply.StateAnswer as state_answer
 use Rattle.comm_script.specs.contracts.asked.LineFault as line_fault
-
-comm_send : IsSend comm.the_row
-comm_send = search (sendable, crosses, dict_send, Text.the_send) depth 40
-
-comms_send : IsSend comms.the_row
-comms_send = search (sendable, crosses, comm_send, Text.the_send, Table.the_send, Infos.the_send) depth 40 fits 5000
-
-core_send : (T : RattleType) (t : target.Ghosts T.Denot) → IsSend T → IsSend (core.the_row T t)
-core_send T t s = search (sendable, crosses, comms_send, Boxes.the_send) depth 40
 
 -- a field of an enum or a struct, by a name of its own
 echo_field_send : IsSend (as_row echo.the_field)
@@ -112,9 +97,9 @@ line_fault_field_send : IsSend (as_row line_fault.the_field)
 line_fault_field_send = line_fault_send
 
 call_result_send : IsSend call_result.the_row
-call_result_send = variants_send call_result.enum (search (sendable, crosses, made_change_field_send, outgoings_send, state_answer_field_send, line_fault_field_send) depth 40)
+call_result_send = variants_send call_result.enum (search (sendable, crosses, made_change_field_send, outgoings_send, state_answer_field_send, line_fault_field_send, Text.the_send) depth 40)
 
-call_result_field_send : IsSend (as_row call_result.the_field)
+pub call_result_field_send : IsSend (as_row call_result.the_field)
 call_result_field_send = call_result_send
 
 -- the memory that calls are parsed into has no arena in it, which would bind it to a thread

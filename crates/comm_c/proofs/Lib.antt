@@ -1,10 +1,16 @@
 pub mod AtOnce
 pub mod Called
+pub mod ClientCalled
+pub mod ClientCrossing
+pub mod ClientHandles
+pub mod ClientRead
 pub mod Counting
 pub mod Crossing
 pub mod EnoughTargets
 pub mod Handles
+pub mod InOrder
 pub mod Legal
+pub mod Limited
 pub mod ScriptLines
 pub mod Tests
 pub mod Values

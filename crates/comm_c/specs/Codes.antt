@@ -55,6 +55,22 @@ no_part = 11
 abbrev pub no_text : ℕ
 no_text = 12
 
+-- another client's call is inside, and nothing has changed
+abbrev pub busy : ℕ
+busy = 13
+
+-- what is shown isn't as late as was asked for, or as what the client has seen
+abbrev pub again : ℕ
+again = 14
+
+-- there are as many clients as a manager has at a time
+abbrev pub no_seat : ℕ
+no_seat = 15
+
+-- the client and the manager don't fit
+abbrev pub stranger : ℕ
+stranger = 16
+
 -- the kinds of targets that C registers, by their numbers
 abbrev pub kind_numbered : ℕ → Option Kind
 kind_numbered n =

@@ -1,5 +1,9 @@
 pub mod BuiltinTarget
 pub mod CallResult
+pub mod ClientExports
+pub mod ClientState
+pub mod ClientStateCode
+pub mod Clients
 pub mod Codes
 pub mod CountedCore
 pub mod Exports

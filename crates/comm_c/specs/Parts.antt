@@ -11,6 +11,7 @@ use Rattle.comm_messages.specs.Text.{parts_of, texts}
 use Rattle.comm_messages.specs.declared.outgoing.Outgoing.{Outgoing}
 use Rattle.comm_messages.specs.declared.outgoing.Outgoing.TheVariants as out
 use Rattle.comm_targets.specs.declared.answer.Custom.{Custom}
+use Rattle.comm_core.specs.Machine.{Name}
 use Rattle.comm_core.specs.declared.reply.Reply.{Reply}
 use Rattle.comm_core.specs.declared.reply.Reply.TheVariants as reply
 use Rattle.comm_core.specs.declared.reply.StateAnswer.{StateAnswer}
@@ -18,7 +19,7 @@ use Rattle.comm_core.specs.declared.reply.StateAnswer.TheVariants as answer
 use Rattle.comm_script.specs.Words.{state_content}
 use Rattle.comm_c.specs.CallResult.{sent}
 use Rattle.comm_c.specs.declared.call_result.CallResult.{CallResult}
-use Rattle.comm_c.specs.declared.call_result.CallResult.TheVariants.{Nothing, Bad, Infos, State, Change}
+use Rattle.comm_c.specs.declared.call_result.CallResult.TheVariants.{Nothing, Bad, Infos, State, Target, Change}
 use Rattle.comm_c.specs.declared.call_result.MadeChange.{MadeChange}
 
 -- ---- of a message that is sent
@@ -95,9 +96,14 @@ state_part answer.NoComm n = None
 state_part answer.NoState n = None
 state_part (answer.State s) n = members_part s n
 
+-- the name of a comm's target at 4
+abbrev pub target_part : Option Name → ℕ → Option (List ℕ)
+target_part name n = if n == 4 then name else None
+
 abbrev pub part_replied : CallResult → ℕ → Option (List ℕ)
 part_replied Nothing n = None
 part_replied (Bad number fault closes) n = None
 part_replied (Infos client front messages) n = None
 part_replied (State front read) n = state_part read n
+part_replied (Target front name) n = target_part name n
 part_replied (Change made) n = change_part made n

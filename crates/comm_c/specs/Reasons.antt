@@ -17,7 +17,7 @@ use Rattle.comm_script.specs.declared.asked.Key.TheVariants as key
 use Rattle.comm_script.specs.declared.asked.LineFault.{LineFault}
 use Rattle.comm_script.specs.declared.asked.LineFault.TheVariants as line
 use Rattle.comm_c.specs.declared.call_result.CallResult.{CallResult}
-use Rattle.comm_c.specs.declared.call_result.CallResult.TheVariants.{Nothing, Bad, Infos, State, Change}
+use Rattle.comm_c.specs.declared.call_result.CallResult.TheVariants.{Nothing, Bad, Infos, State, Target, Change}
 
 -- the fields that a reason speaks of
 abbrev pub field_number : Field → ℕ
@@ -88,4 +88,5 @@ reason_of Nothing = (0, 0)
 reason_of (Bad number fault closes) = line_reason fault
 reason_of (Infos client front messages) = (0, 0)
 reason_of (State front answer) = (0, 0)
+reason_of (Target front name) = (0, 0)
 reason_of (Change made) = reply_reason made.reply

@@ -1,13 +1,14 @@
 //! The result of a call, kept as values: its text and its parts are written when they are asked for.
 ghost use Rattle.std.specs.Prelude.{◌≡◌, [], OnOk};
 ghost use Rattle.comm_c.specs.CallResult.{delivered_number, reply_number, result_number, result_text, sent};
-ghost use Rattle.comm_c.specs.CallResult.{state_number};
+ghost use Rattle.comm_c.specs.CallResult.{state_number, target_number};
 
 use crate::subject::Subject;
 use comm_core::{Outgoings, Reply, StateAnswer};
 use comm_messages::{Outgoing, Parent};
 use comm_script::{LineFault, append_bad, append_outs, append_reply, append_state_line};
 use comm_targets::SharedCustom;
+use comm_value::Text;
 use std::alloc::{AllocError, Global};
 
 /// A change that was made: `number` among all changes, `call` among those of its client, what it is about, its reply,
@@ -43,6 +44,11 @@ pub enum CallResult {
     State {
         front: u64,
         answer: StateAnswer,
+    },
+    /// The name of the target of an open comm; None: no comm has the id. Clients alone ask for it.
+    Target {
+        front: u64,
+        name: Option<Text>,
     },
     Change(MadeChange),
 }
@@ -86,6 +92,15 @@ fn state_number(answer: &StateAnswer) -> u32
     }
 }
 
+fn target_number(name: &Option<Text>) -> u32
+    ensures { result ≡ target_number name.now }
+{
+    match name {
+        None => 11,
+        Some(_) => 19,
+    }
+}
+
 impl CallResult {
     /// Its number for C. `rolgunai.h` has the same.
     pub fn number(&self) -> u32
@@ -96,6 +111,7 @@ impl CallResult {
             CallResult::Bad { .. } => 1,
             CallResult::Infos { .. } => 2,
             CallResult::State { answer, .. } => state_number(answer),
+            CallResult::Target { name, .. } => target_number(name),
             CallResult::Change(made) => reply_number(&made.reply),
         }
     }
@@ -108,7 +124,7 @@ impl CallResult {
             CallResult::Bad { closes, .. } => closes.as_slice(),
             CallResult::Infos { sent, .. } => sent.as_slice(),
             CallResult::Change(made) => made.sent.as_slice(),
-            CallResult::Nothing | CallResult::State { .. } => &[],
+            CallResult::Nothing | CallResult::State { .. } | CallResult::Target { .. } => &[],
         }
     }
 
@@ -118,7 +134,7 @@ impl CallResult {
         ensures { OnOk result (text.new.items ≡ result_text self.now) }
     {
         match self {
-            CallResult::Nothing => {}
+            CallResult::Nothing | CallResult::Target { .. } => {}
             CallResult::Bad { number, fault, .. } => append_bad(*number, *fault, text)?,
             CallResult::Infos {
                 client,

@@ -1,13 +1,13 @@
 //! How a handle's manager is taken out and put back, and how it plays what a call asks for.
 ghost use Rattle.std.specs.Prelude.{◌≡◌, ◌≢◌, ◌⊎◌, ◌↔◌, ◌≤◌, ◌^◌, None, Some, Err, IfOk, IsOk, IsSome, IsUtf8, Option};
 ghost use Rattle.std.specs.Prelude.{option_map};
-ghost use Rattle.comm_core.specs.Limits.{AreAllowed};
+ghost use Rattle.comm_core.specs.Limits.{IsCommsLimit};
 ghost use Rattle.comm_c.specs.Codes.{already_open, bad_kind, bad_limit, bad_name, bad_sizes, exhausted};
 ghost use Rattle.comm_c.specs.Codes.{kind_numbered, memory, not_json, ok};
 ghost use Rattle.comm_c.specs.Exports.{Ask, HasCalled, RegistersKind};
 ghost use Rattle.comm_c.specs.Handles.{IsAllowed};
 ghost use Rattle.comm_c.specs.Inputs.{Gives, Tested};
-ghost use Rattle.comm_c.specs.ManagerState.{ManagerState, PlaysTested, limits_of, new_manager};
+ghost use Rattle.comm_c.specs.ManagerState.{ManagerState, PlaysTested, new_manager};
 ghost use Rattle.comm_c.specs.declared.input.CallFault.TheVariants.{BadName, BadSizes, NotJson};
 
 use crate::codes::{
@@ -46,8 +46,8 @@ pub fn open_manager(alloc: Global, handle: &mut Handle, comms: usize, numbers: N
     ensures same { result ≢ ok → handle.new.value ≡ handle.old.value }
     ensures already_open { result ≡ already_open ↔ IsSome handle.old.value }
     ensures bad_limit { result ≡ bad_limit
-        ↔ ((handle.old.value ≡ None) × ¬ (AreAllowed (limits_of comms))) }
-    ensures allowed { (result ≡ ok) ⊎ (result ≡ memory) → AreAllowed (limits_of comms) }
+        ↔ ((handle.old.value ≡ None) × ¬ (IsCommsLimit comms)) }
+    ensures allowed { (result ≡ ok) ⊎ (result ≡ memory) → IsCommsLimit comms }
     ensures codes { (result ≡ ok) ⊎ (result ≡ memory) ⊎ (result ≡ bad_limit)
         ⊎ (result ≡ already_open) }
 {

@@ -44,6 +44,18 @@ pub const NO_PART: u32 = 11;
 /// The line was played, and out of memory for its text, which may be asked for again.
 pub const NO_TEXT: u32 = 12;
 
+/// Another client's call is inside; nothing has changed, and the call may be made again.
+pub const BUSY: u32 = 13;
+
+/// What is shown isn't as late as was asked for, or as what the client has seen; nothing has changed.
+pub const AGAIN: u32 = 14;
+
+/// There are as many clients as a manager has at a time.
+pub const NO_SEAT: u32 = 15;
+
+/// The client and the manager don't fit, which can't be.
+pub const STRANGER: u32 = 16;
+
 /// The kind of target that has this number; `Echo` and `Counter` have none, since they are for scripts and
 /// tests.
 pub fn kind_numbered(number: u32) -> Option<BuiltinKind>

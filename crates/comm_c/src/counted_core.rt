@@ -9,7 +9,7 @@ ghost use Rattle.comm_c.specs.BuiltinTarget.{kind_of};
 
 use crate::builtin_target::{BuiltinKind, BuiltinTarget};
 use crate::call_result::{CallResult, MadeChange};
-use crate::subject::Subject;
+use crate::subject::{Subject, subject_of};
 use comm_core::{Call, Core, Finished, Outgoings, PreparedChange};
 use comm_value::{Numbers, Text};
 use std::alloc::{AllocError, Global};
@@ -87,7 +87,7 @@ impl CountedCore {
         ensures settled { self.new.core.settled ≡ true }
         ensures same { OnErr result (self.new ≡ self.old) }
     {
-        let subject = match self.subject_of(alloc, &call) {
+        let subject = match subject_of(alloc, &self.core, &call) {
             Ok(subject) => subject,
             Err(fault) => {
                 drop(call);

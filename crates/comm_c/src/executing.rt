@@ -8,18 +8,18 @@ ghost use Rattle.comm_c.specs.BuiltinTarget.{kind_of};
 ghost use Rattle.comm_c.specs.CountedCore.{HasMadeAtMost};
 ghost use Rattle.comm_c.specs.Handles.{Executes, Handles, IsAllowed, closes_of, target_kind};
 
-use crate::builtin_target::BuiltinKind;
+use crate::builtin_target::{BuiltinKind, BuiltinTarget};
 use crate::call_result::CallResult;
 use crate::counted_core::CountedCore;
 use crate::input::Input;
-use comm_core::Outgoings;
-use comm_messages::Outgoing;
+use comm_core::{Core, Outgoings};
+use comm_messages::{Infos, Outgoing};
 use comm_script::{LineFault, Request, StockKind};
 use comm_value::Text;
 use std::alloc::{AllocError, Global};
 
-// The kind of target that a line registers.
-fn target_kind(kind: StockKind) -> BuiltinKind
+/// The kind of target that a line registers.
+pub fn target_kind(kind: StockKind) -> BuiltinKind
     ensures { kind_of result ≡ target_kind kind }
 {
     match kind {
@@ -28,6 +28,43 @@ fn target_kind(kind: StockKind) -> BuiltinKind
         StockKind::Widget => BuiltinKind::Widget,
         StockKind::WidgetEcho => BuiltinKind::WidgetEcho,
     }
+}
+
+/// The close that a frontend waits for which opens a comm of this id by what can't be read: none where the comm is open.
+/// Err: memory.
+pub fn closes_of(
+    alloc: Global,
+    core: &Core<BuiltinTarget>,
+    opening: Option<Text>,
+) -> Result<Outgoings, AllocError>
+    ensures { IfOk result (λ o. o ≡ closes_of (machine core.now) opening) }
+{
+    let mut closes = Vec::new(alloc);
+    if let Some(id) = opening {
+        if !core.has_comm(&id) {
+            closes.push(Outgoing::Close { id })?;
+        }
+    }
+    Ok(Outgoings::new(closes))
+}
+
+/// A list of comms as the one message that is sent. Err: memory.
+pub fn info_reply(alloc: Global, comms: Infos) -> Result<Outgoings, AllocError>
+    ensures { IfOk result (λ o. o ≡ out.InfoReply comms ∷ []) }
+{
+    let mut sent = Vec::new(alloc);
+    sent.push(Outgoing::InfoReply { comms })?;
+    Ok(Outgoings::new(sent))
+}
+
+/// A list of no comms as the one message that is sent, for a list that is put in its place. Err: memory.
+pub fn one_reply(alloc: Global) -> Result<Vec<Outgoing>, AllocError>
+    ensures { IfOk result (λ v. v.items ≡ out.InfoReply [] ∷ []) }
+{
+    let comms = Infos::new(alloc, Vec::new(alloc))?;
+    let mut sent = Vec::new(alloc);
+    sent.push(Outgoing::InfoReply { comms })?;
+    Ok(sent)
 }
 
 impl CountedCore {
@@ -42,16 +79,11 @@ impl CountedCore {
         ensures { IfOk result (λ r. r
             ≡ CallResult.Bad number fault (closes_of (machine self.now.core) opening)) }
     {
-        let mut closes = Vec::new(alloc);
-        if let Some(id) = opening {
-            if !self.core.has_comm(&id) {
-                closes.push(Outgoing::Close { id })?;
-            }
-        }
+        let closes = closes_of(alloc, &self.core, opening)?;
         Ok(CallResult::Bad {
             number,
             fault,
-            closes: Outgoings::new(closes),
+            closes,
         })
     }
 
@@ -69,12 +101,11 @@ impl CountedCore {
     {
         let comms = self.core.listing(target)?;
         let front = self.changes;
-        let mut sent = Vec::new(alloc);
-        sent.push(Outgoing::InfoReply { comms })?;
+        let sent = info_reply(alloc, comms)?;
         Ok(CallResult::Infos {
             client,
             front,
-            sent: Outgoings::new(sent),
+            sent,
         })
     }
 

@@ -1,7 +1,7 @@
 //! A manager that stays between the calls of a kernel.
-ghost use Rattle.std.specs.Prelude.{◌≡◌, ◌≢◌, ◌⊎◌, ◌<◌, ◌+◌, ◌^◌, ◌↔◌, ◌≤◌, Some, IsTrue, IfOk, IfErr, IsOk};
+ghost use Rattle.std.specs.Prelude.{◌≡◌, ◌≢◌, ◌⊎◌, ◌<◌, ◌+◌, ◌^◌, ◌↔◌, ◌≤◌, Some, IsTrue, IfOk, IsOk};
 ghost use Rattle.std.specs.Prelude.{OnOk, OnErr};
-ghost use Rattle.comm_core.specs.Limits.{AreAllowed};
+ghost use Rattle.comm_core.specs.Limits.{IsCommsLimit};
 ghost use Rattle.comm_core.specs.Ready.{machine};
 ghost use Rattle.comm_c.specs.BuiltinTarget.{kind_of};
 ghost use Rattle.comm_c.specs.CallResult.{result_text};
@@ -10,7 +10,7 @@ ghost use Rattle.comm_c.specs.CountedCore.{Registers};
 ghost use Rattle.comm_c.specs.Exports.{FillsPart, IsLongerPart};
 ghost use Rattle.comm_c.specs.Handles.{IsAllowed};
 ghost use Rattle.comm_c.specs.Inputs.{Gives, launch_input, line_input, message_input, push_input, send_input};
-ghost use Rattle.comm_c.specs.ManagerState.{Plays, limits_of, new_manager};
+ghost use Rattle.comm_c.specs.ManagerState.{Plays, new_manager};
 
 use crate::builtin_target::BuiltinKind;
 use crate::call_result::CallResult;
@@ -19,7 +19,8 @@ use crate::copying::copy_to_buffer;
 use crate::counted_core::CountedCore;
 use crate::input::{CallFault, Input};
 use crate::inputs::{launch_input, line_input, push_input, send_input};
-use comm_core::{Core, Limits, NewFault};
+use crate::opaque::message_input;
+use comm_core::{BadCommsLimit, Core};
 use comm_messages::PartsScratch;
 use comm_value::{KnownTexts, Numbers, Text};
 use std::alloc::{AllocError, Global};
@@ -63,19 +64,12 @@ impl Model for HeldManager {
 
 impl HeldManager {
     /// A manager that has had no call, of which at most `comms` comms are open at a time, and that takes these
-    /// numbers as values. BadLimits exactly where `comms` isn't from 1 to 4,096.
-    pub fn new(alloc: Global, comms: usize, numbers: Numbers) -> Result<HeldManager, NewFault>
+    /// numbers as values. Err: `comms` isn't from 1 to 1,048,576.
+    pub fn new(alloc: Global, comms: usize, numbers: Numbers) -> Result<HeldManager, BadCommsLimit>
         ensures opened { IfOk result (λ m. m ≡ new_manager comms numbers) }
-        ensures allowed { IsOk result ↔ AreAllowed (limits_of comms) }
-        ensures fault { IfErr result (λ e. e ≡ NewFault.BadLimits) }
+        ensures allowed { IsOk result ↔ IsCommsLimit comms }
     {
-        let limits = Limits {
-            clients: 4,
-            comms,
-            history: 4_294_967_295,
-            outbox: 65_536,
-        };
-        let core = Core::new(alloc, limits)?;
+        let core = Core::with_comms_limit(alloc, comms)?;
         Ok(HeldManager {
             counted_core: CountedCore {
                 core,
@@ -126,8 +120,10 @@ impl HeldManager {
         ensures allowed { IfOk result IsAllowed }
         ensures same { self.new ≡ self.old }
     {
-        self.counted_core.message_input(
+        message_input(
             alloc,
+            &self.counted_core.core,
+            self.counted_core.numbers,
             client,
             header,
             metadata,

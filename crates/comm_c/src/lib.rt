@@ -12,11 +12,22 @@
 mod builtin_target;
 mod call_result;
 mod calls;
+mod client;
+pub mod client_api;
+mod client_calls;
+pub mod client_frontend_api;
+mod client_handle;
+pub mod client_kernel_api;
+pub mod client_read_api;
+mod client_register;
+pub mod client_result_api;
 mod codes;
 mod copying;
 mod counted_core;
+mod desk;
 mod executing;
 pub mod frontend_api;
+mod gate;
 mod handle;
 mod held_manager;
 mod input;
@@ -25,6 +36,7 @@ pub mod kernel_api;
 mod laws;
 mod opaque;
 mod part_bytes;
+mod playing;
 mod raw_box;
 mod reasons;
 pub mod result_api;
@@ -32,9 +44,9 @@ mod subject;
 pub mod version;
 
 ghost use Rattle.std.specs.Prelude.{◌≡◌, ◌≢◌, ◌⊎◌, ◌↔◌, Some, None, IsSome};
-ghost use Rattle.comm_core.specs.Limits.{AreAllowed};
+ghost use Rattle.comm_core.specs.Limits.{IsCommsLimit};
 ghost use Rattle.comm_c.specs.Codes.{already_open, bad_limit, closed, memory, ok};
-ghost use Rattle.comm_c.specs.ManagerState.{limits_of, new_manager};
+ghost use Rattle.comm_c.specs.ManagerState.{new_manager};
 
 use crate::calls::{open_manager, take};
 use crate::codes::{CLOSED, OK};
@@ -43,7 +55,7 @@ use comm_value::Numbers;
 pub use laws::{calls_make_legal_histories, calls_play_scripts, lines_play_scripts};
 use std::alloc::Global;
 
-/// Makes a manager of which at most `comms` comms are open at a time (1 to 4,096), and puts it into a handle
+/// Makes a manager of which at most `comms` comms are open at a time (1 to 1,048,576), and puts it into a handle
 /// that has none. A number that isn't whole makes a line or a message BAD. BAD_LIMIT: `comms` is out of these
 /// bounds. ALREADY_OPEN: the handle has a manager, which stays; this is tested first.
 #[unsafe(no_mangle)]
@@ -52,8 +64,8 @@ pub extern "C" fn rolgunai_new(alloc: Global, handle: &mut Handle, comms: usize)
     ensures same { result ≢ ok → handle.new.value ≡ handle.old.value }
     ensures already_open { result ≡ already_open ↔ IsSome handle.old.value }
     ensures bad_limit { result ≡ bad_limit
-        ↔ ((handle.old.value ≡ None) × ¬ (AreAllowed (limits_of comms))) }
-    ensures allowed { (result ≡ ok) ⊎ (result ≡ memory) → AreAllowed (limits_of comms) }
+        ↔ ((handle.old.value ≡ None) × ¬ (IsCommsLimit comms)) }
+    ensures allowed { (result ≡ ok) ⊎ (result ≡ memory) → IsCommsLimit comms }
     ensures codes { (result ≡ ok) ⊎ (result ≡ memory) ⊎ (result ≡ bad_limit)
         ⊎ (result ≡ already_open) }
 {
@@ -72,8 +84,8 @@ pub extern "C" fn rolgunai_new_with_decimals(
     ensures same { result ≢ ok → handle.new.value ≡ handle.old.value }
     ensures already_open { result ≡ already_open ↔ IsSome handle.old.value }
     ensures bad_limit { result ≡ bad_limit
-        ↔ ((handle.old.value ≡ None) × ¬ (AreAllowed (limits_of comms))) }
-    ensures allowed { (result ≡ ok) ⊎ (result ≡ memory) → AreAllowed (limits_of comms) }
+        ↔ ((handle.old.value ≡ None) × ¬ (IsCommsLimit comms)) }
+    ensures allowed { (result ≡ ok) ⊎ (result ≡ memory) → IsCommsLimit comms }
     ensures codes { (result ≡ ok) ⊎ (result ≡ memory) ⊎ (result ≡ bad_limit)
         ⊎ (result ≡ already_open) }
 {

@@ -12,10 +12,10 @@ ghost use Rattle.comm_c.specs.Opaque.{AskedByParts, asked_of, comm_id_in, is_for
 ghost use Rattle.comm_c.specs.Opaque.{is_opaque_comm, is_opaque_target};
 ghost use Rattle.comm_c.specs.Opaque.{nothing_in, opaque_call, opaque_close, opaque_msg, opaque_open, opening_in};
 
-use crate::counted_core::CountedCore;
+use crate::builtin_target::BuiltinTarget;
 use crate::input::{CallFault, Input, MAX_CLIENTS, test_buffers};
 use bumpalo::Bump;
-use comm_core::Call;
+use comm_core::{Call, Core};
 use comm_messages::{
     Body, EnvelopeRef, Field, Fields, Incoming, IncomingParts, MessageFault, MessageType,
     PartsScratch, heading, incoming_in, member, object_of, parse_parts, text, type_of,
@@ -23,7 +23,7 @@ use comm_messages::{
 use comm_reader::parts_at_once;
 use comm_script::{LineFault, Request, asked_by_message};
 use comm_targets::Kind;
-use comm_value::{Buffers, Dict, KnownTexts, Text};
+use comm_value::{Buffers, Dict, KnownTexts, Numbers, Text};
 use std::alloc::{AllocError, Global};
 use std::str;
 
@@ -85,281 +85,281 @@ fn nothing_in(alloc: Global) -> Body
     Body::new(Dict::new(), Buffers::none(alloc))
 }
 
-impl CountedCore {
-    fn is_opaque_target(&self, name: &Text) -> bool
-        ensures { result ≡ is_opaque_target (machine self.now.core) name.now }
-    {
-        is_opaque(self.core.kind_of(name))
-    }
+fn is_opaque_target(core: &Core<BuiltinTarget>, name: &Text) -> bool
+    ensures { result ≡ is_opaque_target (machine core.now) name.now }
+{
+    is_opaque(core.kind_of(name))
+}
 
-    fn is_opaque_comm(&self, id: &Text) -> bool
-        ensures { result ≡ is_opaque_comm (machine self.now.core) id.now }
-    {
-        match self.core.target_of(id) {
-            Some(name) => self.is_opaque_target(name),
-            None => false,
+fn is_opaque_comm(core: &Core<BuiltinTarget>, id: &Text) -> bool
+    ensures { result ≡ is_opaque_comm (machine core.now) id.now }
+{
+    match core.target_of(id) {
+        Some(name) => is_opaque_target(core, name),
+        None => false,
+    }
+}
+
+fn opaque_open(
+    alloc: Global,
+    core: &Core<BuiltinTarget>,
+    id: Option<&str>,
+    target: Option<&str>,
+) -> Result<Option<Call>, AllocError>
+    ensures call { IfOk result (λ c. c ≡ opaque_open (machine core.now)
+        (option_map (λ t. t.now) id.entry) (option_map (λ t. t.now) target.entry)) }
+    ensures handless { IfOk result (λ c. IfSome c HandsNothingIn) }
+{
+    let Some(id) = id else {
+        return Ok(None);
+    };
+    let Some(target) = target else {
+        return Ok(None);
+    };
+    let target = Text::copy_of(alloc, target)?;
+    if is_opaque_target(core, &target) {
+        Ok(Some(Call::Open {
+            id: Text::copy_of(alloc, id)?,
+            target,
+            version: None,
+            body: nothing_in(alloc),
+        }))
+    } else {
+        Ok(None)
+    }
+}
+
+fn opaque_msg(
+    alloc: Global,
+    core: &Core<BuiltinTarget>,
+    texts: &mut KnownTexts,
+    id: Option<&str>,
+) -> Result<Option<Call>, AllocError>
+    ensures call { IfOk result (λ c. c ≡ opaque_msg (machine core.now)
+        (option_map (λ t. t.now) id.entry)) }
+    ensures handless { IfOk result (λ c. IfSome c HandsNothingIn) }
+{
+    let Some(id) = id else {
+        return Ok(None);
+    };
+    let id = texts.text(alloc, id)?;
+    if is_opaque_comm(core, &id) {
+        Ok(Some(Call::Msg {
+            id,
+            body: nothing_in(alloc),
+        }))
+    } else {
+        Ok(None)
+    }
+}
+
+fn opaque_close(
+    alloc: Global,
+    core: &Core<BuiltinTarget>,
+    texts: &mut KnownTexts,
+    id: Option<&str>,
+) -> Result<Option<Call>, AllocError>
+    ensures call { IfOk result (λ c. c ≡ opaque_close (machine core.now)
+        (option_map (λ t. t.now) id.entry)) }
+    ensures handless { IfOk result (λ c. IfSome c HandsNothingIn) }
+{
+    let Some(id) = id else {
+        return Ok(None);
+    };
+    let id = texts.text(alloc, id)?;
+    if is_opaque_comm(core, &id) {
+        Ok(Some(Call::Close { id }))
+    } else {
+        Ok(None)
+    }
+}
+
+fn opaque_call(
+    alloc: Global,
+    core: &Core<BuiltinTarget>,
+    texts: &mut KnownTexts,
+    type_: MessageType,
+    content: Fields<'_, '_>,
+) -> Result<Option<Call>, AllocError>
+    ensures call { IfOk result
+        (λ c. c ≡ opaque_call (machine core.now) type_ (fields content.entry)) }
+    ensures handless { IfOk result (λ c. IfSome c HandsNothingIn) }
+{
+    match type_ {
+        MessageType::Open => {
+            let target = text(member(content, "target_name"));
+            opaque_open(alloc, core, comm_id_in(content), target)
         }
+        MessageType::Msg => opaque_msg(alloc, core, texts, comm_id_in(content)),
+        MessageType::Close => opaque_close(alloc, core, texts, comm_id_in(content)),
+        MessageType::InfoRequest => Ok(None),
     }
+}
 
-    fn opaque_open(
-        &self,
-        alloc: Global,
-        id: Option<&str>,
-        target: Option<&str>,
-    ) -> Result<Option<Call>, AllocError>
-        ensures call { IfOk result (λ c. c ≡ opaque_open (machine self.now.core)
-            (option_map (λ t. t.now) id.entry) (option_map (λ t. t.now) target.entry)) }
-        ensures handless { IfOk result (λ c. IfSome c HandsNothingIn) }
-    {
-        let Some(id) = id else {
-            return Ok(None);
-        };
-        let Some(target) = target else {
-            return Ok(None);
-        };
-        let target = Text::copy_of(alloc, target)?;
-        if self.is_opaque_target(&target) {
-            Ok(Some(Call::Open {
-                id: Text::copy_of(alloc, id)?,
-                target,
-                version: None,
-                body: nothing_in(alloc),
-            }))
-        } else {
-            Ok(None)
-        }
-    }
+// What the message of an envelope asks for, of an opaque target by its heading and the names in its content alone.
+// Err: the first test that fails, or Memory.
+#[tactic(auto, unfolding(comm_messages::specs::Message::message_from))]
+fn asked_of(
+    alloc: Global,
+    core: &Core<BuiltinTarget>,
+    numbers: Numbers,
+    from: &EnvelopeRef<'_, '_>,
+    texts: &mut KnownTexts,
+) -> Result<(u8, Request), LineFault>
+    ensures asked { ReadGives (λ r. (r.0, r.1)) result
+        (asked_of (machine core.now) numbers (envelope from.now)) }
+    ensures below { IfOk result (λ r. r.0 < 4) }
+    ensures handless { IfOk result (λ r. HandsNothing r.1) }
+{
+    let (client, type_) = heading(from, MAX_CLIENTS)?;
+    let content = object_of(Field::Content, from.content)?;
+    let request = match opaque_call(alloc, core, texts, type_, content)? {
+        Some(call) => Request::Change(call),
+        None => asked_by_message(incoming_in(alloc, numbers, texts, type_, from, content)?),
+    };
+    Ok((client, request))
+}
 
-    fn opaque_msg(
-        &self,
-        alloc: Global,
-        texts: &mut KnownTexts,
-        id: Option<&str>,
-    ) -> Result<Option<Call>, AllocError>
-        ensures call { IfOk result (λ c. c ≡ opaque_msg (machine self.now.core)
-            (option_map (λ t. t.now) id.entry)) }
-        ensures handless { IfOk result (λ c. IfSome c HandsNothingIn) }
-    {
-        let Some(id) = id else {
-            return Ok(None);
-        };
-        let id = texts.text(alloc, id)?;
-        if self.is_opaque_comm(&id) {
-            Ok(Some(Call::Msg {
-                id,
-                body: nothing_in(alloc),
-            }))
-        } else {
-            Ok(None)
-        }
-    }
-
-    fn opaque_close(
-        &self,
-        alloc: Global,
-        texts: &mut KnownTexts,
-        id: Option<&str>,
-    ) -> Result<Option<Call>, AllocError>
-        ensures call { IfOk result (λ c. c ≡ opaque_close (machine self.now.core)
-            (option_map (λ t. t.now) id.entry)) }
-        ensures handless { IfOk result (λ c. IfSome c HandsNothingIn) }
-    {
-        let Some(id) = id else {
-            return Ok(None);
-        };
-        let id = texts.text(alloc, id)?;
-        if self.is_opaque_comm(&id) {
-            Ok(Some(Call::Close { id }))
-        } else {
-            Ok(None)
-        }
-    }
-
-    fn opaque_call(
-        &self,
-        alloc: Global,
-        texts: &mut KnownTexts,
-        type_: MessageType,
-        content: Fields<'_, '_>,
-    ) -> Result<Option<Call>, AllocError>
-        ensures call { IfOk result
-            (λ c. c ≡ opaque_call (machine self.now.core) type_ (fields content.entry)) }
-        ensures handless { IfOk result (λ c. IfSome c HandsNothingIn) }
-    {
-        match type_ {
-            MessageType::Open => {
-                let target = text(member(content, "target_name"));
-                self.opaque_open(alloc, comm_id_in(content), target)
-            }
-            MessageType::Msg => self.opaque_msg(alloc, texts, comm_id_in(content)),
-            MessageType::Close => self.opaque_close(alloc, texts, comm_id_in(content)),
-            MessageType::InfoRequest => Ok(None),
-        }
-    }
-
-    // What the message of an envelope asks for, of an opaque target by its heading and the names in its content alone.
-    // Err: the first test that fails, or Memory.
-    #[tactic(auto, unfolding(comm_messages::specs::Message::message_from))]
-    fn asked_of(
-        &self,
-        alloc: Global,
-        from: &EnvelopeRef<'_, '_>,
-        texts: &mut KnownTexts,
-    ) -> Result<(u8, Request), LineFault>
-        ensures asked { ReadGives (λ r. (r.0, r.1)) result
-            (asked_of (machine self.now.core) self.now.numbers (envelope from.now)) }
-        ensures below { IfOk result (λ r. r.0 < 4) }
-        ensures handless { IfOk result (λ r. HandsNothing r.1) }
-    {
-        let (client, type_) = heading(from, MAX_CLIENTS)?;
-        let content = object_of(Field::Content, from.content)?;
-        let request = match self.opaque_call(alloc, texts, type_, content)? {
-            Some(call) => Request::Change(call),
-            None => asked_by_message(incoming_in(
-                alloc,
-                self.numbers,
-                texts,
-                type_,
-                from,
-                content,
-            )?),
-        };
-        Ok((client, request))
-    }
-
-    // What the message of an envelope asks for. Err: memory.
-    fn envelope_input(
-        &self,
-        alloc: Global,
-        from: &EnvelopeRef<'_, '_>,
-        texts: &mut KnownTexts,
-    ) -> Result<Input, AllocError>
-        ensures input { IfOk result (λ i. i
-            ≡ envelope_input (machine self.now.core) self.now.numbers (envelope from.now)) }
-        ensures allowed { IfOk result IsAllowed }
-    {
-        match self.asked_of(alloc, from, texts) {
-            Ok((client, request)) => Ok(Input::reading(Ok((client, request)))),
-            Err(fault) if fault.is_memory() => Err(AllocError),
-            Err(fault) => {
-                let opening = opening_in(alloc, from)?;
-                Ok(Input {
-                    asked: Some(Err(fault)),
-                    opening,
-                })
-            }
+// What the message of an envelope asks for. Err: memory.
+fn envelope_input(
+    alloc: Global,
+    core: &Core<BuiltinTarget>,
+    numbers: Numbers,
+    from: &EnvelopeRef<'_, '_>,
+    texts: &mut KnownTexts,
+) -> Result<Input, AllocError>
+    ensures input { IfOk result (λ i. i
+        ≡ envelope_input (machine core.now) numbers (envelope from.now)) }
+    ensures allowed { IfOk result IsAllowed }
+{
+    match asked_of(alloc, core, numbers, from, texts) {
+        Ok((client, request)) => Ok(Input::reading(Ok((client, request)))),
+        Err(fault) if fault.is_memory() => Err(AllocError),
+        Err(fault) => {
+            let opening = opening_in(alloc, from)?;
+            Ok(Input {
+                asked: Some(Err(fault)),
+                opening,
+            })
         }
     }
+}
 
-    fn is_for_opaque(&self, message: &Incoming) -> bool
-        ensures { result ≡ is_for_opaque (machine self.now.core) message.now }
-    {
-        match message {
-            Incoming::Open { target, .. } => self.is_opaque_target(target),
-            Incoming::Msg { id, .. } => self.is_opaque_comm(id),
-            Incoming::Close { id } => self.is_opaque_comm(id),
-            Incoming::InfoRequest { .. } => false,
-        }
+fn is_for_opaque(core: &Core<BuiltinTarget>, message: &Incoming) -> bool
+    ensures { result ≡ is_for_opaque (machine core.now) message.now }
+{
+    match message {
+        Incoming::Open { target, .. } => is_opaque_target(core, target),
+        Incoming::Msg { id, .. } => is_opaque_comm(core, id),
+        Incoming::Close { id } => is_opaque_comm(core, id),
+        Incoming::InfoRequest { .. } => false,
     }
+}
 
-    // Whether the content begins with the id of an opaque comm. It is a guess, which spares reading what nobody here
-    // wants: the message is read, and its id tested, in any case.
-    fn looks_opaque(&self, alloc: Global, content: &[u8], texts: &mut KnownTexts) -> bool {
-        let Some(id) = leading_id(content) else {
-            return false;
-        };
-        match texts.text(alloc, id) {
-            Ok(id) => self.is_opaque_comm(&id),
-            Err(_) => false,
-        }
+// Whether the content begins with the id of an opaque comm. It is a guess, which spares reading what nobody here
+// wants: the message is read, and its id tested, in any case.
+fn looks_opaque(
+    alloc: Global,
+    core: &Core<BuiltinTarget>,
+    content: &[u8],
+    texts: &mut KnownTexts,
+) -> bool {
+    let Some(id) = leading_id(content) else {
+        return false;
+    };
+    match texts.text(alloc, id) {
+        Ok(id) => is_opaque_comm(core, &id),
+        Err(_) => false,
     }
+}
 
-    // What a message by its parts asks for, if it can be read in one walk over its content and is for no opaque target,
-    // nor looks so where there may be one and much would be read in vain.
-    fn asked_at_once<'a>(
-        &self,
-        alloc: Global,
-        client: u32,
-        header: &'a [u8],
-        metadata: &'a [u8],
-        content: &'a [u8],
-        buffers: &'a [u8],
-        sizes: &'a [usize],
-        scratch: &'a mut PartsScratch,
-        lists: &'a Bump,
-        texts: &mut KnownTexts,
-        has_opaque: bool,
-    ) -> Option<(u8, Request)>
-        ensures asked { IfSome result (λ r. AskedByParts (machine self.now.core) self.now.numbers
-            client header.now metadata.now content.now (split_buffers buffers.now sizes.now)
-            (r.0, r.1)) }
-        ensures below { IfSome result (λ r. r.0 < 4) }
-        ensures handless { IfSome result (λ r. HandsNothing r.1) }
-    {
-        let is_large = content.len() > SMALL || !buffers.is_empty();
-        if has_opaque && is_large && self.looks_opaque(alloc, content, texts) {
-            return None;
-        }
-        let parts = IncomingParts {
-            client,
-            header,
-            metadata,
-            content,
-            buffers,
-            sizes,
-        };
-        let (client, message) = parts_at_once(
-            alloc,
-            parts,
-            MAX_CLIENTS,
-            self.numbers,
-            scratch,
-            lists,
-            texts,
-        )?;
-        if self.is_for_opaque(&message) {
-            drop(message);
-            return None;
-        }
-        Some((client, asked_by_message(message)))
+// What a message by its parts asks for, if it can be read in one walk over its content and is for no opaque target,
+// nor looks so where there may be one and much would be read in vain.
+fn asked_at_once<'a>(
+    alloc: Global,
+    core: &Core<BuiltinTarget>,
+    numbers: Numbers,
+    client: u32,
+    header: &'a [u8],
+    metadata: &'a [u8],
+    content: &'a [u8],
+    buffers: &'a [u8],
+    sizes: &'a [usize],
+    scratch: &'a mut PartsScratch,
+    lists: &'a Bump,
+    texts: &mut KnownTexts,
+    has_opaque: bool,
+) -> Option<(u8, Request)>
+    ensures asked { IfSome result (λ r. AskedByParts (machine core.now) numbers
+        client header.now metadata.now content.now (split_buffers buffers.now sizes.now)
+        (r.0, r.1)) }
+    ensures below { IfSome result (λ r. r.0 < 4) }
+    ensures handless { IfSome result (λ r. HandsNothing r.1) }
+{
+    let is_large = content.len() > SMALL || !buffers.is_empty();
+    if has_opaque && is_large && looks_opaque(alloc, core, content, texts) {
+        return None;
     }
+    let parts = IncomingParts {
+        client,
+        header,
+        metadata,
+        content,
+        buffers,
+        sizes,
+    };
+    let (client, message) = parts_at_once(
+        alloc,
+        parts,
+        MAX_CLIENTS,
+        numbers,
+        scratch,
+        lists,
+        texts,
+    )?;
+    if is_for_opaque(core, &message) {
+        drop(message);
+        return None;
+    }
+    Some((client, asked_by_message(message)))
+}
 
-    /// What a message by its parts asks for. The sizes are tested first, then whether the texts are JSON. Where there
-    /// may be an opaque target, a large message for one is told by the id that its content begins with, before data and
-    /// buffers are read. Err: the first test that fails, or Memory.
-    #[tactic(auto, unfolding(crate::specs::Inputs::message_input))]
-    pub fn message_input<'a>(
-        &self,
-        alloc: Global,
-        client: u32,
-        header: &'a [u8],
-        metadata: &'a [u8],
-        content: &'a [u8],
-        buffers: &'a [u8],
-        sizes: &'a [usize],
-        scratch: &'a mut PartsScratch,
-        texts: &mut KnownTexts,
-        has_opaque: bool,
-    ) -> Result<Input, CallFault>
-        ensures input { Gives (λ i. i) result
-            (message_input (machine self.now.core) self.now.numbers client header.now metadata.now
-            content.now buffers.now sizes.now) }
-        ensures allowed { IfOk result IsAllowed }
-    {
-        test_buffers(buffers, sizes)?;
-        let lists = Bump::new(alloc);
-        if let Some(asked) = self.asked_at_once(
-            alloc, client, header, metadata, content, buffers, sizes, scratch, &lists, texts,
-            has_opaque,
-        ) {
-            return Ok(Input::reading(Ok(asked)));
-        }
-        match parse_parts(
-            client, header, metadata, content, buffers, sizes, scratch, &lists,
-        ) {
-            Ok(read) => Ok(self.envelope_input(alloc, &read.envelope(), texts)?),
-            Err(MessageFault::Memory) => Err(CallFault::Memory),
-            Err(_) => Err(CallFault::NotJson),
-        }
+/// What a message by its parts asks for. The sizes are tested first, then whether the texts are JSON. Where there
+/// may be an opaque target, a large message for one is told by the id that its content begins with, before data and
+/// buffers are read. Err: the first test that fails, or Memory.
+#[tactic(auto, unfolding(crate::specs::Inputs::message_input))]
+pub fn message_input<'a>(
+    alloc: Global,
+    core: &Core<BuiltinTarget>,
+    numbers: Numbers,
+    client: u32,
+    header: &'a [u8],
+    metadata: &'a [u8],
+    content: &'a [u8],
+    buffers: &'a [u8],
+    sizes: &'a [usize],
+    scratch: &'a mut PartsScratch,
+    texts: &mut KnownTexts,
+    has_opaque: bool,
+) -> Result<Input, CallFault>
+    ensures input { Gives (λ i. i) result
+        (message_input (machine core.now) numbers client header.now metadata.now
+        content.now buffers.now sizes.now) }
+    ensures allowed { IfOk result IsAllowed }
+{
+    test_buffers(buffers, sizes)?;
+    let lists = Bump::new(alloc);
+    if let Some(asked) = asked_at_once(
+        alloc, core, numbers, client, header, metadata, content, buffers, sizes, scratch, &lists,
+        texts, has_opaque,
+    ) {
+        return Ok(Input::reading(Ok(asked)));
+    }
+    match parse_parts(
+        client, header, metadata, content, buffers, sizes, scratch, &lists,
+    ) {
+        Ok(read) => Ok(envelope_input(alloc, core, numbers, &read.envelope(), texts)?),
+        Err(MessageFault::Memory) => Err(CallFault::Memory),
+        Err(_) => Err(CallFault::NotJson),
     }
 }

@@ -4,7 +4,7 @@ ghost use Rattle.comm_value.specs.Places.{member_buffers};
 ghost use Rattle.comm_messages.specs.Text.{parts_of};
 ghost use Rattle.comm_c.specs.PartBytes.{bytes_of_part};
 ghost use Rattle.comm_c.specs.Parts.{change_part, custom_part, id_in, ids_part, members_part, message_part};
-ghost use Rattle.comm_c.specs.Parts.{part_replied, part_sent, reply_part, state_part};
+ghost use Rattle.comm_c.specs.Parts.{part_replied, part_sent, reply_part, state_part, target_part};
 
 use crate::call_result::{CallResult, MadeChange};
 use comm_core::{Ids, Reply, StateAnswer};
@@ -162,6 +162,12 @@ fn text_part(text: &Option<Text>) -> Option<PartBytes<'_>>
     }
 }
 
+fn target_part(name: &Option<Text>, part: usize) -> Option<PartBytes<'_>>
+    ensures { option_map bytes_of_part result ≡ target_part name.now part }
+{
+    if part == 4 { text_part(name) } else { None }
+}
+
 fn change_part(
     alloc: Global,
     made: &MadeChange,
@@ -258,6 +264,7 @@ impl CallResult {
         match self {
             CallResult::Change(made) => change_part(alloc, made, part),
             CallResult::State { answer, .. } => state_part(alloc, answer, part),
+            CallResult::Target { name, .. } => Ok(target_part(name, part)),
             CallResult::Nothing | CallResult::Bad { .. } | CallResult::Infos { .. } => Ok(None),
         }
     }

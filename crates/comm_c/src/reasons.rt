@@ -138,7 +138,10 @@ impl CallResult {
         match self {
             CallResult::Bad { fault, .. } => line_reason(*fault),
             CallResult::Change(made) => reply_reason(&made.reply),
-            CallResult::Nothing | CallResult::Infos { .. } | CallResult::State { .. } => NONE,
+            CallResult::Nothing
+            | CallResult::Infos { .. }
+            | CallResult::State { .. }
+            | CallResult::Target { .. } => NONE,
         }
     }
 }

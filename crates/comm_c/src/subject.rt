@@ -3,8 +3,8 @@ ghost use Rattle.std.specs.Prelude.{◌≡◌, IfOk};
 ghost use Rattle.comm_core.specs.Ready.{machine};
 ghost use Rattle.comm_c.specs.Subject.{of_comm, of_opening, of_target, subject_of};
 
-use crate::counted_core::CountedCore;
-use comm_core::{Call, comm_id};
+use crate::builtin_target::BuiltinTarget;
+use comm_core::{Call, Core, comm_id};
 use comm_value::Text;
 use std::alloc::{AllocError, Global};
 
@@ -38,34 +38,36 @@ impl Subject {
     }
 }
 
-impl CountedCore {
-    // A comm, with its target where it is open. Err: memory.
-    fn comm_subject(&self, id: &Text) -> Result<Subject, AllocError>
-        ensures { IfOk result (λ s. s ≡ of_comm (machine self.now.core) id.now) }
-    {
-        let target = match self.core.target_of(id) {
-            Some(name) => Some(name.copy()?),
-            None => None,
-        };
-        Ok(Subject {
-            comm: Some(id.copy()?),
-            target,
-        })
-    }
+// A comm, with its target where it is open. Err: memory.
+fn comm_subject(core: &Core<BuiltinTarget>, id: &Text) -> Result<Subject, AllocError>
+    ensures { IfOk result (λ s. s ≡ of_comm (machine core.now) id.now) }
+{
+    let target = match core.target_of(id) {
+        Some(name) => Some(name.copy()?),
+        None => None,
+    };
+    Ok(Subject {
+        comm: Some(id.copy()?),
+        target,
+    })
+}
 
-    /// What a call is about, before it is made. Err: memory.
-    pub fn subject_of(&self, alloc: Global, call: &Call) -> Result<Subject, AllocError>
-        ensures { IfOk result (λ s. s ≡ subject_of (machine self.now.core) call.now) }
-    {
-        match call {
-            Call::Register { name, .. } | Call::Unregister { name } => Subject::of_target(name),
-            Call::Open { id, target, .. } => Subject::of_opening(id.copy()?, target),
-            Call::Launch { id, target, .. } => Subject::of_opening(comm_id(alloc, id)?, target),
-            Call::Msg { id, .. }
-            | Call::Close { id }
-            | Call::Push { id, .. }
-            | Call::Send { id, .. }
-            | Call::HangUp { id } => self.comm_subject(id),
-        }
+/// What a call is about, before it is made. Err: memory.
+pub fn subject_of(
+    alloc: Global,
+    core: &Core<BuiltinTarget>,
+    call: &Call,
+) -> Result<Subject, AllocError>
+    ensures { IfOk result (λ s. s ≡ subject_of (machine core.now) call.now) }
+{
+    match call {
+        Call::Register { name, .. } | Call::Unregister { name } => Subject::of_target(name),
+        Call::Open { id, target, .. } => Subject::of_opening(id.copy()?, target),
+        Call::Launch { id, target, .. } => Subject::of_opening(comm_id(alloc, id)?, target),
+        Call::Msg { id, .. }
+        | Call::Close { id }
+        | Call::Push { id, .. }
+        | Call::Send { id, .. }
+        | Call::HangUp { id } => comm_subject(core, id),
     }
 }

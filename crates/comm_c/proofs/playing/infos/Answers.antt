@@ -1,0 +1,9 @@
+use denote.Param.Send.{sendable}
+use Rattle.comm_c.proofs.Crossing.{builtin_target_send}
+use Rattle.comm_c.proofs.playing.infos.Goals as goal
+
+pub core-requires-send-T : goal.core-requires-send-T
+core-requires-send-T c κs = search (sendable, builtin_target_send) depth 40
+
+pub infos-requires-send-T : goal.infos-requires-send-T
+infos-requires-send-T c κs = search (sendable, builtin_target_send) depth 40
