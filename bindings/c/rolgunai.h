@@ -54,7 +54,7 @@
  * - No pointer is null, but an `out` whose `out_size` is 0; what is read is readable and what is written writable for
  *   its length; and what one call is given doesn't overlap, but for what is only read.
  * - One handle has one call at a time. Between calls it may go to another thread, if that is ordered by a lock, a join
- *   or the like.
+ *   or the like. Threads that share a manager have clients of it: rolgunai_client.h.
  * - No call from a signal handler, or from the forked child of a process with threads.
  */
 #ifndef ROLGUNAI_H
@@ -78,7 +78,8 @@ typedef struct rolgunai_handle {
 } rolgunai_handle;
 
 /* The status that each call gives. Where more than one test fails, the first of CLOSED or ALREADY_OPEN, BAD_LIMIT,
- * BAD_KIND, BAD_SIZES, BAD_NAME, NOT_JSON, EXHAUSTED gives it; ROLGUNAI_MEMORY may come in place of the last four.
+ * BAD_KIND, BAD_SIZES, BAD_NAME, NOT_JSON, EXHAUSTED gives it; ROLGUNAI_MEMORY may come in place of the last four. The
+ * last four statuses come from the calls of rolgunai_client.h alone, which says in which order these test.
  * After any but ROLGUNAI_OK, ROLGUNAI_BUFFER_TOO_SMALL and ROLGUNAI_NO_TEXT the manager is as it was before the call,
  * with its last result; `out` is as it was after any but ROLGUNAI_OK; and `*size`, `*reply`, `*sent` and `*index` are 0
  * where the call doesn't say otherwise. */
@@ -86,7 +87,7 @@ enum {
   ROLGUNAI_OK = 0,               /* done */
   ROLGUNAI_CLOSED = 1,           /* the handle has no manager */
   ROLGUNAI_MEMORY = 2,           /* out of memory, and nothing has changed: the same call may be made again */
-  ROLGUNAI_BAD_LIMIT = 3,        /* rolgunai_new: `comms` isn't from 1 to 4096 */
+  ROLGUNAI_BAD_LIMIT = 3,        /* rolgunai_new: `comms` isn't from 1 to 1,048,576 */
   ROLGUNAI_ALREADY_OPEN = 4,     /* rolgunai_new: the handle has a manager, which stays; tested before the limit */
   ROLGUNAI_BUFFER_TOO_SMALL = 5, /* done, but `out` is too small: `*size` is the length. Ask again */
   ROLGUNAI_EXHAUSTED = 6,        /* 2^62 calls were made; tested last */
@@ -95,7 +96,11 @@ enum {
   ROLGUNAI_BAD_SIZES = 9,        /* the sizes don't add up to the size of the buffers */
   ROLGUNAI_NOT_JSON = 10,        /* a part isn't one JSON text in UTF-8 that nests at most 127 deep */
   ROLGUNAI_NO_PART = 11,         /* no such message, or it has no such part */
-  ROLGUNAI_NO_TEXT = 12          /* rolgunai_handle_line: done, but out of memory for the text: rolgunai_last_text */
+  ROLGUNAI_NO_TEXT = 12,         /* rolgunai_handle_line: done, but out of memory for the text: rolgunai_last_text */
+  ROLGUNAI_BUSY = 13,            /* another client's call is inside, and nothing has changed: call again */
+  ROLGUNAI_AGAIN = 14,           /* what is shown isn't as late as was asked for, and nothing has changed */
+  ROLGUNAI_NO_SEAT = 15,         /* the manager has 256 clients */
+  ROLGUNAI_STRANGER = 16         /* the client isn't of its manager, which can't be: report it */
 };
 
 /* The kinds of targets that rolgunai_register takes. Two more, `echo` and `counter`, are for scripts and tests:
@@ -114,7 +119,8 @@ enum {
                                frontends write it. A line for one is read whole, as any line */
 };
 
-/* Makes a manager. At most `comms` comms, 1 to 4096, are open at a time; any number of targets may be registered.
+/* Makes a manager. At most `comms` comms, 1 to 1,048,576, are open at a time, and none takes memory before it is open;
+ * any number of targets may be registered.
  * Numbers are whole, from -2^63 to 2^64 - 1: any other, as 1.5 or 1e3, makes a call bad (`not_whole`). */
 uint32_t rolgunai_new(rolgunai_handle *handle, size_t comms);
 
@@ -154,7 +160,9 @@ enum {
   ROLGUNAI_REPLY_NOT_WIDGET = 16,
   ROLGUNAI_REPLY_STATE = 17,     /* the content of rolgunai_reply_part is {"buffer_paths":[..],"state":{..}}, and its
                                     buffers are those of the paths */
-  ROLGUNAI_REPLY_NO_STATE = 18   /* the comm has no state: its target is no widget */
+  ROLGUNAI_REPLY_NO_STATE = 18,  /* the comm has no state: its target is no widget */
+  ROLGUNAI_REPLY_TARGET = 19     /* rolgunai_client_target: the comm is open, and ROLGUNAI_PART_TARGET is its target's
+                                    name */
 };
 
 /* Why a reply is ROLGUNAI_REPLY_BAD, ROLGUNAI_REPLY_REFUSED or ROLGUNAI_REPLY_FAULT. Where the comment has an n it is
