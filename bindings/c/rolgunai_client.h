@@ -52,9 +52,9 @@ uint32_t rolgunai_client_free(rolgunai_client *client);
 
 /* ---- Changes: the calls of rolgunai.h of these names, without a client's number, since the client is one. Each gives
  * the number of its reply and how many messages it sends. Statuses, in the order of the tests: CLOSED; BUSY; then
- * those of the call of rolgunai.h, with EXHAUSTED also where the history has 2^62 changes; STRANGER.
- * rolgunai_client_register tests its kind and its name before BUSY. A `comm_info_request`, and why a message is BAD, are
- * answered after the whole history. */
+ * those of the call of rolgunai.h, with EXHAUSTED also where the history has 2^62 changes; STRANGER. A register's kind
+ * and name are tested before BUSY. A `comm_info_request`, and why a message is BAD, are answered after the whole
+ * history. */
 uint32_t rolgunai_client_handle_message(rolgunai_client *client, const uint8_t *header, size_t header_size,
                                         const uint8_t *metadata, size_t metadata_size, const uint8_t *content,
                                         size_t content_size, const uint8_t *buffers, size_t buffers_size,

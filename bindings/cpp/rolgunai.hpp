@@ -1,5 +1,5 @@
-// Rolgunai, the proved comm manager, in C++20: this header and rolgunai_types.hpp over bindings/c/rolgunai.h, to be
-// copied beside it.
+// Rolgunai, the proved comm manager, in C++20: this header, rolgunai_parts.hpp and rolgunai_types.hpp over
+// bindings/c/rolgunai.h, to be copied beside it. For threads that share a manager: rolgunai_client.hpp.
 //
 //     rolgunai::manager manager(4096, rolgunai::numbers::any);
 //     manager.register_target(rolgunai::kind::widget_echo, "jupyter.widget");
@@ -14,21 +14,18 @@
 #ifndef ROLGUNAI_HPP
 #define ROLGUNAI_HPP
 
-#include "rolgunai_types.hpp"
+#include "rolgunai_parts.hpp"
 
 #include <memory>
-#include <new>
-#include <utility>
 
 namespace rolgunai {
 
 /// A manager. It is freed where it goes out of scope; the calls of one that was moved from throw `closed`.
-class manager {
+class manager : detail::caller {
 public:
-  /// At most so many comms, 1 to 4096, are open at a time; any number of targets may be registered. With decimals a
-  /// number that isn't whole is a value too, kept and sent as the text that came.
-  explicit manager(std::size_t comms = 4096, numbers taken = numbers::whole)
-      : handle_(new rolgunai_handle{}), out_(short_size) {
+  /// At most so many comms, 1 to 1,048,576, are open at a time; any number of targets may be registered. With decimals
+  /// a number that isn't whole is a value too, kept and sent as the text that came.
+  explicit manager(std::size_t comms = 4096, numbers taken = numbers::whole) : handle_(new rolgunai_handle{}) {
     checked(taken == numbers::any ? rolgunai_new_with_decimals(handle_.get(), comms)
                                   : rolgunai_new(handle_.get(), comms));
   }
@@ -116,7 +113,7 @@ public:
     std::uint32_t reply = 0;
     std::size_t count = 0;
     checked(rolgunai_last_result(handle(), &reply, &count));
-    return gathered(static_cast<rolgunai::reply>(reply), count);
+    return gathered(static_cast<rolgunai::reply>(reply), count, result{handle()});
   }
 
   /// The text of the last call that was made, as `line` gives it.
@@ -128,8 +125,6 @@ public:
   void end() { checked(rolgunai_free(handle())); }
 
 private:
-  static constexpr std::size_t short_size = 4096;
-
   struct ends {
     void operator()(rolgunai_handle *handle) const noexcept {
       rolgunai_free(handle);
@@ -137,43 +132,32 @@ private:
     }
   };
 
-  static void checked(std::uint32_t found) {
-    if (found != ROLGUNAI_OK) throw error(static_cast<status>(found));
-  }
+  /// The last result, as `gathered` asks for it.
+  struct result {
+    rolgunai_handle *of;
 
-  // The library takes no null pointer, also where there is nothing to read.
-  static const std::uint8_t *some(bytes text) noexcept {
-    static constexpr std::uint8_t nothing = 0;
-    return text.data() ? text.data() : &nothing;
-  }
+    std::uint32_t reason(std::uint32_t &reason, std::uint64_t &index) const {
+      return rolgunai_last_reason(of, &reason, &index);
+    }
+    std::uint32_t part(std::size_t number, std::uint8_t *out, std::size_t room, std::size_t &size) const {
+      return rolgunai_reply_part(of, number, out, room, &size);
+    }
+    std::uint32_t sent_part(std::size_t message, std::size_t number, std::uint8_t *out, std::size_t room,
+                            std::size_t &size) const {
+      return rolgunai_sent_part(of, message, number, out, room, &size);
+    }
+  };
 
   rolgunai_handle *handle() const {
     if (!handle_) throw error(status::closed);
     return handle_.get();
   }
 
-  /// The buffers one after another, with their sizes in `sizes_`. One that is alone isn't copied.
-  bytes joined(buffer_list buffers) {
-    sizes_.clear();
-    together_.clear();
-    for (const bytes &buffer : buffers) sizes_.push_back(buffer.size());
-    sizes_.push_back(0); // since the library takes no null pointer, which an empty vector may have
-    if (buffers.size() == 1) return buffers.front();
-    for (const bytes &buffer : buffers) together_.insert(together_.end(), buffer.begin(), buffer.end());
-    return together_;
-  }
-
   template <class Call> outcome made(Call call) {
     std::uint32_t reply = 0;
     std::size_t count = 0;
     checked(call(reply, count));
-    try {
-      return gathered(static_cast<rolgunai::reply>(reply), count);
-    } catch (const error &found) {
-      throw error(found.code() == status::memory ? status::no_text : found.code());
-    } catch (const std::bad_alloc &) {
-      throw error(status::no_text);
-    }
+    return gathered_once(static_cast<rolgunai::reply>(reply), count, result{handle()});
   }
 
   template <class Call> outcome named(Call call, std::string_view name, std::uint32_t client) {
@@ -181,67 +165,6 @@ private:
     return made([&](std::uint32_t &reply, std::size_t &count) {
       return call(handle(), client, some(text), text.size(), &reply, &count);
     });
-  }
-
-  outcome gathered(rolgunai::reply reply, std::size_t count) {
-    outcome found;
-    found.reply = reply;
-    std::uint32_t reason = 0;
-    checked(rolgunai_last_reason(handle(), &reason, &found.why.index));
-    found.why.reason = static_cast<rolgunai::reason>(reason);
-    const auto part = [&](std::size_t part, std::uint8_t *out, std::size_t room, std::size_t &size) {
-      return rolgunai_reply_part(handle(), part, out, room, &size);
-    };
-    found.comm = text_of(part, ROLGUNAI_PART_ID);
-    found.target = text_of(part, ROLGUNAI_PART_TARGET);
-    if (std::optional<std::string> content = text_of(part, ROLGUNAI_PART_CONTENT))
-      found.payload = payload{std::move(*content), buffers_of(part)};
-    for (std::size_t number = 0; number < count; number++) found.sent.push_back(message_of(number));
-    return found;
-  }
-
-  sent message_of(std::size_t number) {
-    const auto part = [&](std::size_t part, std::uint8_t *out, std::size_t room, std::size_t &size) {
-      return rolgunai_sent_part(handle(), number, part, out, room, &size);
-    };
-    const auto text = [&](std::size_t number) {
-      std::optional<std::string> found = text_of(part, number);
-      if (!found) throw error(status::no_part);
-      return std::move(*found);
-    };
-    return {text(ROLGUNAI_PART_TYPE), text(ROLGUNAI_PART_ID), text(ROLGUNAI_PART_CONTENT),
-            text(ROLGUNAI_PART_METADATA), buffers_of(part)};
-  }
-
-  /// A part that is a text, where there is one. JSON is written each time that it is asked for, so that the buffer grows
-  /// to the longest.
-  template <class Part> std::optional<std::string> text_of(Part part, std::size_t number) {
-    std::size_t size = 0;
-    std::uint32_t found = part(number, out_.data(), out_.size(), size);
-    if (found == ROLGUNAI_BUFFER_TOO_SMALL) {
-      out_.resize(2 * size);
-      found = part(number, out_.data(), out_.size(), size);
-    }
-    if (found == ROLGUNAI_NO_PART) return std::nullopt;
-    checked(found);
-    return std::string(out_.begin(), out_.begin() + static_cast<std::ptrdiff_t>(size));
-  }
-
-  /// The binary buffers. A long one is copied once, to where it stays.
-  template <class Part> std::vector<buffer> buffers_of(Part part) {
-    std::vector<buffer> found;
-    for (std::size_t number = ROLGUNAI_PART_BUFFERS;; number++) {
-      std::size_t size = 0;
-      const std::uint32_t status = part(number, out_.data(), short_size, size);
-      if (status == ROLGUNAI_NO_PART) return found;
-      if (status == ROLGUNAI_BUFFER_TOO_SMALL) {
-        found.emplace_back(size);
-        checked(part(number, found.back().data(), size, size));
-      } else {
-        checked(status);
-        found.emplace_back(out_.begin(), out_.begin() + static_cast<std::ptrdiff_t>(size));
-      }
-    }
   }
 
   template <class Call> std::string_view told(Call call) {
@@ -262,9 +185,6 @@ private:
 
   // On the heap, since a handle is not to be copied, and a manager may be moved.
   std::unique_ptr<rolgunai_handle, ends> handle_;
-  std::vector<std::uint8_t> out_;
-  std::vector<std::uint8_t> together_;
-  std::vector<std::size_t> sizes_;
 };
 
 } // namespace rolgunai

@@ -31,7 +31,7 @@ enum class kind : std::uint32_t {
 enum class numbers { whole, any };
 
 /// The status of a call. At `no_text` it is done, and memory ran out for what it came to: `manager::last` and
-/// `manager::text` give that. After any other but `ok` the manager is as it was before the call.
+/// `manager::text`, or `client::last`, give that. After any other but `ok` the manager is as it was before the call.
 enum class status : std::uint32_t {
   ok = ROLGUNAI_OK,
   closed = ROLGUNAI_CLOSED,
@@ -45,7 +45,11 @@ enum class status : std::uint32_t {
   bad_sizes = ROLGUNAI_BAD_SIZES,
   not_json = ROLGUNAI_NOT_JSON,
   no_part = ROLGUNAI_NO_PART,
-  no_text = ROLGUNAI_NO_TEXT
+  no_text = ROLGUNAI_NO_TEXT,
+  busy = ROLGUNAI_BUSY,
+  again = ROLGUNAI_AGAIN,
+  no_seat = ROLGUNAI_NO_SEAT,
+  stranger = ROLGUNAI_STRANGER
 };
 
 /// What a call came to. A reply that is `bad`, `refused` or `fault` has a reason.
@@ -68,7 +72,8 @@ enum class reply : std::uint32_t {
   launched = ROLGUNAI_REPLY_LAUNCHED,
   not_widget = ROLGUNAI_REPLY_NOT_WIDGET,
   state = ROLGUNAI_REPLY_STATE,
-  no_state = ROLGUNAI_REPLY_NO_STATE
+  no_state = ROLGUNAI_REPLY_NO_STATE,
+  target = ROLGUNAI_REPLY_TARGET
 };
 
 /// Why a reply is `bad`, `refused` or `fault`.
@@ -115,7 +120,8 @@ enum class field : std::uint64_t {
 namespace names {
 inline constexpr std::string_view replies[] = {
     "none", "bad", "comm_info", "registered", "replaced", "opened", "id_in_use", "refused", "delivered", "for_kernel",
-    "fault", "no_comm", "closed", "unregistered", "no_target", "launched", "not_widget", "state", "no_state"};
+    "fault", "no_comm", "closed", "unregistered", "no_target", "launched", "not_widget", "state", "no_state",
+    "target"};
 inline constexpr std::string_view reasons[] = {
     "none", "not_json", "no_type", "unknown_type", "bad_content", "not_whole", "bad_buffer", "bad_client",
     "unknown_call", "bad_field", "bad_uuid", "no_stock", "bad_path", "buffer_missing", "no_target", "too_many_comms",
@@ -144,7 +150,7 @@ constexpr const char *name_of(status found) noexcept {
   case status::ok: return "rolgunai: ok";
   case status::closed: return "rolgunai: there is no manager";
   case status::memory: return "rolgunai: out of memory, and nothing has changed";
-  case status::bad_limit: return "rolgunai: the limit of comms isn't from 1 to 4096";
+  case status::bad_limit: return "rolgunai: the limit of comms isn't from 1 to 1,048,576";
   case status::already_open: return "rolgunai: the handle has a manager";
   case status::buffer_too_small: return "rolgunai: the buffer is too small";
   case status::exhausted: return "rolgunai: no more calls can be counted";
@@ -154,6 +160,10 @@ constexpr const char *name_of(status found) noexcept {
   case status::not_json: return "rolgunai: a part isn't one JSON text that nests at most 127 deep";
   case status::no_part: return "rolgunai: there is no such part";
   case status::no_text: return "rolgunai: done, but out of memory for what came of it";
+  case status::busy: return "rolgunai: another client's call is inside";
+  case status::again: return "rolgunai: there aren't as many changes as were asked for";
+  case status::no_seat: return "rolgunai: the manager has 256 clients";
+  case status::stranger: return "rolgunai: the client isn't of its manager";
   }
   return "rolgunai: a status that this header doesn't know";
 }
