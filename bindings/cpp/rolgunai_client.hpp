@@ -289,7 +289,7 @@ private:
   /// The call is made: what it came to, with its turn, which is kept for `last` where memory runs out.
   shared_outcome came(turn next, std::uint32_t reply, std::size_t count, bool is_change) {
     const position now = seen_now();
-    next.made(now.seen, is_change);
+    if (is_change || count > 0) next.made(now.seen, is_change);
     owed_ = std::move(next);
     outcome found = gathered_once(static_cast<rolgunai::reply>(reply), count, result{handle()});
     return {std::move(found), now.seen, now.is_shown, std::move(owed_)};

@@ -12,28 +12,22 @@
 //!
 //! A message is given and sent by its parts, as the wire has them: JSON texts and binary buffers. A call gives its
 //! outcome; one that isn't made gives an `Error`. Clients are numbered 0 to 3: hand in 0, unless the kernel tells its
-//! frontends apart. What else a kernel has to know stands in `rolgunai.h`.
+//! frontends apart. What else a kernel has to know stands in `rolgunai.h`. Threads that share a manager have a `Client`
+//! each.
 
+// A program that copies this file uses a part of it: a manager, or clients.
+#![allow(dead_code, unused_imports)]
+
+mod client;
 mod ffi;
+mod outbox;
+mod parts;
 mod types;
 
+pub use client::{Client, SharedOutcome};
 pub use types::{answers, Answer, Error, Field, Kind, Outcome, Payload, Reason, Reply, Sent};
 
-const OK: u32 = 0;
-const BUFFER_TOO_SMALL: u32 = 5;
-const NO_PART: u32 = 11;
-const NOT_UTF8: u32 = 7;
-
-// The parts of a message and of a reply; binary buffers are numbered on from the last.
-const TYPE: usize = 0;
-const ID: usize = 1;
-const CONTENT: usize = 2;
-const METADATA: usize = 3;
-const TARGET: usize = 4;
-const BUFFERS: usize = 5;
-
-/// How long a buffer may be that is copied twice.
-const SHORT: usize = 4096;
+use parts::{checked, Joined, LastResult, BUFFER_TOO_SMALL, NOT_UTF8, OK, SHORT};
 
 /// The version of the library that is linked: 2,003,004 is 2.3.4.
 pub fn version() -> u32 {
@@ -52,25 +46,8 @@ pub struct Manager {
 // `&mut self`, so that there is one at a time.
 unsafe impl Send for Manager {}
 
-/// Buffers one after another, and their sizes. One that is alone isn't copied.
-struct Joined<'a> {
-    bytes: std::borrow::Cow<'a, [u8]>,
-    sizes: Vec<usize>,
-}
-
-impl<'a> Joined<'a> {
-    fn of(buffers: &[&'a [u8]]) -> Joined<'a> {
-        let sizes = buffers.iter().map(|buffer| buffer.len()).collect();
-        let bytes = match buffers {
-            [one] => (*one).into(),
-            more => more.concat().into(),
-        };
-        Joined { bytes, sizes }
-    }
-}
-
 impl Manager {
-    /// A manager, of which at most `comms` comms (1 to 4,096) are open at a time. Any number of targets may be
+    /// A manager, of which at most `comms` comms (1 to 1,048,576) are open at a time. Any number of targets may be
     /// registered.
     pub fn new(comms: usize) -> Result<Manager, Error> {
         // SAFETY: the handle is zeroed, and only the library uses it from here on.
@@ -249,7 +226,7 @@ impl Manager {
         // SAFETY: reply and count are writable.
         let status = unsafe { ffi::rolgunai_last_result(&mut *self.handle, &mut reply, &mut count) };
         checked(status)?;
-        self.outcome(reply, count)
+        parts::outcome(&mut *self.handle, &mut self.out, reply, count)
     }
 
     /// The text of the last call that was made, as `line` gives it.
@@ -260,43 +237,12 @@ impl Manager {
     fn made(&mut self, call: impl FnOnce(&mut ffi::Handle, &mut u32, &mut usize) -> u32) -> Result<Outcome, Error> {
         let (mut reply, mut count) = (0, 0);
         checked(call(&mut self.handle, &mut reply, &mut count))?;
-        self.outcome(reply, count).map_err(|error| if error == Error::Memory { Error::NoText } else { error })
+        parts::outcome_once(&mut *self.handle, &mut self.out, reply, count)
     }
 
     fn named(&mut self, call: ffi::NamedCall, client: u32, name: &str) -> Result<Outcome, Error> {
         // SAFETY: as in `message`.
         self.made(|handle, reply, sent| unsafe { call(handle, client, name.as_ptr(), name.len(), reply, sent) })
-    }
-
-    fn outcome(&mut self, reply: u32, count: usize) -> Result<Outcome, Error> {
-        let handle = &mut *self.handle;
-        let (mut reason, mut index) = (0, 0);
-        // SAFETY: reason and index are writable.
-        checked(unsafe { ffi::rolgunai_last_reason(handle, &mut reason, &mut index) })?;
-        // SAFETY: `out` is writable for its length, and not null.
-        let mut part = |part, out: &mut [u8], size: &mut usize| unsafe {
-            ffi::rolgunai_copy_reply_part(handle, part, out.as_mut_ptr(), out.len(), size)
-        };
-        let comm = text_part(&mut self.out, &mut part, ID)?;
-        let target = text_part(&mut self.out, &mut part, TARGET)?;
-        let payload = match text_part(&mut self.out, &mut part, CONTENT)? {
-            Some(content) => Some(Payload { content, buffers: buffers_of(&mut self.out, &mut part)? }),
-            None => None,
-        };
-        let sent = (0..count).map(|number| self.sent(number)).collect::<Result<_, _>>()?;
-        let (reply, reason) = (Reply::numbered(reply), Reason::numbered(reason, index));
-        Ok(Outcome { reply, reason, comm, target, payload, sent })
-    }
-
-    fn sent(&mut self, number: usize) -> Result<Sent, Error> {
-        let handle = &mut *self.handle;
-        // SAFETY: `out` is writable for its length, and not null.
-        let mut part = |part, out: &mut [u8], size: &mut usize| unsafe {
-            ffi::rolgunai_copy_sent_part(handle, number, part, out.as_mut_ptr(), out.len(), size)
-        };
-        let mut text = |number| text_part(&mut self.out, &mut part, number)?.ok_or(Error::Other(NO_PART));
-        let (message_type, id, content, metadata) = (text(TYPE)?, text(ID)?, text(CONTENT)?, text(METADATA)?);
-        Ok(Sent { message_type, id, content, metadata, buffers: buffers_of(&mut self.out, &mut part)? })
     }
 
     fn text_of(&mut self, call: impl FnOnce(&mut ffi::Handle, &mut [u8], &mut usize) -> u32) -> Result<&str, Error> {
@@ -312,60 +258,26 @@ impl Manager {
     }
 }
 
-fn checked(status: u32) -> Result<(), Error> {
-    if status == OK {
-        Ok(())
-    } else {
-        Err(Error::numbered(status))
-    }
-}
-
-/// A part that is a text, where there is one. JSON is written each time that it is asked for, so that `out` grows to the
-/// longest.
-fn text_part(
-    out: &mut Vec<u8>,
-    part: &mut impl FnMut(usize, &mut [u8], &mut usize) -> u32,
-    number: usize,
-) -> Result<Option<String>, Error> {
-    let mut size = 0;
-    let mut status = part(number, out, &mut size);
-    if status == BUFFER_TOO_SMALL {
-        out.resize(2 * size, 0);
-        status = part(number, out, &mut size);
-    }
-    if status == NO_PART {
-        return Ok(None);
-    }
-    checked(status)?;
-    String::from_utf8(out[..size].to_vec()).map(Some).map_err(|_| Error::Other(NOT_UTF8))
-}
-
-/// The binary buffers. A long one is copied once, to where it stays.
-fn buffers_of(
-    out: &mut [u8],
-    part: &mut impl FnMut(usize, &mut [u8], &mut usize) -> u32,
-) -> Result<Vec<Vec<u8>>, Error> {
-    let mut buffers = Vec::new();
-    loop {
-        let (mut size, number) = (0, BUFFERS + buffers.len());
-        match part(number, &mut out[..SHORT], &mut size) {
-            NO_PART => return Ok(buffers),
-            BUFFER_TOO_SMALL => {
-                let mut whole = vec![0; size];
-                checked(part(number, &mut whole, &mut size))?;
-                buffers.push(whole);
-            }
-            status => {
-                checked(status)?;
-                buffers.push(out[..size].to_vec());
-            }
-        }
-    }
-}
-
 fn text(handle: &mut ffi::Handle, out: &mut [u8], size: &mut usize) -> u32 {
     // SAFETY: `out` is writable for its length, and not null, not even where it is empty.
     unsafe { ffi::rolgunai_copy_last_text(handle, out.as_mut_ptr(), out.len(), size) }
+}
+
+impl LastResult for ffi::Handle {
+    fn reason(&mut self, reason: &mut u32, index: &mut u64) -> u32 {
+        // SAFETY: reason and index are writable.
+        unsafe { ffi::rolgunai_last_reason(self, reason, index) }
+    }
+
+    fn part(&mut self, part: usize, out: &mut [u8], size: &mut usize) -> u32 {
+        // SAFETY: `out` is writable for its length, and not null.
+        unsafe { ffi::rolgunai_copy_reply_part(self, part, out.as_mut_ptr(), out.len(), size) }
+    }
+
+    fn sent_part(&mut self, message: usize, part: usize, out: &mut [u8], size: &mut usize) -> u32 {
+        // SAFETY: as in `part`.
+        unsafe { ffi::rolgunai_copy_sent_part(self, message, part, out.as_mut_ptr(), out.len(), size) }
+    }
 }
 
 impl Drop for Manager {

@@ -8,14 +8,19 @@ use std::fmt::{self, Display, Formatter};
 pub enum Error {
     /// Out of memory, and nothing has changed: the same call may be made again.
     Memory,
-    /// The limit of comms isn't from 1 to 4,096.
+    /// The limit of comms isn't from 1 to 1,048,576.
     BadLimit,
     /// 2^62 calls were made.
     Exhausted,
     /// A part isn't one JSON text in UTF-8 that nests at most 127 deep.
     NotJson,
-    /// The call is made, and memory ran out for what it came to: `Manager::last` and `Manager::text` give that.
+    /// The call is made, and memory ran out for what it came to: `Manager::last`, `Manager::text` and `Client::last`
+    /// give that.
     NoText,
+    /// A read of a `Client` asks for more changes than there are.
+    Again,
+    /// The manager has 256 clients.
+    NoSeat,
     /// A status that no call of this wrapper should give.
     Other(u32),
 }
@@ -28,6 +33,8 @@ impl Error {
             6 => Error::Exhausted,
             10 => Error::NotJson,
             12 => Error::NoText,
+            14 => Error::Again,
+            15 => Error::NoSeat,
             other => Error::Other(other),
         }
     }
@@ -37,10 +44,12 @@ impl Display for Error {
     fn fmt(&self, to: &mut Formatter<'_>) -> fmt::Result {
         match self {
             Error::Memory => to.write_str("out of memory, and nothing has changed"),
-            Error::BadLimit => to.write_str("the limit of comms isn't from 1 to 4096"),
+            Error::BadLimit => to.write_str("the limit of comms isn't from 1 to 1,048,576"),
             Error::Exhausted => to.write_str("no more calls can be counted"),
             Error::NotJson => to.write_str("a part isn't one JSON text that nests at most 127 deep"),
             Error::NoText => to.write_str("done, but out of memory for what came of it"),
+            Error::Again => to.write_str("there aren't as many changes as were asked for"),
+            Error::NoSeat => to.write_str("the manager has 256 clients"),
             Error::Other(status) => write!(to, "the library gave the status {status}"),
         }
     }
@@ -84,12 +93,13 @@ pub enum Reply {
     NotWidget,
     State,
     NoState,
+    Target,
     /// A number that the library shouldn't give.
     Other(u32),
 }
 
 /// Each reply at its number, with its word.
-const REPLIES: [(Reply, &str); 19] = [
+const REPLIES: [(Reply, &str); 20] = [
     (Reply::None, "none"),
     (Reply::Bad, "bad"),
     (Reply::CommInfo, "comm_info"),
@@ -109,6 +119,7 @@ const REPLIES: [(Reply, &str); 19] = [
     (Reply::NotWidget, "not_widget"),
     (Reply::State, "state"),
     (Reply::NoState, "no_state"),
+    (Reply::Target, "target"),
 ];
 
 impl Reply {
