@@ -43,9 +43,3 @@ def checked(script, text, library):
         if found:
             return found
     return list(replayed(script, log, library))
-
-
-def count_of(text):
-    """How many lines were done, and how many seen by another after they were made."""
-    log = read_log(text)
-    return len(log.answers), sum(it.status == OK and not it.shown for it in log.answers)

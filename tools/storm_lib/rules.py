@@ -1,5 +1,5 @@
-"""What must hold of a storm's log: of each line alone, of the numbers, of what each client has seen, and of the order in
-which messages were sent. Nothing that the log says is trusted."""
+"""What must hold of a storm's log: of each line alone, of the numbers, of what each client has seen, and of the order
+in which messages were sent. Nothing that the log says is trusted."""
 from collections import Counter
 from dataclasses import dataclass
 

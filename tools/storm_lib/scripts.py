@@ -1,6 +1,6 @@
-"""Random scripts of clients who have ids and names in common. A script's first line has the number of clients, the limit
-of comms, and 1 where decimals are taken; each other line a client, the client whose last number it asks for (- for none),
-a call and what that takes, with tabs between. Buffers are told by their sizes."""
+"""Random scripts of clients who have ids and names in common. A script's first line has the number of clients, the
+limit of comms, and 1 where decimals are taken; each other line a client, the client whose last number it asks for (-
+for none), a call and what that takes, with tabs between. Buffers are told by their sizes."""
 from dataclasses import dataclass
 
 from fuzz_lib.json_texts import loose
