@@ -51,7 +51,7 @@ static void closed_handles(const char *when) {
 
 static void making(void) {
   check(rolgunai_new(&handle, 0) == ROLGUNAI_BAD_LIMIT, "no comm");
-  check(rolgunai_new(&handle, 4097) == ROLGUNAI_BAD_LIMIT, "too many comms");
+  check(rolgunai_new(&handle, 1048577) == ROLGUNAI_BAD_LIMIT, "too many comms");
   check(rolgunai_new(&handle, 2) == ROLGUNAI_OK, "a new manager");
   check(rolgunai_new(&handle, 2) == ROLGUNAI_ALREADY_OPEN, "a second one");
   check(rolgunai_new(&handle, 0) == ROLGUNAI_ALREADY_OPEN, "the handle is tested before the limit");
@@ -129,7 +129,7 @@ static void decimals(void) {
     check_line("{\"call\":\"state\",\"id\":\"a\"}", rows[i].state);
     check(rows[i].make(&handle, 1) == ROLGUNAI_ALREADY_OPEN, "the handle has a manager");
     check(rolgunai_free(&handle) == ROLGUNAI_OK, rows[i].name);
-    check(rows[i].make(&handle, 4097) == ROLGUNAI_BAD_LIMIT, "too many comms");
+    check(rows[i].make(&handle, 1048577) == ROLGUNAI_BAD_LIMIT, "too many comms");
   }
 }
 

@@ -241,7 +241,7 @@ static void errors() {
     check_same(shown(m.last()), "registered @mine", row.what);
   }
   check(status_of([] { manager none(0); }) == status::bad_limit, "no comm");
-  check(status_of([] { manager many(4097); }) == status::bad_limit, "too many comms");
+  check(status_of([] { manager many(1'048'577); }) == status::bad_limit, "too many comms");
   static_assert(!std::is_copy_constructible_v<manager>, "a handle isn't copied");
 }
 

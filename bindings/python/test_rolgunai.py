@@ -336,7 +336,7 @@ def errors():
         check("arguments by their names", by_name.reply, Reply.REGISTERED)
         check("a second beginning", raised(manager.__init__).status, Status.ALREADY_OPEN)
         check("which changes nothing", manager.register(Kind.WIDGET, "w").reply, Reply.REPLACED)
-    for limit in (0, -1, 4097, 2**70, -(2**70)):
+    for limit in (0, -1, 1048577, 2**70, -(2**70)):
         error = raised(lambda: Manager(comms=limit))
         check(f"a limit of {limit}", (type(error), error.status), (ArgumentError, Status.BAD_LIMIT))
         check(f"{limit} is a wrong value", isinstance(error, ValueError), True)

@@ -302,7 +302,7 @@ fn errors(checks: &mut Checks) -> Result<(), Error> {
         checks.check_same(what, &shown(&manager.last()), "registered @mine");
     }
     checks.check("no comm", Manager::new(0).err() == Some(Error::BadLimit));
-    checks.check("too many comms", Manager::with_decimals(4097).err() == Some(Error::BadLimit));
+    checks.check("too many comms", Manager::with_decimals(1_048_577).err() == Some(Error::BadLimit));
     let error: Box<dyn std::error::Error> = Box::new(Error::NoText);
     checks.check_same("an error in words", &error.to_string(), "done, but out of memory for what came of it");
     Ok(())
