@@ -1,5 +1,5 @@
 /* A heap in place of the kit's object, by the same three names: the allocation of a number fails, or those from it on,
- * and blocks are counted. */
+ * and blocks are counted, by threads too. */
 #include <stdint.h>
 #include <stdlib.h>
 
@@ -12,10 +12,12 @@ typedef struct {
 
 static char nothing;
 
-static int refused(void) { return ++heap_count == heap_fail_at; }
+static void count(long *what, long by) { __atomic_add_fetch(what, by, __ATOMIC_RELAXED); }
+
+static int refused(void) { return __atomic_add_fetch(&heap_count, 1, __ATOMIC_RELAXED) == heap_fail_at; }
 
 static answer given(void *at, int is_new) {
-  if (at && is_new) heap_live++;
+  if (at && is_new) count(&heap_live, 1);
   return (answer){at != 0, at ? at : &nothing};
 }
 
@@ -27,6 +29,6 @@ answer rattle_realloc(void *old, size_t was, size_t size, size_t align) {
 }
 
 void rattle_dealloc(void *at) {
-  heap_live--;
+  count(&heap_live, -1);
   free(at);
 }
