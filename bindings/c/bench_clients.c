@@ -6,7 +6,8 @@
  *                 comms: for counting instructions, by callgrind of two N and the difference between them
  *
  * With threads WRITERS make CHANGES pushes in all, under one lock, while READERS read, and one line says how many
- * changes and reads there were in how many ns. Push n of a writer gives one key of one comm in turn another number. */
+ * changes and reads there were in how many ns; with no writer, READERS read for CHANGES milliseconds. Push n of a writer
+ * gives one key of one comm in turn another number. */
 #include "rolgunai_threads.h"
 
 #include <stdatomic.h>
@@ -173,7 +174,7 @@ static int with_threads(char **words) {
   const int writers = atoi(words[0]), readers = atoi(words[1]);
   uint64_t made = 0, read = 0;
   changes = atol(words[2]), comms = atol(words[3]), keys = atol(words[4]), what_is_read = words[5];
-  need(writers >= 1 && readers >= 0 && writers + readers <= MOST_THREADS && comms > 0 && keys > 0, "bad numbers");
+  need(writers >= 0 && readers >= 0 && writers + readers <= MOST_THREADS && comms > 0 && keys > 0, "bad numbers");
   begin(&workers[0].client, comms, keys);
   for (int i = 1; i < writers + readers; i++)
     need(rolgunai_client_join(&workers[0].client, &workers[i].client) == ROLGUNAI_OK, "no client");
@@ -184,6 +185,8 @@ static int with_threads(char **words) {
     need(!pthread_create(&workers[i].thread, NULL, i < writers ? writes : reads, &workers[i]), "no thread");
   }
   for (int i = 0; i < writers; i++) pthread_join(workers[i].thread, NULL);
+  const struct timespec span = {changes / 1000, changes % 1000 * 1000000};
+  if (!writers) nanosleep(&span, NULL);
   const uint64_t ns = nanoseconds() - start;
   atomic_store(&is_over, 1);
   for (int i = writers; i < writers + readers; i++) pthread_join(workers[i].thread, NULL);
