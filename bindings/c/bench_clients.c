@@ -6,8 +6,8 @@
  *                 comms: for counting instructions, by callgrind of two N and the difference between them
  *
  * With threads WRITERS make CHANGES pushes in all, under one lock, while READERS read, and one line says how many
- * changes and reads there were in how many ns; with no writer, READERS read for CHANGES milliseconds. Push n of a writer
- * gives one key of one comm in turn another number. */
+ * changes and reads there were in how many ns; with no writer, READERS read for CHANGES milliseconds. Push n of a
+ * writer gives one key of one comm in turn another number. */
 #include "rolgunai_threads.h"
 
 #include <stdatomic.h>
