@@ -309,8 +309,9 @@ static PyMethodDef methods[] = {
 
 static const char documentation[] =
     "Manager(*, comms=4096, decimals=False)\n--\n\n"
-    "A comm manager, of which at most `comms` comms, 1 to 1,048,576, are open at a time. With `decimals` each JSON number\n"
-    "is a value, kept and sent as the text that came; without, one that isn't whole makes a call bad (NOT_WHOLE).\n\n"
+    "A comm manager, of which at most `comms` comms, 1 to 1048576, are open at a time. With `decimals` each JSON\n"
+    "number is a value, kept and sent as the text that came; without, one that isn't whole makes a call bad\n"
+    "(NOT_WHOLE).\n\n"
     "Each call gives its Outcome. A text is a str or bytes-like, a buffer is bytes-like. Threads may share a manager:\n"
     "a call waits for the one that is under way. A `__del__` may call it at any time.";
 
