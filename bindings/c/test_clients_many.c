@@ -9,10 +9,12 @@
 #include <time.h>
 #include <unistd.h>
 
-enum { COMMS = 100000, LIMIT = 1048576, FEW = 10, CALLS = 40000, BYTES_OF_A_COMM = 2000, MORE_BYTES = 2 << 20 };
+enum { COMMS = 100000, LIMIT = 1048576, FEW = 10, CALLS = 40000, ROUNDS = 6 };
+enum { BYTES_OF_A_COMM = 2000, MORE_BYTES = 2 << 20 };
 static const double TIMES = 10; /* as long as beside ten, at most; a search through all would be 10,000 times */
 
 static int passed, failed, is_shared;
+static int open_ones[COMMS], next_number; /* the numbers in the ids of the comms that are open; no id comes twice */
 static rolgunai_handle handle;
 static rolgunai_client client;
 static uint32_t reply;
@@ -58,13 +60,16 @@ static long resident(void) {
   return here * sysconf(_SC_PAGESIZE);
 }
 
-/* Seconds of processor time that closes and opens of comms in turn take. */
+/* Opens a comm of a new id in a place. */
+static int opens_at(int place) { return opens(open_ones[place] = next_number++); }
+
+/* Seconds of processor time that closes of comms, and opens of others in their places, take. */
 static double churned(int among) {
   const clock_t begin = clock();
   int are_done = 1;
   for (int i = 0; i < CALLS; i++) {
-    const int number = (int)((unsigned)i * 7919u % (unsigned)among);
-    are_done &= closes(number) && opens(number);
+    const int place = (int)((unsigned)i * 7919u % (unsigned)among);
+    are_done &= closes(open_ones[place]) && opens_at(place);
   }
   check(are_done, "closes and opens");
   return (double)(clock() - begin) / CLOCKS_PER_SEC;
@@ -88,24 +93,26 @@ static void many(void) {
         "a target");
   int are_open = 1;
   const long before = resident();
-  for (int i = 0; i < FEW; i++) are_open &= opens(i);
+  for (int i = next_number = 0; i < FEW; i++) are_open &= opens_at(i);
   const double beside_few = churned(FEW);
-  for (int i = FEW; i < COMMS; i++) are_open &= opens(i);
+  for (int i = FEW; i < COMMS; i++) are_open &= opens_at(i);
   check(are_open, "a hundred thousand opens");
   const long with_all = resident();
   check((with_all - before) / COMMS <= BYTES_OF_A_COMM, "bytes of a comm");
   const double beside_all = churned(COMMS);
-  const long settled = resident(); /* after some closes and opens the heap has the gaps that it keeps */
-  churned(COMMS);
+  for (int i = 0; i < ROUNDS; i++) churned(COMMS);
+  const long settled = resident(); /* as many closes as leave a table the most gaps that it keeps */
+  for (int i = 0; i < ROUNDS; i++) churned(COMMS);
   const long after = resident() - settled;
   check(after <= MORE_BYTES, "no more memory after closes and opens");
   check(beside_all <= TIMES * beside_few, "calls beside them take as long as beside ten");
   size_t wanted = strlen("{\"comms\":{},\"status\":\"ok\"}") - 1;
-  for (int i = 0; i < COMMS; i++) wanted += (size_t)snprintf(NULL, 0, "\"comm%d\":{\"target_name\":\"p\"},", i);
+  for (int i = 0; i < COMMS; i++)
+    wanted += (size_t)snprintf(NULL, 0, "\"comm%d\":{\"target_name\":\"p\"},", open_ones[i]);
   check(listed() == wanted, "all are listed");
   printf("%s: %ld bytes a comm, %ld more after %d closes and opens; these take %.2f us beside %d, %.2f beside %d\n",
-         is_shared ? "client" : "handle", (with_all - before) / COMMS, after, CALLS, beside_few / CALLS * 1e6, FEW,
-         beside_all / CALLS * 1e6, COMMS);
+         is_shared ? "client" : "handle", (with_all - before) / COMMS, after, ROUNDS * CALLS,
+         beside_few / CALLS * 1e6, FEW, beside_all / CALLS * 1e6, COMMS);
   check((is_shared ? rolgunai_client_unregister(&client, TEXT("p"), &reply, &sent)
                    : rolgunai_unregister(&handle, 0, TEXT("p"), &reply, &sent))
                 == ROLGUNAI_OK
