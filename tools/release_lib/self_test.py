@@ -238,8 +238,8 @@ def is_template(path):
 
 def shared_library(bench, tried):
     """What librolgunai.so shows and needs."""
-    header = (bench.root / "bindings/c/rolgunai.h").read_text()
-    calls = sorted(set(re.findall(r"^uint32_t (rolgunai_\w+)\(", header, re.MULTILINE)))
+    headers = "".join((bench.root / f"bindings/c/{name}.h").read_text() for name in ("rolgunai", "rolgunai_client"))
+    calls = sorted(set(re.findall(r"^uint32_t (rolgunai_\w+)\(", headers, re.MULTILINE)))
     shared = unpacked(bench, library_of(bench)) / "lib" / f"librolgunai.so.{bench.version.partition('.')[0]}"
     tried.check("what librolgunai.so shows", elf.exported(shared), calls)
     dynamic = subprocess.run(["objdump", "-p", shared], capture_output=True, text=True).stdout
