@@ -210,7 +210,8 @@ CLOSE = (
 
 def the_most_comms():
     limit = _calls.MOST_COMMS
-    for most, shown, widgets in ((3, "3", 1), (1200, "1,200", 1000), (4096, "4,096", 2)):
+    check("the limit is the library's own", limit, 1_048_576)
+    for most, shown, widgets in ((3, "3", 1), (1200, "1,200", 1000), (10_000, "10,000", 2)):
         _calls.MOST_COMMS = most
         kernel = Kernel()
         targets = [WIDGET] * widgets + ["t"] * (most - widgets)

@@ -17,7 +17,7 @@ from rolgunai._update import Update
 from rolgunai._watches import Watch, Watches
 from rolgunai._wire import read
 
-MOST_COMMS = 4096
+MOST_COMMS = 1_048_576  # the most that the library takes as a limit
 NOTHING = b"{}"
 _VERSION = b'{"version":"2.1.0"}'
 _HEADERS = {
