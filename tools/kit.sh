@@ -1,20 +1,20 @@
-# Sourced by ./play, ./check and tools: asks for the Rattle kit that the proofs were made with, and whether what was
-# built is of the sources as they are.
-WANTED_KIT="rattle-kit-13f"
+# Sourced by ./play, ./check and tools: asks for a Rattle kit that the proofs were made with, and whether what was built
+# is of the sources as they are.
+WANTED_KITS="rattle-kit-13f rattle-kit-13b"
 TOP=$(cd "$(dirname "${BASH_SOURCE[0]}")/.." && pwd)
 
 need_kit() {
   if ! command -v rt >/dev/null 2>&1; then
-    echo "$1: the Rattle kit isn't there: no command 'rt' on the PATH (wanted: $WANTED_KIT; README.md," \
+    echo "$1: the Rattle kit isn't there: no command 'rt' on the PATH (wanted: ${WANTED_KITS// / or }; README.md," \
       "'A first answer', says from whom)" >&2
     exit 2
   fi
   local version
   version=$(rt version 2>/dev/null | head -n 1)
-  case "$version" in
-    "$WANTED_KIT "*) ;;
+  case " $WANTED_KITS " in
+    *" ${version%% *} "*) ;;
     *)
-      echo "$1: this repository is proved with $WANTED_KIT, and 'rt version' says: ${version:-nothing}" >&2
+      echo "$1: this repository is proved with ${WANTED_KITS// / or }, and 'rt version' says: ${version:-nothing}" >&2
       exit 2
       ;;
   esac

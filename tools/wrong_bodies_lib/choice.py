@@ -1,14 +1,32 @@
 """Which wrong bodies a run tries: those whose sum isn't the recorded one, and of the others all, a share, or none."""
 import hashlib
+from dataclasses import dataclass, field
 from enum import Enum
 
 SHARE = 8
+ANY = "-"  # the sum of what was refused before sums left out the kit
 
 
 class Mode(Enum):
     ALL = "each"
     PART = "each that isn't recorded, and a share of one crate's others"
     CHANGED = "each that isn't recorded"
+
+
+@dataclass
+class Recorded:
+    """The sum of each wrong body that was refused, and how: by this kit, and by others, where it is a list."""
+
+    rows: dict
+    others: dict = field(default_factory=dict)
+
+    def is_refused(self, edit, sum):
+        """Whether this kit refused it as it is."""
+        return self.rows.get(str(edit), ("", ""))[0] == sum
+
+    def is_anothers(self, edit, sum):
+        """Whether another kit refused it as it is, or before sums left out the kit."""
+        return any(it in (sum, ANY) for it, _how in self.others.get(str(edit), ()))
 
 
 def shares(edits, most):
@@ -24,14 +42,19 @@ def shares(edits, most):
     return made
 
 
-def chosen(edits, sums, rows, mode, commits, most=SHARE):
+def chosen(edits, sums, recorded, mode, commits, most=SHARE):
     """Two lists: what must be tried, and what is tried again as far as time allows; the others stand by the record.
-    Each share has its turn once in as many commits in a row as there are shares."""
-    is_recorded = {it: rows.get(str(it), ("", ""))[0] == sums[it] for it in edits}
-    must = [it for it in edits if mode is Mode.ALL or not is_recorded[it]]
-    made = shares(edits, most) if mode is Mode.PART else []
-    in_turn = set(made[commits % len(made)]) if made else ()
-    return must, [it for it in edits if is_recorded[it] and it in in_turn]
+    What only another kit refused comes first of those; each share has its turn once in as many commits in a row as
+    there are shares."""
+    mine = {it for it in edits if recorded.is_refused(it, sums[it])}
+    anothers = {it for it in edits if it not in mine and recorded.is_anothers(it, sums[it])}
+    must = [it for it in edits if mode is not Mode.PART and (mode is Mode.ALL or it not in mine)]
+    if mode is not Mode.PART:
+        return must, []
+    made = shares(edits, most)
+    in_turn = set(made[commits % len(made)]) if made else set()
+    again = [it for it in edits if it in anothers] + [it for it in edits if it in mine and it in in_turn]
+    return [it for it in edits if it not in mine and it not in anothers], again
 
 
 def crates_in_turn(names, commits):

@@ -1,6 +1,7 @@
 """The kit's own judge. `rt must-fail` says what came of its edits only when all are through, and begins each crate from
-nothing; so its functions are called here one by one. The kit is held to one version (tools/kit.sh), so they are the
-ones this was written for."""
+nothing; so its functions are called here one by one. The kit is held to a few versions (tools/kit.sh), so they are the
+ones this was written for: newer ones say what came of an edit by a name (NAMED), the older only whether it was
+refused."""
 import contextlib
 import functools
 import importlib.machinery
@@ -20,21 +21,25 @@ NEEDED = (
     "need",
     "free",
     "processors",
-    "share_work",
-    "REFUSED",
-    "AT_LIMIT",
-    "BAD",
-    "UNSURE",
-    "MISSED",
 )
+NAMED = ("REFUSED", "AT_LIMIT", "BAD", "UNSURE", "MISSED")
 BY_NAME = "only because a proof file names what the edit took away"
 ONE_JOB = ["--jobs", "1"]
 ONLY = re.compile(r"only=\d+ proved=\d+$")  # how a check of some functions ends, which gives no verdict on the crate
 UNKNOWN = re.compile(r"has no function `([^`]+)`")
 
 
+# What an older kit says of an edit that a try from nothing may refuse yet.
+NOT_SURE = re.compile(r": NOT REFUSED: |: the kept work of a library could not be used")
+
+
 def version():
     return subprocess.run(["rt", "version"], stdout=subprocess.PIPE, text=True, check=True).stdout.split("\n")[0]
+
+
+def name():
+    """The kit's name, as rattle-kit-13f."""
+    return version().split(" ")[0]
 
 
 @functools.lru_cache(maxsize=None)
@@ -49,14 +54,27 @@ def loaded():
     return made
 
 
+def has_names():
+    """Whether the kit says what came of an edit by a name."""
+    return all(hasattr(loaded(), it) for it in NAMED)
+
+
 def how_refused(outcome, text):
     """'proof', 'by-name', 'limit', or None where the edit isn't refused, or by no proof that fails."""
     rt = loaded()
-    if outcome == rt.AT_LIMIT:
+    if has_names() and outcome == rt.AT_LIMIT:
         return "limit"
-    if outcome != rt.REFUSED:
+    if outcome != (rt.REFUSED if has_names() else True):
         return None
     return "by-name" if BY_NAME in text else "proof"
+
+
+def is_unsure(outcome, text):
+    """Whether an edit that was tried over kept work is to be tried from nothing."""
+    rt = loaded()
+    if has_names():
+        return outcome in (rt.MISSED, rt.UNSURE)
+    return not outcome and bool(NOT_SURE.search(text))
 
 
 class Kit:
@@ -100,7 +118,7 @@ class Kit:
         kept work is tried once more from nothing."""
         crate = self.crates[edit.crate]
         outcome, text = self.rt.must_fail(crate, str(path), ONE_JOB, str(kept))
-        if outcome in (self.rt.MISSED, self.rt.UNSURE):
+        if is_unsure(outcome, text):
             outcome, text = self.rt.must_fail(crate, str(path), ONE_JOB)
         return how_refused(outcome, text), text.partition(".edit: ")[2] or text
 
@@ -140,8 +158,12 @@ def build_archive(crate, flags):
     flags does over those with a stamp. Returns the status."""
     rt = loaded()
     rt.rtlib.guarded()
-    rt.share_work(True)
-    return crate.build_static(["--jobs", str(min(4, rt.processors())), *flags])
+    flags = ["--jobs", str(min(4, rt.processors())), *flags]
+    if hasattr(rt, "share_work"):
+        rt.share_work(True)
+    elif status := crate.check(flags):  # whose jobs share the proofs, which those of a build don't in an older kit
+        return status
+    return crate.build_static(flags)
 
 
 @contextlib.contextmanager

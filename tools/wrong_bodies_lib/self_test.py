@@ -75,7 +75,7 @@ class Edits(Room):
 
 class Records(Room):
     def test_written_is_read(self):
-        kept = record.Record(self.root / "refused.txt")
+        kept = record.Record(self.root / "refused.txt", "kit-a")
         self.assertEqual(kept.rows(), {})
         kept.put(edit("b"), "2" * 16, "by-name")
         kept.put(edit("a"), "1" * 16, "proof")
@@ -86,8 +86,21 @@ class Records(Room):
         kept.drop(edit("a"))
         self.assertEqual(kept.rows(), {"low/wrong-bodies/b": ("2" * 16, "by-name")})
 
+    def test_what_another_kit_refused_stays(self):
+        one, other = (record.Record(self.root / "refused.txt", kit) for kit in ("kit-a", "kit-b"))
+        one.put(edit("a"), "1" * 16, "proof")
+        self.assertEqual(other.rows(), {})
+        other.put(edit("a"), "2" * 16, "by-name")
+        self.assertEqual(one.rows(), {"low/wrong-bodies/a": ("1" * 16, "proof")})
+        one.drop(edit("a"))
+        self.assertEqual(other.rows(), {"low/wrong-bodies/a": ("2" * 16, "by-name")})
+        one.forget("low/wrong-bodies/a")
+        self.assertEqual(one.names(), set())
+
     def test_what_is_no_row_is_left_out(self):
-        self.assertEqual(record.read("# a b\nhalf a\nsum name proof\n"), {"name": ("sum", "proof")})
+        self.assertEqual(
+            record.read("# a b c\nhalf a row\nsum name proof kit\n"), {("name", "kit"): ("sum", "proof")}
+        )
 
 
 class Choice(unittest.TestCase):
@@ -97,14 +110,22 @@ class Choice(unittest.TestCase):
         self.rows = {str(it): ("now", "proof") for it in self.edits[2:]}
         self.rows[str(self.edits[0])] = "before", "proof"
 
-    def chosen(self, mode, commits=0):
-        return choice.chosen(self.edits, self.sums, self.rows, mode, commits)
+    def chosen(self, mode, commits=0, others=None):
+        return choice.chosen(self.edits, self.sums, choice.Recorded(self.rows, others or {}), mode, commits)
 
     def test_what_is_not_recorded_is_tried(self):
         for mode in (choice.Mode.PART, choice.Mode.CHANGED):
             self.assertEqual(self.chosen(mode)[0], self.edits[:2])
         self.assertEqual(self.chosen(choice.Mode.CHANGED)[1], [])
         self.assertEqual(self.chosen(choice.Mode.ALL), (self.edits, []))
+
+    def test_what_another_kit_refused_is_tried_first_of_those_that_may_wait(self):
+        one, other, *_ = self.edits
+        for sum, is_must in (("now", False), (choice.ANY, False), ("before", True)):
+            must, again = self.chosen(choice.Mode.PART, others={str(one): [("older", "proof"), (sum, "proof")]})
+            self.assertEqual(must, [one, other] if is_must else [other], sum)
+            self.assertEqual(again[:1] == [one], not is_must, sum)
+            self.assertEqual(self.chosen(choice.Mode.CHANGED, others={str(one): [(sum, "proof")]})[0], [one, other])
 
     def test_each_has_its_turn_once(self):
         made = choice.shares(self.edits, choice.SHARE)
@@ -119,7 +140,7 @@ class Choice(unittest.TestCase):
             [(share[0].crate, len({it.crate for it in share}), len(share)) for share in made],
             [("high", 1, 13), ("high", 1, 12), ("low", 1, 20), ("low", 1, 20), ("top", 1, 1)],
         )
-        self.assertEqual(choice.chosen([], {}, {}, choice.Mode.PART, 3), ([], []))
+        self.assertEqual(choice.chosen([], {}, choice.Recorded({}), choice.Mode.PART, 3), ([], []))
 
     def test_crates_begin_elsewhere(self):
         self.assertEqual(choice.crates_in_turn(["c", "a", "b"], 4), ["b", "c", "a"])
@@ -208,20 +229,22 @@ class Batches(unittest.TestCase):
 
 
 class Judging(unittest.TestCase):
+    REFUSED = "must-fail a/b.edit: refused, as it must be"
+    # What a kit says of an edit: by a name, or whether it is refused; how it was refused, and whether it is tried again.
+    ROWS = (
+        ("REFUSED", True, f"{REFUSED}: src/a.rt:1:1", "proof", False),
+        ("REFUSED", True, f"{REFUSED} ({kit.BY_NAME}, so ..)", "by-name", False),
+        ("AT_LIMIT", None, f"{REFUSED} (only by a limit of the prover)", "limit", False),
+        ("MISSED", False, "must-fail a/b.edit: NOT REFUSED: the crate is still proved with this edit", None, True),
+        ("UNSURE", False, "must-fail a/b.edit: BAD EDIT: the kept work of a library could not be used", None, True),
+        ("BAD", False, "must-fail a/b.edit: BAD EDIT: it did not reach the prover", None, False),
+    )
+
     def test_how(self):
-        rt = kit.loaded()
-        self.assertEqual(
-            kit.how_refused(rt.REFUSED, "must-fail a/b.edit: refused, as it must be: src/a.rt:1:1"), "proof"
-        )
-        self.assertEqual(
-            kit.how_refused(rt.REFUSED, f"must-fail a/b.edit: refused, as it must be ({kit.BY_NAME}, so ..)"), "by-name"
-        )
-        self.assertEqual(
-            kit.how_refused(rt.AT_LIMIT, "must-fail a/b.edit: refused, as it must be (only by a limit of the prover)"),
-            "limit",
-        )
-        for outcome in (rt.MISSED, rt.BAD, rt.UNSURE):
-            self.assertIsNone(kit.how_refused(outcome, "must-fail a/b.edit: refused, as it must be"))
+        for outcome, is_refused, text, how, is_again in self.ROWS:
+            given = getattr(kit.loaded(), outcome) if kit.has_names() else is_refused
+            if given is not None:
+                self.assertEqual((kit.how_refused(given, text), kit.is_unsure(given, text)), (how, is_again), outcome)
 
 
 class Lanes(unittest.TestCase):
@@ -294,7 +317,7 @@ def run(root, at):
     small = small_copy(root, at)
     plan = Run(Wish(small), at / "plan")
     plan.plan()
-    record = Record(small / "tools/refused.txt")
+    record = Record(small / "tools/refused.txt", kit.name())
     record.put(edit_of("stands_by_the_record"), plan.sums[edit_of("stands_by_the_record")], "proof")
     record.put(edit_of("harmless_but_recorded"), plan.sums[edit_of("harmless_but_recorded")], "proof")
     record.put(edit_of("recorded_wrongly"), "0" * 16, "proof")

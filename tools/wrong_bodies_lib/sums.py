@@ -1,5 +1,5 @@
-"""A sum of all that the outcome of a wrong body depends on: the edit, the function that it changes with what proves it,
-the statements that are named from there on, and the kit.
+"""A sum of all that the outcome of a wrong body depends on, but for the kit: the edit, the function that it changes with
+what proves it, and the statements that are named from there on.
 
 Of its own crate and of those below, that function's proof reads what they state: items and contracts, definitions, and
 lemmas. Neither the bodies of other functions nor the answers that prove them: a call is known by its contract. Of these
@@ -15,7 +15,7 @@ from .edits import places_of
 from .reach import Index, Reached, Stated, units_of
 from .seen import from_above, hidden, private_types
 
-FORM = "7"
+FORM = "8"
 CONTRACT = re.compile(r" *ensures\b")
 INLINED = re.compile(r" *#\[inline(?:\((?:always|never)\))?\]")
 COMMENTS = {".rt": "//", ".antt": "--"}
@@ -126,8 +126,8 @@ def function_at(file, text, line):
 class Sums:
     """The sums of one state of the repository."""
 
-    def __init__(self, root, kit):
-        self.root, self.kit = Path(root), kit
+    def __init__(self, root):
+        self.root = Path(root)
         self.rows = listed((self.root / "crates.txt").read_text())
         self.known = {}
 
@@ -218,7 +218,6 @@ class Sums:
         texts = self.proved(edit.crate, function) if function else self.kept("whole", edit.crate, self.whole)
         parts = [
             FORM,
-            self.kit,
             edit.path(self.root).read_text(),
             [(file, said(text, Path(file).suffix)) for file, text in texts],
             self.reached(edit, texts, owner, names),

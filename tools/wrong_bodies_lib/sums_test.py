@@ -405,8 +405,8 @@ class Room(unittest.TestCase):
 
 
 class Sums(Room):
-    def sums(self, version="kit-1"):
-        made = sums.Sums(self.root, version)
+    def sums(self):
+        made = sums.Sums(self.root)
         return {
             "size": made.of(edit("of_size", "high")),
             "turn": made.of(edit("of_turn", "high")),
@@ -424,10 +424,6 @@ class Sums(Room):
             after = self.sums()
             self.assertEqual(" ".join(it for it in before if after[it] != before[it]), wanted, what)
             self.write(path, text)
-
-    def test_the_kit_counts(self):
-        one, two = self.sums("kit-1"), self.sums("kit-2")
-        self.assertFalse([name for name in one if one[name] == two[name]])
 
     def test_what_a_source_states(self):
         for source, stated in (

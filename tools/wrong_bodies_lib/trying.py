@@ -8,7 +8,7 @@ from pathlib import Path
 
 from . import kit as kits
 from .batches import Function, function_of, grouped, is_refused, merged
-from .choice import SHARE, Mode, chosen, crates_in_turn
+from .choice import SHARE, Mode, Recorded, chosen, crates_in_turn
 from .edits import FOLDERS, Edit, body_fault, edits_below
 from .lanes import Job, in_lanes
 from .record import Record
@@ -75,7 +75,7 @@ class Told:
         skipped = ""
         if self.not_reached:
             crates = ", ".join(sorted({it.crate for it in self.not_reached}))
-            yield f"skipped: {len(self.not_reached)} wrong bodies of {crates} that had their turn again: want of time"
+            yield f"skipped: {len(self.not_reached)} wrong bodies of {crates} that stand by a kit's record: want of time"
             skipped = f", {len(self.not_reached)} skipped"
         yield f"{len(self.refused)} passed, {len(self.failed)} failed{skipped}"
 
@@ -96,7 +96,7 @@ class Run:
     def __init__(self, wish, at):
         self.wish, self.began = wish, time.monotonic()
         self.room = Room(wish.root, at)
-        self.record = Record(Path(wish.root) / "tools/refused.txt")
+        self.record = Record(Path(wish.root) / "tools/refused.txt", kits.name())
         self.told, self.lock, self.number, self.done = Told(), threading.Lock(), 0, 0
 
     def say(self, text):
@@ -107,23 +107,23 @@ class Run:
         """What must be tried, and what may be tried again; what is no wrong body fails at once."""
         wish = self.wish
         edits = edits_below(wish.root, wish.folders, wish.names)
-        sums = Sums(wish.root, kits.version())
+        sums = Sums(wish.root)
         self.sums = {it: sums.of(it) for it in edits}
         for edit in edits:
             why = body_fault(edit.path(wish.root).read_text())
             if why:
                 self.told.failed[edit] = why
         sound = [it for it in edits if it not in self.told.failed]
-        must, again = chosen(sound, self.sums, self.record.rows(), wish.mode, commits_of(wish.root), wish.share)
+        recorded = Recorded(self.record.rows(), self.record.rows_of_others())
+        must, again = chosen(sound, self.sums, recorded, wish.mode, commits_of(wish.root), wish.share)
         self.told.stand = len(sound) - len(must) - len(again)
         return must, again
 
     def forget_lost(self):
         """Takes out of the record what is no wrong body any more."""
         there = {str(it) for it in edits_below(self.wish.root, FOLDERS)}
-        for name in self.record.rows():
-            if name not in there:
-                self.record.drop(name)
+        for name in self.record.names() - there:
+            self.record.forget(name)
 
     def whole(self):
         self.forget_lost()
@@ -143,7 +143,7 @@ class Run:
 
     def prepare_room(self, wanted):
         """The copy, with every library that a wanted crate stands on."""
-        rows = Sums(self.wish.root, "").rows
+        rows = Sums(self.wish.root).rows
         needed = sorted({low for name in wanted for low in below(rows, name)})
         with kits.locked(self.wish.root) as crates:
             unbuilt = [name for name in needed if not crates[name].is_built()]
@@ -177,6 +177,11 @@ class Run:
         self.told.stand += len(self.told.not_reached)
 
     def of_crate(self, name, edits):
+        """Those that must be tried, and apart from them, since they may be left for want of time, the others."""
+        parts = [it for it in edits if it in self.must], [it for it in edits if it not in self.must]
+        return [job for part in parts if part for job in self.of_part(name, part)]
+
+    def of_part(self, name, edits):
         """Each wrong body that lies in one function is tried by a check of that function, a few together; the others,
         and those not refused so, over a check of the whole crate."""
         texts = {it: self.kit.texts_of(it, it.path(self.room.top)) for it in edits}
