@@ -21,7 +21,7 @@ use Rattle.comm_targets.specs.declared.kind.Kind.TheVariants.{Opaque}
 use Rattle.comm_core.specs.Machine.{Machine, Name, at}
 use Rattle.comm_core.specs.declared.call.Call.{Call}
 use Rattle.comm_core.specs.declared.call.Call.TheVariants as call
-use Rattle.comm_script.specs.Command.{asked_from}
+use Rattle.comm_script.specs.Command.{asked_by_message, asked_from}
 use Rattle.comm_script.specs.Line.{Reading}
 use Rattle.comm_script.specs.declared.asked.Request.{Request}
 use Rattle.comm_script.specs.declared.asked.Request.TheVariants.{Change}
@@ -98,6 +98,17 @@ is_for_opaque m (incoming.Open id target version body) = is_opaque_target m targ
 is_for_opaque m (incoming.Msg id body) = is_opaque_comm m id
 is_for_opaque m (incoming.Close id) = is_opaque_comm m id
 is_for_opaque m (incoming.InfoRequest target) = false
+
+-- a message without its version, its data and its buffers
+abbrev pub bare : Incoming → Incoming
+bare (incoming.Open id target version body) = incoming.Open id target None nothing_in
+bare (incoming.Msg id body) = incoming.Msg id nothing_in
+bare (incoming.Close id) = incoming.Close id
+bare (incoming.InfoRequest target) = incoming.InfoRequest target
+
+-- what a message that was read asks for
+abbrev pub asked_for : Machine → Incoming → Request
+asked_for m message = asked_by_message (if is_for_opaque m message then bare message else message)
 
 -- parts ask for this
 abbrev pub AskedByParts : Machine → Numbers → (client : ℕ) → (header metadata content : List ℕ) → List (List ℕ)

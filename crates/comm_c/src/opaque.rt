@@ -8,7 +8,7 @@ ghost use Rattle.comm_script.specs.Command.{HandsNothing};
 ghost use Rattle.comm_script.specs.Line.{Gives as ReadGives};
 ghost use Rattle.comm_c.specs.Handles.{IsAllowed};
 ghost use Rattle.comm_c.specs.Inputs.{Gives, envelope_input, message_input};
-ghost use Rattle.comm_c.specs.Opaque.{AskedByParts, asked_of, comm_id_in, is_for_opaque, is_opaque};
+ghost use Rattle.comm_c.specs.Opaque.{AskedByParts, asked_for, asked_of, bare, comm_id_in, is_for_opaque, is_opaque};
 ghost use Rattle.comm_c.specs.Opaque.{is_opaque_comm, is_opaque_target};
 ghost use Rattle.comm_c.specs.Opaque.{nothing_in, opaque_call, opaque_close, opaque_msg, opaque_open, opening_in};
 
@@ -256,6 +256,38 @@ fn is_for_opaque(core: &Core<BuiltinTarget>, message: &Incoming) -> bool
     }
 }
 
+// The message without its version, its data and its buffers.
+fn bare(alloc: Global, message: Incoming) -> Incoming
+    ensures { result ≡ bare message }
+{
+    match message {
+        Incoming::Open { id, target, .. } => Incoming::Open {
+            id,
+            target,
+            version: None,
+            body: nothing_in(alloc),
+        },
+        Incoming::Msg { id, .. } => Incoming::Msg {
+            id,
+            body: nothing_in(alloc),
+        },
+        Incoming::Close { id } => Incoming::Close { id },
+        Incoming::InfoRequest { target } => Incoming::InfoRequest { target },
+    }
+}
+
+// What a message that was read asks for.
+fn asked_for(alloc: Global, core: &Core<BuiltinTarget>, message: Incoming) -> Request
+    ensures asked { result ≡ asked_for (machine core.now) message }
+    ensures handless { HandsNothing result }
+{
+    if is_for_opaque(core, &message) {
+        asked_by_message(bare(alloc, message))
+    } else {
+        asked_by_message(message)
+    }
+}
+
 // Whether the content begins with the id of an opaque comm. It is a guess, which spares reading what nobody here
 // wants: the message is read, and its id tested, in any case.
 fn looks_opaque(
@@ -273,8 +305,8 @@ fn looks_opaque(
     }
 }
 
-// What a message by its parts asks for, if it can be read in one walk over its content and is for no opaque target,
-// nor looks so where there may be one and much would be read in vain.
+// What a message by its parts asks for, if it can be read in one walk over its content, and doesn't look as if much of
+// it would be read in vain, for an opaque target.
 fn asked_at_once<'a>(
     alloc: Global,
     core: &Core<BuiltinTarget>,
@@ -317,11 +349,7 @@ fn asked_at_once<'a>(
         lists,
         texts,
     )?;
-    if is_for_opaque(core, &message) {
-        drop(message);
-        return None;
-    }
-    Some((client, asked_by_message(message)))
+    Some((client, asked_for(alloc, core, message)))
 }
 
 /// What a message by its parts asks for. The sizes are tested first, then whether the texts are JSON. Where there
