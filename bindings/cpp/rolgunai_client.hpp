@@ -2,7 +2,7 @@
 // includes. Each thread has a client of its own, made from another.
 //
 //     rolgunai::client client(1048576, rolgunai::numbers::any);
-//     std::thread other([mine = client.another()]() mutable { mine.push(id, R"({"value":7})").send(to_iopub); });
+//     std::thread other([mine = client.another(), id]() mutable { mine.push(id, R"({"value":7})").send(to_iopub); });
 //     rolgunai::shared_outcome came = client.message(header, metadata, content, buffers);
 //     came.send([parent](rolgunai::sent &message) { .. });   // in the order of the changes, whichever thread made them
 //

@@ -6,11 +6,14 @@ answer. It gives the messages that are sent.
 
 import copy
 import json
+import os
+import time
 
 from rolgunai.conformance.frontend import Message
 
 ECHO = "conformance.echo"
 FAULTS = {}
+ERRORS = os.dup(2)  # as it is before ipykernel has a thread between
 BEFORE_PARSING = {"deep_hangs": b"[" * 1000, "unknown_type_hangs": b"comm_conformance"}
 
 
@@ -356,6 +359,22 @@ def forgets_comms(kernel, call, answer):
 def drops_some(kernel, call, answer):
     kernel.count = getattr(kernel, "count", 0) + 1
     return [] if kernel.count % 20 == 0 else answer()
+
+
+@fault
+def kernel_ends(kernel, call, answer):
+    """This and the next are no scenario's, but of the suite's own tests: the kernel ends, with a last word."""
+    if call["kind"] == "comm_open":
+        os.write(ERRORS, b"Traceback\nNoMoreError: as the test wants it\n")
+        os._exit(3)
+    return answer()
+
+
+@fault
+def kernel_hangs(kernel, call, answer):
+    if call["kind"] == "comm_open":
+        time.sleep(3600)
+    return answer()
 
 
 FAULTS["info_drops_some"] = FAULTS["states_drops_some"] = drops_some

@@ -34,13 +34,14 @@ class BuildWithLibrary(build_ext):
         super().run()
 
 
+SOURCES = "arguments requests json gather outcome manager seats shared sending turns module".split()
 NATIVE = Extension(
     "rolgunai._native",
     sources=[
         HEAP or "native/heap.c",
-        *(f"native/{name}.c" for name in ("arguments", "json", "outcome", "manager", "turns", "module")),
+        *(f"native/{name}.c" for name in SOURCES),
     ],
-    depends=["native/native.h", f"{HEADERS}/rolgunai.h"],
+    depends=["native/native.h", "native/turns.h", f"{HEADERS}/rolgunai.h", f"{HEADERS}/rolgunai_client.h"],
     include_dirs=["native", HEADERS],
     extra_objects=[str(ARCHIVE)],
     # Nothing is seen from outside but the module's start, so that other modules' names may be the same, and another

@@ -201,11 +201,11 @@ def opens_that_are_not_sent():
         for comm_id in (UUID, "a"):
             kernel = Kernel()
             calls = kernel.manager._calls
-            send, calls.send = calls.send, lambda *parts: 1 // 0
+            send, calls.send_now = calls.send_now, lambda *parts: 1 // 0
             error = raised(lambda: Comm(target, data, comm_id=comm_id))
             left = kernel.info(), kernel.manager.comms, calls.old
             check(f"{target} {comm_id}: nothing is left", (type(error), *left), (ZeroDivisionError, {}, {}, set()))
-            calls.send = send
+            calls.send_now = send
             made = Comm(target, data, comm_id=comm_id)
             check("it opens then", (kernel.info(), kernel.manager.comms), ({comm_id: target}, {comm_id: made}))
 

@@ -5,11 +5,12 @@ test_memory.py PACKAGE, a folder where the package is built over bindings/c/heap
 """
 
 import ctypes
+import functools
 import sys
 
 sys.path.insert(0, sys.argv[1])
 from checks import check, run
-from rolgunai import Kind, Manager, OutcomeMemoryError, OutOfMemoryError, _native
+from rolgunai import Kind, Manager, OutcomeMemoryError, OutOfMemoryError, SharedManager, _native
 
 ONE = "00000000-0000-0000-0000-000000000001"
 OPEN, MSG, CLOSE = (b'{"msg_type":"comm_%s"}' % word for word in (b"open", b"msg", b"close"))
@@ -47,34 +48,48 @@ def until_there_is_memory(call, ask):
             raised.append(type(error))
 
 
-def played(number):
+READS = (("target", (ONE,)), ("infos", ()), ("infos", ("p",)))
+
+
+def played(kind, calls, number):
     """What comes of the calls where this allocation fails, how many there were, and the errors."""
     fail_at.value, count.value = number, 0
-    manager, errors = until_there_is_memory(Manager, None)
+    manager, errors = until_there_is_memory(kind, None)
     outcomes = []
-    for name, arguments in CALLS:
-        ask = manager.text if name == "line" else manager.outcome
-        outcome, raised = until_there_is_memory(lambda: getattr(manager, name)(*arguments), ask)
+    for name, arguments in calls:
+        call = functools.partial(getattr(manager, name), *arguments)
+        ask = call if name == "target" else manager.text if name == "line" else manager.outcome
+        outcome, raised = until_there_is_memory(call, ask)
         outcomes.append(outcome)
         errors += raised
-    manager.end()
+    del manager, call, ask
     fail_at.value = -1
     return outcomes, count.value, errors
 
 
-def each_in_turn():
-    wanted, allocations, errors = played(-1)
+def each_in_turn(kind, calls):
+    wanted, allocations, errors = played(kind, calls, -1)
     check("no error where none fails", errors, [])
     seen = set()
     for number in range(1, allocations + 1):
-        outcomes, _, errors = played(number)
+        outcomes, _, errors = played(kind, calls, number)
         seen.update(errors)
-        # An arena that gets no memory tries a smaller block first.
-        check(f"allocation {number}: at most one error", len(errors) <= 1, True)
-        check(f"allocation {number}: what came of the calls", outcomes, wanted)
-        check(f"allocation {number}: blocks left", live.value, 0)
+        what = f"{kind.__name__}, allocation {number}"
+        # An arena that gets no memory tries a smaller block first, and a spare client is made another time.
+        check(f"{what}: at most one error", len(errors) <= 1, True)
+        check(f"{what}: what came of the calls", outcomes, wanted)
+        check(f"{what}: blocks left", live.value, 0)
     check("both errors were seen", seen, {OutOfMemoryError, OutcomeMemoryError})
 
 
+def of_one_thread():
+    each_in_turn(Manager, CALLS)
+
+
+def of_clients():
+    calls = [call for call in CALLS if call[0] != "line"]
+    each_in_turn(SharedManager, [*calls[:-2], *READS, *calls[-2:]])
+
+
 if __name__ == "__main__":
-    sys.exit(run(each_in_turn))
+    sys.exit(run(of_one_thread, of_clients))

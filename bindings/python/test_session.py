@@ -88,9 +88,22 @@ def as_session_send():
                 got, text = kernel.came()
             check(f"a {kind} of a session with {list(settings)}", got, wanted)
             check("its content as it was", text, content)
+        for parent in (HEARD, {**HEARD, "header": {**HEARD["header"], "msg_id": "2"}}, HEARD["header"], {}, None):
+            each_of_a_parent(settings, kernel, send, parent)
     odd = [memoryview(bytes(8))[::2]]
     error = raised(lambda: Sender(Sending()).send("comm_msg", "a", b"{}", {}, odd, None))
     check("bytes that don't stand together", type(error), ValueError)
+
+
+def each_of_a_parent(settings, kernel, send, parent):
+    """What a parent brings about has its header each time, as the session writes it."""
+    with contextlib.redirect_stdout(io.StringIO()):
+        kernel.session.send(kernel.iopub_socket, "comm_msg", {}, parent=parent, ident=b"comm-a")
+        for _ in range(3):
+            send("comm_msg", "a", b"{}", {}, [], parent)
+    (wanted, *got) = (parts[4] for parts, _ in kernel.iopub_socket.sent)
+    kernel.iopub_socket.sent.clear()
+    check(f"the header of a parent of {parent}, in a session with {list(settings)}", got, [wanted] * 3)
 
 
 def another_session():

@@ -12,7 +12,7 @@ from comms_kernel import Kernel  # first, since it says where the package is
 from checks import check, run
 from test_widgets import Holds, takes
 
-SECONDS = 60
+SECONDS = 600  # a machine may be busy with proofs
 
 
 def on_another_thread(call, *arguments):

@@ -127,6 +127,26 @@ def last_words_on_keys_and_bytes():
     check("one that closes", [kind for kind, *_ in came], ["comm_close"])
 
 
+def keys_that_come_later():
+    kernel = Kernel()
+    widget = Holds(takes, v=1)
+    comm_id = widget.comm.comm_id
+
+    def has(**state):
+        kernel.hear("comm_msg", comm_id, {"method": "update", "state": state, "buffer_paths": []})
+        ((_, _, content, *_),) = kernel.hear("comm_msg", comm_id, {"method": "request_state"})
+        return content["data"]["state"]
+
+    kernel.came()
+    check("a key", has(v=2), {"v": 2})
+    check("one that it hasn't", has(v=3, w=3), {"v": 3})
+    widget.keys.append("w")
+    check("one that it has since", has(v=4, w=4), {"v": 4, "w": 4})
+    Holds(takes, Comm(WIDGET, {"state": {"x": 1}}, comm_id=comm_id), x=1)
+    kernel.came()
+    check("another widget of its id", has(v=5, x=2), {"x": 2})
+
+
 def opened_by_a_frontend():
     kernel = Kernel()
     made = []
@@ -249,6 +269,7 @@ if __name__ == "__main__":
         run(
             last_words,
             last_words_on_keys_and_bytes,
+            keys_that_come_later,
             opened_by_a_frontend,
             echoes,
             old_protocol,

@@ -24,14 +24,15 @@ def builder():
 
 def laid_out(release, library, licenses, into):
     """The folder that an sdist is made of: bindings/python without its tests, the page of the conformance suite, the
-    library, its header, and licenses."""
+    library, its headers, and licenses."""
     source = release.sources / "bindings/python"
     left_out = shutil.ignore_patterns(*NO_PACKAGE)
     shutil.copytree(source, into, ignore=lambda folder, names: left_out(folder, names) if folder == str(source) else [])
     shutil.copy(release.sources / "docs/CONFORMANCE.md", into / "src/rolgunai/conformance")
     (into / "packed").mkdir()
     shutil.copy(library, into / "packed/librolgunai.a")
-    shutil.copy(release.sources / "bindings/c/rolgunai.h", into / "packed")
+    for header in ("rolgunai.h", "rolgunai_client.h"):
+        shutil.copy(release.sources / "bindings/c" / header, into / "packed")
     for name, text in licenses.items():
         (into / name).parent.mkdir(exist_ok=True)
         (into / name).write_bytes(text)

@@ -1,4 +1,4 @@
-/* What a call is handed: texts, binary buffers, numbers, by place or by name. */
+/* What a call is handed: texts, binary buffers and numbers. */
 #include "native.h"
 
 static const uint8_t no_bytes[1];
@@ -40,6 +40,17 @@ int read_number(PyObject *object, uint32_t *into) {
   }
   *into = (uint32_t)value;
   return 0;
+}
+
+/* What a manager is made with. What is too large or below 0 is a limit that the library refuses. */
+int read_limits(PyObject *arguments, PyObject *names, const char *format, size_t *comms, int *decimals) {
+  static char *parameters[] = {"comms", "decimals", NULL};
+  PyObject *given = NULL;
+  *decimals = 0;
+  if (!PyArg_ParseTupleAndKeywords(arguments, names, format, parameters, &given, decimals)) return -1;
+  Py_ssize_t limit = given ? PyNumber_AsSsize_t(given, NULL) : 4096;
+  *comms = (size_t)limit;
+  return limit == -1 && PyErr_Occurred() ? -1 : 0;
 }
 
 /* Whether the buffer's bytes stand together; the order is theirs, C's or Fortran's, as where a kernel sends them. */
@@ -122,38 +133,4 @@ void frames_end(frames *read) {
     free(read->views);
     free(read->sizes);
   }
-}
-
-static int read_named(const signature *of, PyObject *name, PyObject *value, PyObject **given) {
-  Py_ssize_t at = 0;
-  while (of->parameters[at] && PyUnicode_CompareWithASCIIString(name, of->parameters[at]) != 0) at++;
-  if (!of->parameters[at]) {
-    PyErr_Format(PyExc_TypeError, "%s() got an unexpected keyword argument '%U'", of->name, name);
-    return -1;
-  }
-  if (given[at]) {
-    PyErr_Format(PyExc_TypeError, "%s() got multiple values for argument '%U'", of->name, name);
-    return -1;
-  }
-  given[at] = value;
-  return 0;
-}
-
-int read_arguments(const signature *of, PyObject *const *arguments, Py_ssize_t count, PyObject *names,
-                   PyObject **given) {
-  if (count > of->positional) {
-    PyErr_Format(PyExc_TypeError, "%s() takes at most %zd positional arguments (%zd given)", of->name, of->positional,
-                 count);
-    return -1;
-  }
-  for (Py_ssize_t i = 0; i < MOST_PARAMETERS; i++) given[i] = i < count ? arguments[i] : NULL;
-  Py_ssize_t named = names ? PyTuple_Size(names) : 0;
-  for (Py_ssize_t i = 0; i < named; i++)
-    if (read_named(of, PyTuple_GetItem(names, i), arguments[count + i], given) < 0) return -1;
-  for (Py_ssize_t i = 0; i < of->required; i++)
-    if (!given[i]) {
-      PyErr_Format(PyExc_TypeError, "%s() is missing the argument '%s'", of->name, of->parameters[i]);
-      return -1;
-    }
-  return 0;
 }

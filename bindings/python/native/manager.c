@@ -1,47 +1,20 @@
 /* The type Manager: one call plays, gathers what came of it and gives it as objects. */
 #include "native.h"
 
-PyObject *raised(const module_state *state, uint32_t status) {
-  PyObject *error = PyObject_CallFunction(state->error, "k", (unsigned long)status);
-  if (error) PyErr_SetObject((PyObject *)Py_TYPE(error), error);
-  Py_XDECREF(error);
-  return NULL;
-}
+typedef struct {
+  PyObject_HEAD
+  PyObject *module; /* which the state in `from` is of */
+  PyThread_type_lock lock; /* held by who uses what follows, also while it has let the GIL go */
+  rolgunai_handle handle;
+  source from;
+} manager;
 
-/* While the lock is held this thread runs no code of Python's: nothing is made that the garbage collector watches, and
- * nothing is let go of. So whoever holds it never asks for it again, and waits for none who waits for it. */
-void lock_manager(manager *self) {
-  if (PyThread_acquire_lock(self->lock, NOWAIT_LOCK)) return;
+void take_lock(PyThread_type_lock lock) {
+  if (PyThread_acquire_lock(lock, NOWAIT_LOCK)) return;
   PyThreadState *let_go = PyEval_SaveThread();
-  PyThread_acquire_lock(self->lock, WAIT_LOCK);
+  PyThread_acquire_lock(lock, WAIT_LOCK);
   PyEval_RestoreThread(let_go);
 }
-
-static void unlock_manager(manager *self) { PyThread_release_lock(self->lock); }
-
-enum call { MESSAGE, REGISTER, UNREGISTER, LAUNCH, PUSH, SEND, CLOSE, STATE };
-
-static const signature signatures[] = {
-    [MESSAGE] = {"message", 3, 4, 3, {"header", "metadata", "content", "buffers", "client"}},
-    [REGISTER] = {"register", 2, 2, 1, {"kind", "name", "client"}},
-    [UNREGISTER] = {"unregister", 1, 1, 1, {"name", "client"}},
-    [LAUNCH] = {"launch", 3, 5, 4, {"target", "uuid", "state", "paths", "buffers", "client"}},
-    [PUSH] = {"push", 2, 4, 3, {"comm_id", "state", "paths", "buffers", "client"}},
-    [SEND] = {"send", 2, 3, 2, {"comm_id", "data", "buffers", "client"}},
-    [CLOSE] = {"close", 1, 1, 1, {"comm_id", "client"}},
-    [STATE] = {"state", 1, 1, 1, {"comm_id"}},
-};
-
-enum { MOST_TEXTS = 4 };
-
-/* What a call was handed. */
-typedef struct {
-  enum call call;
-  uint32_t client, kind;
-  text texts[MOST_TEXTS];
-  size_t text_count;
-  frames buffers;
-} request;
 
 static uint32_t played(rolgunai_handle *handle, const request *of, uint32_t *reply, size_t *sent) {
   const text *t = of->texts;
@@ -67,66 +40,28 @@ static uint32_t played(rolgunai_handle *handle, const request *of, uint32_t *rep
   return ROLGUNAI_CLOSED;
 }
 
-/* Plays, and lets the GIL go for it where that takes long. */
-static uint32_t play(manager *self, const request *of, uint32_t *reply, size_t *sent) {
-  size_t work = of->buffers.size;
-  for (size_t i = 0; i < of->text_count; i++) work += of->texts[i].size * WORK_OF_JSON;
-  PyThreadState *let_go = work >= LONG_WORK ? PyEval_SaveThread() : NULL;
-  uint32_t status = played(&self->handle, of, reply, sent);
-  if (let_go) PyEval_RestoreThread(let_go);
-  return status;
-}
-
 /* Gathers what the call came to, with the lock held; gives the lock back; and makes the Outcome. */
 static PyObject *finished(manager *self, uint32_t status, uint32_t reply, size_t sent) {
-  uint32_t reason = ROLGUNAI_REASON_NONE;
-  uint64_t index = 0;
   gathered parts;
-  if (status != ROLGUNAI_OK) {
-    unlock_manager(self);
-    return raised(self->state, status);
-  }
-  rolgunai_last_reason(&self->handle, &reason, &index);
-  status = gather(self, reply, sent, &parts);
-  unlock_manager(self);
-  PyObject *outcome = status == ROLGUNAI_OK ? made_outcome(self->state, reply, reason, index, &parts) : NULL;
-  gathered_end(&parts);
-  if (outcome || (status == ROLGUNAI_OK && !PyErr_ExceptionMatches(PyExc_MemoryError))) return outcome;
-  // The call is made, and there was no memory for what it came to.
-  PyErr_Clear();
-  return raised(self->state, ROLGUNAI_NO_TEXT);
-}
-
-static int read_request(enum call call, PyObject **given, request *into) {
-  static const text no_paths = {(const uint8_t *)"[]", 2, NULL};
-  const signature *of = &signatures[call];
-  Py_ssize_t at = 0;
-  if (call == REGISTER && read_number(given[at++], &into->kind) < 0) return -1;
-  while (into->text_count < of->texts) {
-    text *next = &into->texts[into->text_count++];
-    PyObject *argument = given[at++];
-    if (!argument) *next = no_paths;
-    else if (read_text(argument, next) < 0) return -1;
-  }
-  if (at < of->positional && read_frames(given[at++], &into->buffers) < 0) return -1;
-  return given[at] ? read_number(given[at], &into->client) : 0;
+  status = gather(&self->from, status, reply, sent, &parts);
+  PyThread_release_lock(self->lock);
+  return made_outcome(self->from.state, status, &parts);
 }
 
 static PyObject *ask(PyObject *object, enum call call, PyObject *const *arguments, Py_ssize_t count, PyObject *names) {
   manager *self = (manager *)object;
-  PyObject *given[MOST_PARAMETERS], *outcome = NULL;
-  request asked = {.call = call};
-  if (read_arguments(&signatures[call], arguments, count, names, given) < 0) return NULL;
-  read_frames(NULL, &asked.buffers);
-  if (read_request(call, given, &asked) == 0) {
+  PyObject *outcome = NULL;
+  request asked;
+  if (read_request(call, 1, arguments, count, names, &asked) == 0) {
     uint32_t reply = 0;
     size_t sent = 0;
-    lock_manager(self);
-    uint32_t status = play(self, &asked, &reply, &sent);
+    take_lock(self->lock);
+    PyThreadState *let_go = let_go_for(&asked);
+    uint32_t status = played(&self->handle, &asked, &reply, &sent);
+    take_back(let_go);
     outcome = finished(self, status, reply, sent);
   }
-  frames_end(&asked.buffers);
-  for (size_t i = 0; i < asked.text_count; i++) text_end(&asked.texts[i]);
+  request_end(&asked);
   return outcome;
 }
 
@@ -149,16 +84,16 @@ static PyObject *call_outcome(PyObject *object, PyObject *none) {
   manager *self = (manager *)object;
   uint32_t reply = 0;
   size_t sent = 0;
-  lock_manager(self);
+  take_lock(self->lock);
   uint32_t status = rolgunai_last_result(&self->handle, &reply, &sent);
   return finished(self, status, reply, sent);
 }
 
 static PyObject *given_text(manager *self, uint32_t status, size_t size) {
   PyObject *made = NULL;
-  status = gather_text(self, status, size, &made);
-  unlock_manager(self);
-  return status == ROLGUNAI_OK ? made : raised(self->state, status);
+  status = gather_text(&self->from, status, size, &made);
+  PyThread_release_lock(self->lock);
+  return status == ROLGUNAI_OK ? made : raised(self->from.state, status);
 }
 
 static PyObject *call_line(PyObject *object, PyObject *argument) {
@@ -169,10 +104,10 @@ static PyObject *call_line(PyObject *object, PyObject *argument) {
     text_end(&line);
     return NULL;
   }
-  lock_manager(self);
+  take_lock(self->lock);
   PyThreadState *let_go = line.size >= LONG_WORK / WORK_OF_JSON ? PyEval_SaveThread() : NULL;
   uint32_t status =
-      rolgunai_play_line(&self->handle, line.bytes, line.size, self->room, self->room_size, &size);
+      rolgunai_play_line(&self->handle, line.bytes, line.size, self->from.room, self->from.room_size, &size);
   if (let_go) PyEval_RestoreThread(let_go);
   PyObject *said = given_text(self, status, size);
   text_end(&line);
@@ -183,15 +118,15 @@ static PyObject *call_text(PyObject *object, PyObject *none) {
   (void)none;
   manager *self = (manager *)object;
   size_t size = 0;
-  lock_manager(self);
-  uint32_t status = rolgunai_copy_last_text(&self->handle, self->room, self->room_size, &size);
+  take_lock(self->lock);
+  uint32_t status = rolgunai_copy_last_text(&self->handle, self->from.room, self->from.room_size, &size);
   return given_text(self, status, size);
 }
 
 static uint32_t ended(manager *self) {
-  lock_manager(self);
+  take_lock(self->lock);
   uint32_t status = rolgunai_free(&self->handle);
-  unlock_manager(self);
+  PyThread_release_lock(self->lock);
   return status;
 }
 
@@ -199,7 +134,7 @@ static PyObject *call_end(PyObject *object, PyObject *none) {
   (void)none;
   manager *self = (manager *)object;
   uint32_t status = ended(self);
-  return status == ROLGUNAI_OK ? Py_NewRef(Py_None) : raised(self->state, status);
+  return status == ROLGUNAI_OK ? Py_NewRef(Py_None) : raised(self->from.state, status);
 }
 
 static PyObject *call_enter(PyObject *self, PyObject *none) {
@@ -223,28 +158,25 @@ static PyObject *new_manager(PyTypeObject *type, PyObject *arguments, PyObject *
   manager *self = (manager *)allocate(type, 0);
   if (!self) return NULL;
   self->module = Py_NewRef(module);
-  self->state = PyModule_GetState(module);
+  self->from.state = PyModule_GetState(module);
+  self->from.handle = &self->handle;
   self->lock = PyThread_allocate_lock();
-  if (self->lock && give_room(self, FRAME_ROOM) == 0) return (PyObject *)self;
+  if (self->lock && give_room(&self->from, FRAME_ROOM) == 0) return (PyObject *)self;
   Py_DECREF(self);
   return PyErr_NoMemory();
 }
 
 static int make_manager(PyObject *object, PyObject *arguments, PyObject *names) {
-  static char *parameters[] = {"comms", "decimals", NULL};
   manager *self = (manager *)object;
-  PyObject *comms = NULL;
-  int decimals = 0;
-  if (!PyArg_ParseTupleAndKeywords(arguments, names, "|$Op:Manager", parameters, &comms, &decimals)) return -1;
-  // What is too large or below 0 is a limit that the library refuses.
-  Py_ssize_t limit = comms ? PyNumber_AsSsize_t(comms, NULL) : 4096;
-  if (limit == -1 && PyErr_Occurred()) return -1;
-  lock_manager(self);
-  uint32_t status = decimals ? rolgunai_new_with_decimals(&self->handle, (size_t)limit)
-                             : rolgunai_new(&self->handle, (size_t)limit);
-  unlock_manager(self);
+  size_t comms;
+  int decimals;
+  if (read_limits(arguments, names, "|$Op:Manager", &comms, &decimals) < 0) return -1;
+  take_lock(self->lock);
+  uint32_t status =
+      decimals ? rolgunai_new_with_decimals(&self->handle, comms) : rolgunai_new(&self->handle, comms);
+  PyThread_release_lock(self->lock);
   if (status == ROLGUNAI_OK) return 0;
-  raised(self->state, status);
+  raised(self->from.state, status);
   return -1;
 }
 
@@ -261,9 +193,7 @@ static void end_manager(PyObject *object) {
   PyObject_GC_UnTrack(object);
   rolgunai_free(&self->handle);
   if (self->lock) PyThread_free_lock(self->lock);
-  free(self->room);
-  Py_XDECREF(self->comm_id);
-  Py_XDECREF(self->target);
+  source_end(&self->from);
   Py_XDECREF(self->module);
   freefunc release = (freefunc)PyType_GetSlot(type, Py_tp_free);
   release(object);

@@ -21,6 +21,13 @@ static PyObject *members(PyObject *types, const char *name) {
   return made;
 }
 
+static PyObject *named_by(const char *module, const char *name) {
+  PyObject *imported = PyImport_ImportModule(module);
+  PyObject *found = imported ? PyObject_GetAttrString(imported, name) : NULL;
+  Py_XDECREF(imported);
+  return found;
+}
+
 static int fill(module_state *state, PyObject *types) {
   static const char *const names[TYPES] = {"comm_open", "comm_msg", "comm_close", "comm_info_reply"};
   for (size_t i = 0; i < TYPES; i++)
@@ -33,6 +40,9 @@ static int fill(module_state *state, PyObject *types) {
   state->reasons = members(types, "Reason");
   state->empty = PyBytes_FromStringAndSize("{}", 2);
   state->nothing = PyTuple_New(0);
+  state->seat = PyUnicode_InternFromString("seat");
+  state->thread_local = named_by("threading", "local");
+  if (!state->seat || !state->thread_local) return -1;
   return state->outcome && state->sent && state->error && state->not_finite && state->replies && state->reasons
                  && state->empty && state->nothing
              ? 0
@@ -48,16 +58,20 @@ static int add_type(PyObject *module, PyType_Spec *of, const char *name) {
 }
 
 static int make_module(PyObject *module) {
+  module_state *state = PyModule_GetState(module);
   PyObject *types = PyImport_ImportModule("rolgunai._types");
-  int status = types ? fill(PyModule_GetState(module), types) : -1;
+  int status = types ? fill(state, types) : -1;
   Py_XDECREF(types);
   if (status < 0) return -1;
-  status = add_type(module, &manager_type, "Manager");
-  return status < 0 ? status : add_type(module, &turns_type, "Turns");
+  state->seat_type = PyType_FromModuleAndSpec(module, &seat_type, NULL);
+  if (!state->seat_type || add_type(module, &manager_type, "Manager") < 0) return -1;
+  return add_type(module, &shared_type, "SharedManager") < 0 ? -1 : add_type(module, &turns_type, "Turns");
 }
 
 static int traverse_module(PyObject *module, visitproc visit, void *arg) {
   module_state *state = PyModule_GetState(module);
+  Py_VISIT(state->thread_local);
+  Py_VISIT(state->seat_type);
   Py_VISIT(state->outcome);
   Py_VISIT(state->sent);
   Py_VISIT(state->error);
@@ -69,6 +83,9 @@ static int traverse_module(PyObject *module, visitproc visit, void *arg) {
 
 static void free_module(void *module) {
   module_state *state = PyModule_GetState(module);
+  Py_CLEAR(state->thread_local);
+  Py_CLEAR(state->seat_type);
+  Py_CLEAR(state->seat);
   Py_CLEAR(state->outcome);
   Py_CLEAR(state->sent);
   Py_CLEAR(state->error);

@@ -1,22 +1,8 @@
 /* The type Turns: one call at a time of Python's functions. The lock is taken, held and given back within one call of
  * C, so that no exception that a signal raises, which may come between any two steps of Python's, leaves it held. */
-#include "native.h"
+#include "turns.h"
 
-typedef struct {
-  PyObject_HEAD
-  PyThread_type_lock lock;
-  unsigned long owner;   /* the thread whose call is under way; 0 where none is */
-  PyObject *waiting;     /* a list: the calls that come right after it, under the lock; each a tuple (f, arguments) */
-  PyObject *afterwards;  /* a list, or NULL: those that the same thread makes once it has given the lock back */
-  PyObject *on_error;    /* is told the exception that a waiting call raised */
-} turns;
-
-/* An exception that was caught; all NULL is none. */
-typedef struct {
-  PyObject *type, *value, *trace;
-} caught;
-
-static void catch(caught *into) {
+void catch(caught *into) {
   if (into->type) { /* the first is raised again, another is shown */
     PyErr_WriteUnraisable(NULL);
     return;
@@ -24,7 +10,7 @@ static void catch(caught *into) {
   PyErr_Fetch(&into->type, &into->value, &into->trace);
 }
 
-static int add(PyObject **list, PyObject *f, PyObject *arguments) {
+int add_call(PyObject **list, PyObject *f, PyObject *arguments) {
   PyObject *call = PyTuple_Pack(2, f, arguments);
   if (call && !*list) *list = PyList_New(0);
   int status = call && *list ? PyList_Append(*list, call) : -1;
@@ -43,9 +29,7 @@ static PyObject *made(PyObject *call) {
   return PyObject_Call(PyTuple_GetItem(call, 0), PyTuple_GetItem(call, 1), NULL);
 }
 
-/* What a waiting call raised: an Exception is for `on_error`, once the lock is free; any other, as KeyboardInterrupt,
- * is raised in the thread whose call it came after. */
-static void failed(turns *self, caught *interrupt) {
+void failed(turns *self, PyObject **afterwards, caught *interrupt) {
   if (!PyErr_ExceptionMatches(PyExc_Exception)) {
     catch(interrupt);
     return;
@@ -55,7 +39,7 @@ static void failed(turns *self, caught *interrupt) {
   PyErr_NormalizeException(&error.type, &error.value, &error.trace);
   if (error.trace) PyException_SetTraceback(error.value, error.trace);
   PyObject *arguments = PyTuple_Pack(1, error.value);
-  if (!arguments || add(&self->afterwards, self->on_error, arguments) < 0) PyErr_WriteUnraisable(self->on_error);
+  if (!arguments || add_call(afterwards, self->on_error, arguments) < 0) PyErr_WriteUnraisable(self->on_error);
   Py_XDECREF(arguments);
   Py_XDECREF(error.type);
   Py_XDECREF(error.value);
@@ -64,9 +48,10 @@ static void failed(turns *self, caught *interrupt) {
 
 /* Gives the lock back where no call waits. Nothing runs between the look and that, so that none is left behind. */
 static PyObject *given_back(turns *self, caught *interrupt) {
+  self->sends = NULL;
   while (PyList_Size(self->waiting) > 0) {
     PyObject *call = first(self->waiting), *result = call ? made(call) : NULL;
-    if (!result) failed(self, interrupt);
+    if (!result) failed(self, &self->afterwards, interrupt);
     Py_XDECREF(result);
     Py_XDECREF(call);
   }
@@ -77,27 +62,50 @@ static PyObject *given_back(turns *self, caught *interrupt) {
   return afterwards;
 }
 
-static void make_each(PyObject *calls, caught *interrupt) {
-  for (Py_ssize_t i = 0; i < PyList_Size(calls); i++) {
+void make_each(PyObject *calls, caught *interrupt) {
+  for (Py_ssize_t i = 0; calls && i < PyList_Size(calls); i++) {
     PyObject *result = made(PyList_GetItem(calls, i));
     if (!result && PyErr_ExceptionMatches(PyExc_Exception)) PyErr_WriteUnraisable(NULL);
     else if (!result) catch(interrupt);
     Py_XDECREF(result);
   }
+  Py_XDECREF(calls);
 }
 
-/* Makes a call under the lock, which this thread has taken, and what comes after it. */
-static PyObject *turn(turns *self, PyObject *f, PyObject *arguments) {
-  caught error = {NULL, NULL, NULL};
+/* Makes those calls of a list later, once this thread has stopped sending. */
+static void put_off(turns *self, PyObject *calls) {
+  for (Py_ssize_t i = 0; calls && i < PyList_Size(calls); i++) {
+    if (!self->after_sending) self->after_sending = PyList_New(0);
+    if (!self->after_sending || PyList_Append(self->after_sending, PyList_GetItem(calls, i)) < 0)
+      PyErr_WriteUnraisable(NULL);
+  }
+  Py_XDECREF(calls);
+}
+
+void make_waiting(turns *self, caught *interrupt) {
+  if (PyList_Size(self->waiting) == 0 || !PyThread_acquire_lock(self->lock, NOWAIT_LOCK)) return;
   self->owner = PyThread_get_thread_ident();
+  put_off(self, given_back(self, interrupt));
+}
+
+/* Makes a call under the lock, which this thread has taken, sends what comes of it, and makes what comes after it.
+ * Amid what this thread sends, that is sent when its time comes, and so it is where nobody is to wait for it. */
+static PyObject *turn(turns *self, PyObject *f, PyObject *arguments, int is_awaited) {
+  batch mine = {.thread = PyThread_get_thread_ident()};
+  int is_sending = self->sender == mine.thread;
+  self->owner = mine.thread;
+  self->sends = is_awaited && !is_sending ? &mine : NULL;
   PyObject *result = PyObject_Call(f, arguments, NULL);
-  if (!result) catch(&error);
-  PyObject *afterwards = given_back(self, &error);
-  if (afterwards) make_each(afterwards, &error);
-  Py_XDECREF(afterwards);
-  if (!error.type) return result;
+  if (!result) catch(&mine.error);
+  PyObject *afterwards = given_back(self, &mine.error);
+  if (is_sending) put_off(self, afterwards);
+  else {
+    send_each(self, &mine);
+    make_each(afterwards, &mine.error);
+  }
+  if (!mine.error.type) return result;
   Py_CLEAR(result);
-  PyErr_Restore(error.type, error.value, error.trace);
+  PyErr_Restore(mine.error.type, mine.error.value, mine.error.trace);
   return NULL;
 }
 
@@ -113,7 +121,9 @@ static int take(turns *self) {
   return 0;
 }
 
-static int is_amid(const turns *self) { return self->owner == PyThread_get_thread_ident(); }
+/* Whether this thread has the lock, and whether it has it or sends. */
+static int is_owner(const turns *self) { return self->owner == PyThread_get_thread_ident(); }
+static int is_amid(const turns *self) { return is_owner(self) || self->sender == PyThread_get_thread_ident(); }
 
 /* The arguments of f, which is the first of these. */
 static PyObject *rest(PyObject *const *given, Py_ssize_t count) {
@@ -140,19 +150,19 @@ static PyObject *made_soon(turns *self, int amid, PyObject *f, PyObject *argumen
     Py_DECREF(call);
     return none_if(status);
   }
-  result = turn(self, f, arguments);
+  result = turn(self, f, arguments, 0);
   Py_DECREF(call);
   Py_XDECREF(result);
   return none_if(result ? 0 : -1);
 }
 
 static PyObject *made_in(turns *self, enum way way, PyObject *f, PyObject *arguments) {
-  int amid = is_amid(self);
-  if (way == UNLOCKED && amid) return none_if(add(&self->afterwards, f, arguments));
-  if (way == UNLOCKED || (way == CALL && amid)) return PyObject_Call(f, arguments, NULL);
-  if (way == IN_TURN && amid) return none_if(add(&self->waiting, f, arguments));
-  if (way != SOON) return take(self) < 0 ? NULL : turn(self, f, arguments);
-  return made_soon(self, amid, f, arguments);
+  int owns = is_owner(self), amid = is_amid(self);
+  if (way == SOON) return made_soon(self, amid, f, arguments);
+  if (way == UNLOCKED && amid) return none_if(add_call(owns ? &self->afterwards : &self->after_sending, f, arguments));
+  if (way == UNLOCKED || (way == CALL && owns)) return PyObject_Call(f, arguments, NULL);
+  if (way == IN_TURN && amid) return none_if(add_call(&self->waiting, f, arguments));
+  return take(self) < 0 ? NULL : turn(self, f, arguments, 1);
 }
 
 static PyObject *make(PyObject *object, enum way way, PyObject *const *given, Py_ssize_t count) {
@@ -172,12 +182,32 @@ WAY(turns_soon, SOON)
 WAY(turns_unlocked, UNLOCKED)
 #undef WAY
 
+static PyObject *turns_send(PyObject *object, PyObject *const *given, Py_ssize_t count) {
+  turns *self = (turns *)object;
+  PyObject *arguments = rest(given, count), *result = NULL;
+  if (arguments && is_owner(self)) result = none_if(put_outgoing(self, given[0], arguments));
+  else if (arguments) PyErr_SetString(PyExc_RuntimeError, "send is for a call that is under way");
+  Py_XDECREF(arguments);
+  return result;
+}
+
 static PyObject *turns_is_amid(PyObject *self, PyObject *none) {
   (void)none;
   return PyBool_FromLong(is_amid((turns *)self));
 }
 
 /* ---- Its making and its end. */
+
+static int find_main_thread(turns *self) {
+  PyObject *threading = PyImport_ImportModule("threading");
+  PyObject *thread = threading ? PyObject_CallMethod(threading, "main_thread", NULL) : NULL;
+  PyObject *ident = thread ? PyObject_GetAttrString(thread, "ident") : NULL;
+  if (ident) self->main_thread = PyLong_AsUnsignedLong(ident);
+  Py_XDECREF(ident);
+  Py_XDECREF(thread);
+  Py_XDECREF(threading);
+  return PyErr_Occurred() ? -1 : 0;
+}
 
 static int make_turns(PyObject *object, PyObject *arguments, PyObject *names) {
   static char *parameters[] = {"on_error", NULL};
@@ -189,7 +219,7 @@ static int make_turns(PyObject *object, PyObject *arguments, PyObject *names) {
   Py_XDECREF(before);
   if (!self->waiting) self->waiting = PyList_New(0);
   if (!self->lock) self->lock = PyThread_allocate_lock();
-  if (self->waiting && self->lock) return 0;
+  if (self->waiting && self->lock) return find_main_thread(self);
   PyErr_NoMemory();
   return -1;
 }
@@ -199,14 +229,17 @@ static int traverse_turns(PyObject *object, visitproc visit, void *arg) {
   Py_VISIT(Py_TYPE(object));
   Py_VISIT(self->waiting);
   Py_VISIT(self->afterwards);
+  Py_VISIT(self->after_sending);
   Py_VISIT(self->on_error);
-  return 0;
+  return traverse_outgoing(self, visit, arg);
 }
 
 static int clear_turns(PyObject *object) {
   turns *self = (turns *)object;
   Py_CLEAR(self->afterwards);
+  Py_CLEAR(self->after_sending);
   Py_CLEAR(self->on_error);
+  end_outgoing(self);
   return 0;
 }
 
@@ -225,25 +258,30 @@ static void end_turns(PyObject *object) {
 #define METHOD(name, function, words) {name, (PyCFunction)(void (*)(void))function, METH_FASTCALL, words}
 static PyMethodDef methods[] = {
     METHOD("call", turns_call,
-           "call($self, f, /, *arguments)\n--\n\nCalls f under the lock, and gives what it gives. Amid a call of this "
-           "thread it is called at once."),
+           "call($self, f, /, *arguments)\n--\n\nCalls f under the lock, and gives what it gives, once all that it "
+           "sends is out. Amid a call of this thread it is called at once."),
     METHOD("call_in_turn", turns_in_turn,
-           "call_in_turn($self, f, /, *arguments)\n--\n\nCalls f under the lock, and gives what it gives. Amid a call "
-           "of this thread it is called right after that one, and None is given."),
+           "call_in_turn($self, f, /, *arguments)\n--\n\nAs call; but amid a call of this thread, or what it sends, f "
+           "is called right after that, and None is given."),
     METHOD("call_soon", turns_soon,
            "call_soon($self, f, /, *arguments)\n--\n\nCalls f under the lock where no call is under way, else right "
-           "after the one that is, whatever thread makes that: never waits."),
+           "after the one that is, whatever thread makes that: never waits, nor for what f sends."),
     METHOD("call_unlocked", turns_unlocked,
            "call_unlocked($self, f, /, *arguments)\n--\n\nCalls f without the lock: at once, or, amid a call of this "
-           "thread, when that and what waited for it are through."),
-    {"is_amid", turns_is_amid, METH_NOARGS, "is_amid($self, /)\n--\n\nWhether this thread is amid a call."},
+           "thread or what it sends, when that and what waited for it are through."),
+    METHOD("send", turns_send,
+           "send($self, f, /, *arguments)\n--\n\nAmid a call: has f called without the lock, after all that was handed "
+           "to `send` before it, by whatever thread, is through. What f raises the call raises."),
+    {"is_amid", turns_is_amid, METH_NOARGS,
+     "is_amid($self, /)\n--\n\nWhether this thread is amid a call, or amid what it sends."},
     {NULL, NULL, 0, NULL},
 };
 #undef METHOD
 
 static const char doc[] =
-    "Turns(on_error)\n--\n\nOne call at a time, of whatever thread. on_error(exception) is told, without the lock, "
-    "what a call raised that came right after another one.";
+    "Turns(on_error)\n--\n\nOne call at a time, of whatever thread, under a lock; what calls send is sent in their "
+    "order, without it. on_error(exception) is told, without the lock, what a call or a sending raised that nobody "
+    "waits for.";
 
 static PyType_Slot slots[] = {
     {Py_tp_doc, (void *)doc},           {Py_tp_init, make_turns},   {Py_tp_dealloc, end_turns},

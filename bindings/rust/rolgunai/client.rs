@@ -33,7 +33,7 @@ impl Common {
 /// ```ignore
 /// let mut client = Client::with_decimals(1_048_576)?;
 /// let mut mine = client.another()?;
-/// thread::spawn(move || Ok(mine.push(id, br#"{"value":7}"#, b"[]", &[])?.send(to_iopub)));
+/// thread::spawn(move || mine.push(&id, br#"{"value":7}"#, b"[]", &[]).map(|mut came| came.send(to_iopub)));
 /// let mut came = client.message(header, metadata, content, &buffers)?;
 /// came.send(move |message| { .. });    // in the order of the changes, whichever thread made them
 /// ```

@@ -48,13 +48,27 @@ A refusal is no error, but a reply with its reason; an error is a call that wasn
     rolgunai.ArgumentError: rolgunai: not_json
     >>> manager.end()
 
-Threads may share a manager: each call is whole, and waits for the one that is under way. The GIL is let go where a call
+Threads may share a manager: each call is whole, and waits for the one that is under way. The GIL is let go where it
 takes long. A `__del__` may call at any time, also where the garbage collector runs it amid a call of the same thread:
-its call is then a whole one of its own, before or after. Whoever sends what calls give takes a lock over both, so that
-messages go out in the order of the calls; it has to be one that the same thread may take again (threading.RLock).
+its call is then a whole one of its own, before or after.
+
+A `SharedManager` has the same calls but for `line`, `text` and the numbers of clients, and is for many threads: each
+has a client of its own, whose reads wait for nobody, and an outcome of its own.
+
+    >>> from rolgunai import SharedManager
+    >>> shared = SharedManager(decimals=True)
+    >>> shared.register(Kind.OPAQUE, "t").reply.name
+    'REGISTERED'
+    >>> shared.message(b'{"msg_type":"comm_open"}', b"{}", b'{"comm_id":"a","target_name":"t"}').reply.name
+    'OPENED'
+    >>> shared.target("a"), shared.target("b"), shared.seen()
+    ('t', None, 2)
+
+Changes have numbers, which `seen` tells, and their messages are to go out in the order of these. Whoever sends what
+calls give has a lock over the call, and a line of what is to be sent: `rolgunai._native.Turns`, which the hub has.
 """
 
-from rolgunai._native import Manager
+from rolgunai._native import Manager, SharedManager
 from rolgunai._types import (
     ArgumentError,
     ClosedError,
@@ -83,9 +97,10 @@ __all__ = [
     "Reason",
     "Reply",
     "Sent",
+    "SharedManager",
     "Status",
 ]
 
 for _name in __all__:
-    if _name != "Manager":
+    if not _name.endswith("Manager"):
         globals()[_name].__module__ = "rolgunai"

@@ -1,18 +1,22 @@
-"""The calls on the proved manager, each of which sends what comes of it.
+"""The calls on the proved manager, each of which hands on what is to be sent.
 
-They are made one at a time, under the hub's lock (`rolgunai._native.Turns`). What the manager can't have is kept beside
-it: long buffers, and which comms speak version 1 of the widget protocol in Python.
+Changes are made one at a time, under the hub's lock (`rolgunai._native.Turns`), and with each what is kept beside the
+manager: which comms are open, long buffers, watches, and which comms speak version 1 of the widget protocol in Python.
+`infos` is a read, and takes no lock.
 """
 
 from __future__ import annotations
 
 import collections
-from collections.abc import Callable, Collection
+import functools
+from collections.abc import Callable, Collection, Sequence
 from typing import Any
 
-from rolgunai import ArgumentError, Kind, Manager, Outcome, OutcomeMemoryError, Reason, Reply, _widgets, old_widgets
+from rolgunai import ArgumentError, Kind, Outcome, OutcomeMemoryError, Reason, Reply, SharedManager
+from rolgunai import _widgets, old_widgets
 from rolgunai._kernel import WIDGET, CommRefused, Message, Send, State
 from rolgunai._long_buffers import Kept, LongBuffers
+from rolgunai._native import Turns
 from rolgunai._update import Update
 from rolgunai._watches import Watch, Watches
 from rolgunai._wire import read
@@ -31,23 +35,31 @@ Pack = Callable[[Any], bytes]
 
 
 class Calls:
-    """`pack` writes JSON, `served` has the names of the targets that frontends may open comms of, and `is_old_browser`
-    says whether frontends speak version 1 of the widget protocol to comms that do so in Python."""
+    """`send` sends a message, which the calls have done in their order by `turns`; `pack` writes JSON; `served` has the
+    names of the targets that frontends may open comms of; and `is_old_browser` says whether frontends speak version 1
+    of the widget protocol to comms that do so in Python."""
 
-    def __init__(self, send: Send, pack: Pack, served: Callable[[], Collection[str]], is_old_browser: bool) -> None:
+    def __init__(
+        self, send: Send, turns: Turns, pack: Pack, served: Callable[[], Collection[str]], is_old_browser: bool
+    ) -> None:
         self.long = LongBuffers()
         self.old: set[str] = set()  # the ids of the comms whose Python side speaks version 1
         self.open_comms: dict[str, str] = {}  # the target of each comm that is open, by its id
         self.watches = Watches()
-        self.send = send
+        self.send_now, self.send = send, functools.partial(turns.send, send)
         self._pack, self._served, self._is_old_browser = pack, served, is_old_browser
-        self._manager = Manager(comms=MOST_COMMS, decimals=True)
+        self._manager = SharedManager(comms=MOST_COMMS, decimals=True)
         self._targets: set[str] = set()  # those that the manager knows
         self._open_of: collections.Counter[str] = collections.Counter()  # how many comms of each target are open
 
     def speaks_old(self, is_old: bool) -> bool:
         """Whether frontends speak version 1 of the widget protocol to a comm that does so in Python."""
         return is_old and self._is_old_browser
+
+    def note_old(self, comm_id: str) -> None:
+        """The Python side of a comm speaks version 1 of the widget protocol."""
+        if comm_id in self.open_comms:  # else it was closed meanwhile
+            self.old.add(comm_id)
 
     # Targets: the manager knows those that comms may be or are open of.
 
@@ -82,13 +94,18 @@ class Calls:
     # What frontends say.
 
     def hear(
-        self, kind: str, msg: Message, content: dict[str, Any], text: bytes, buffers: Any, watch: Watch | None = None
+        self,
+        kind: str,
+        msg: Message,
+        content: dict[str, Any],
+        texts: tuple[bytes, bytes],
+        buffers: Any,
+        watch: Watch | None = None,
     ) -> Outcome:
-        """Plays a message of a frontend, with this content, of which `text` is the JSON. A watch begins with a widget's
-        open or an update that the manager takes."""
-        metadata = NOTHING
+        """Plays a message of a frontend, with this content; its metadata and that are `texts`, JSON. A watch begins
+        with a widget's open or an update that the manager takes."""
+        metadata, text = texts
         if kind == "comm_open":
-            metadata = self._pack(msg.get("metadata") or {})
             target_name = content.get("target_name")
             if isinstance(target_name, str) and target_name in self._served():
                 self.know_target(target_name)
@@ -107,6 +124,24 @@ class Calls:
         if outcome.sent:
             self._send_all(outcome, msg)
         if watch is not None and outcome.reply in _TAKEN:
+            self.watches.begin(watch, _widgets.state_of(content["data"], buffers))
+        return outcome
+
+    def hear_update(
+        self, watch: Watch, msg: Message, content: dict[str, Any], text: bytes, buffers: Sequence[Any]
+    ) -> Outcome:
+        """Plays an update of a widget's state by a frontend, with this content, of which `text` is the JSON. The watch
+        begins with one that the manager takes."""
+        frames, kept = self.long.handed_in(buffers, is_lent=True) if buffers else ((), [])
+        try:
+            outcome = self._manager.message(_HEADERS["comm_msg"], NOTHING, text, frames)
+        except Exception as error:
+            outcome = self._after(error, kept)
+        if kept or self.long.tokens:
+            self._keep_long("comm_msg", content, outcome, kept)
+        if outcome.sent:
+            self._send_all(outcome, msg)
+        if outcome.reply is DELIVERED:
             self.watches.begin(watch, _widgets.state_of(content["data"], buffers))
         return outcome
 
@@ -130,8 +165,12 @@ class Calls:
         else:
             self.long.refused(kept)
 
+    def infos(self, target_name: str | None) -> bytes:
+        """The content of the reply to a `comm_info_request` for a target, or for all. It takes no lock."""
+        return self._made(self._manager.infos, target_name).sent[0].content
+
     def info(self, text: bytes) -> bytes:
-        """The content of the reply to a `comm_info_request`, whose own content is `text`."""
+        """The same for a request of this content."""
         outcome = self._made(self._manager.message, _HEADERS["comm_info_request"], NOTHING, text, ())
         self._agree("comm_info_request", outcome)
         return outcome.sent[0].content
@@ -259,10 +298,11 @@ class Calls:
     def _send_all(self, outcome: Outcome, parent: Any, metadata: dict[str, Any] | None = None) -> None:
         """Sends what a call gives."""
         for kind, comm_id, content, known, frames in outcome.sent:
-            if comm_id in self.old and self._is_old_browser and kind == "comm_msg":
-                content = old_widgets.to_frontend(content, bool(frames))
-            told = {} if known == NOTHING else read(known)
+            told, buffers = {} if known == NOTHING else read(known), []
             if metadata:
                 told.update(metadata)
-            buffers = self.long.given_out(frames) if frames else []
+            if frames:
+                buffers = self.long.given_out(frames)
+                if comm_id in self.old and self._is_old_browser and kind == "comm_msg":
+                    content = old_widgets.to_frontend(content)
             self.send(kind, comm_id, content, told, buffers, parent)

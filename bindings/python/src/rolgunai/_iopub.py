@@ -8,12 +8,15 @@ from rolgunai._wire import read
 
 
 class Sender:
-    """Sends on a kernel's iopub socket by the kernel's own session, which takes a content that is JSON already."""
+    """Sends on a kernel's iopub socket by the kernel's own session, which takes a content that is JSON already. One
+    thread sends at a time."""
 
     def __init__(self, kernel: Any) -> None:
         self._kernel = kernel
         self._session: Any = None  # the one that is known to read JSON, or not to
         self._takes_json = False
+        self._parent: Any = None  # of the last message, and what a session is handed for it
+        self._handed: Any = None
 
     def send(
         self, msg_type: str, comm_id: str, content: bytes, metadata: dict[str, Any], buffers: list[Any], parent: Any, /
@@ -22,15 +25,19 @@ class Sender:
         kernel = self._kernel
         session = kernel.session
         if session is not self._session:
-            self._takes_json, self._session = _reads_json(session.unpack), session
+            self._takes_json, self._session, self._parent = _reads_json(session.unpack), session, None
         said: Any = content if self._takes_json else read(content)
+        if parent is not self._parent:
+            self._parent = self._handed = parent
+        elif self._handed is parent and parent and self._takes_json:
+            self._handed = _with_plain_header(parent, session)
         # By the names that ipykernel's comms have it by: someone may have put another `send` in its place.
         session.send(
             kernel.iopub_socket,
             msg_type,
             said,
             metadata=metadata,
-            parent=parent,
+            parent=self._handed,
             ident=f"comm-{comm_id}".encode(),
             buffers=buffers,
         )
@@ -42,3 +49,9 @@ def _reads_json(unpack: Any) -> bool:
         return bool(unpack(b'{"a":[1]}') == {"a": [1]})
     except Exception:
         return False
+
+
+def _with_plain_header(parent: dict[str, Any], session: Any) -> dict[str, Any]:
+    """A parent whose header is as frontends read it. A cell's messages have it all, and a date takes the session's JSON
+    half as long as a header without one."""
+    return {**parent, "header": session.unpack(session.pack(parent["header"]))} if "header" in parent else parent

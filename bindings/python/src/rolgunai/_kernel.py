@@ -9,6 +9,9 @@ WIDGET, CONTROL = "jupyter.widget", "jupyter.widget.control"
 Message = dict[str, Any]  # as jupyter_client has it: a dict with "header", "metadata", "content" and "buffers"
 State = dict[str, Any]  # of a widget, its buffers at their places
 
+# What is raised for a message of a frontend that isn't JSON, as one in the same process may have.
+NOT_PLAYABLE = (TypeError, ValueError, RecursionError)
+
 
 class Comm(Protocol):
     """A comm, as ipykernel and `comm` have them."""

@@ -3,11 +3,10 @@
 from __future__ import annotations
 
 import logging
-import os
 from collections.abc import Callable
 from typing import Any
 
-from rolgunai import old_widgets
+from rolgunai import _process, old_widgets
 from rolgunai._calls import Calls, Pack
 from rolgunai._kernel import WIDGET, Comm
 from rolgunai._last_word import LastWord
@@ -31,7 +30,7 @@ class Publisher:
         log: logging.Logger,
     ) -> None:
         self._comms, self._calls, self._turns, self._pack = comms, calls, turns, pack
-        self._last_word, self._request, self._log, self._pid = last_word, request, log, os.getpid()
+        self._last_word, self._request, self._log, self._forks = last_word, request, log, _process.forks
 
     def publish(
         self, comm: Any, msg_type: str, data: Any = None, metadata: Any = None, buffers: Any = None, **keys: Any
@@ -40,11 +39,11 @@ class Publisher:
         that isn't open it goes nowhere, as with ipykernel, which sends it to nobody. Metadata, and the data of a close,
         are the caller's: the manager says nothing of them. Raises CommRefused where the manager refuses; ValueError,
         TypeError or RecursionError for what JSON can't have."""
-        if os.getpid() != self._pid:
+        if _process.forks != self._forks:
             return
         comm_id, parent = comm.comm_id, self._request()  # an attribute of traitlets', which is looked up but once
         if msg_type == "comm_msg" and isinstance(data, dict) and data.get("method") == "update":
-            if comm.target_name == WIDGET:
+            if (self._calls.open_comms.get(comm_id) or comm.target_name) == WIDGET:
                 self._publish_update(comm, comm_id, data, metadata, buffers, parent)
                 return
         data, metadata, buffers = {} if data is None else data, dict(metadata or {}), list(buffers or ())
@@ -60,9 +59,8 @@ class Publisher:
     def _publish_update(
         self, comm: Comm, comm_id: str, data: dict[str, Any], metadata: Any, buffers: Any, parent: Any
     ) -> None:
-        if comm_id in self._calls.old:
-            data = old_widgets.from_kernel("comm_msg", data)
-        update = update_of(data.get("state"), data.get("buffer_paths"), buffers, self._pack)
+        paths = old_widgets.paths_of(data) if comm_id in self._calls.old else data.get("buffer_paths")
+        update = update_of(data.get("state"), paths, buffers, self._pack)
         self._turns.call_in_turn(self._push, comm, comm_id, update, parent, metadata)
 
     def _push(self, comm: Comm, comm_id: str, update: Update, parent: Any, metadata: Any) -> None:
@@ -70,7 +68,8 @@ class Publisher:
         if is_anothers or not self._calls.push(comm_id, update, parent, metadata):
             self._goes_nowhere("comm_msg", comm_id)
         elif self._calls.watches.changes_hands(comm_id):
-            self._turns.call_unlocked(self._last_word.ask, comm, (*update.keys, *update.roots))
+            _, _, keys, roots, _ = update
+            self._turns.call_unlocked(self._last_word.ask, comm, (*keys, *roots))
 
     def _say(
         self, comm: Comm, kind: str, comm_id: str, content: bytes, metadata: Any, buffers: Any, parent: Any
@@ -92,7 +91,7 @@ class Publisher:
         named, paths, is_old = {"comm_id": comm.comm_id, "target_name": comm.target_name}, None, False
         if comm.target_name == WIDGET:
             metadata, is_old = {**VERSION, **metadata}, old_widgets.is_old_open(data)
-            played = old_widgets.from_kernel("comm_open", data) if is_old else data
+            played = old_widgets.open_of(data) if is_old else data
             said = data if self._calls.speaks_old(is_old) else played
             paths = played.get("buffer_paths") if isinstance(played, dict) else None
             content = self._pack({**keys, **named, "data": said})
@@ -101,29 +100,61 @@ class Publisher:
             content, text = self._pack({"comm_id": comm.comm_id, "data": data, **keys}), self._pack(named)
         parts = comm, is_old, content, text, paths, metadata, buffers, parent
         job: Callable[..., object] = self._open
+        tell: Callable[..., object] = self._tell_open
         if self._turns.is_amid():
-            job = self._open_later
-        self._turns.call_in_turn(job, *parts)
+            job, tell = self._open_later, self._tell_open_later
+        self._turns.call_in_turn(job, tell, *parts)
 
-    def _open(self, comm: Comm, is_old: bool, content: bytes, text: bytes, paths: Any, *frame: Any) -> None:
+    def _open(
+        self,
+        tell: Callable[..., object],
+        comm: Comm,
+        is_old: bool,
+        content: bytes,
+        text: bytes,
+        paths: Any,
+        *frame: Any,
+    ) -> None:
         """Opens a comm, and tells the frontends; where one of these fails, neither is done."""
         metadata, buffers, parent = frame
         try:
             self._calls.open(comm.comm_id, comm.target_name, text, buffers, paths)
             if is_old:
                 self._calls.old.add(comm.comm_id)
-            self._calls.send("comm_open", comm.comm_id, content, metadata, buffers, parent)
+            self._turns.send(tell, comm, content, metadata, buffers, parent)
         except BaseException as error:
+            self._undo_open(comm, error)
+            raise
+
+    def _tell_open(self, comm: Comm, *parts: Any) -> None:
+        try:
+            self._calls.send_now("comm_open", comm.comm_id, *parts)
+        except BaseException as error:
+            self._turns.call(self._undo_open, comm, error)
+            raise
+
+    def _undo_open(self, comm: Comm, error: BaseException) -> None:
+        if self._comms.get(comm.comm_id, comm) is comm:  # else another one has the id by now
             self._calls.drop(comm.comm_id)
             if not isinstance(error, Exception):  # after which the comm doesn't unregister itself
                 self._comms.pop(comm.comm_id, None)
+
+    # An open that came amid another call. Where it fails, its maker can't be told any more: the comm is closed.
+
+    def _open_later(self, tell: Callable[..., object], comm: Comm, *parts: Any) -> None:
+        try:
+            self._open(tell, comm, *parts)
+        except BaseException:
+            self._give_up(comm)
             raise
 
-    def _open_later(self, comm: Comm, *parts: Any) -> None:
-        """An open that came amid another call. Where it fails, its maker can't be told any more: the comm is closed."""
+    def _tell_open_later(self, comm: Comm, *parts: Any) -> None:
         try:
-            self._open(comm, *parts)
+            self._tell_open(comm, *parts)
         except BaseException:
-            self._comms.pop(comm.comm_id, None)
-            comm._closed = True
+            self._give_up(comm)
             raise
+
+    def _give_up(self, comm: Comm) -> None:
+        self._comms.pop(comm.comm_id, None)
+        comm._closed = True

@@ -22,6 +22,10 @@ class Status(enum.IntEnum):
     NOT_JSON = 10
     NO_PART = 11
     NO_TEXT = 12
+    BUSY = 13
+    AGAIN = 14
+    NO_SEAT = 15
+    STRANGER = 16
 
 
 class Kind(enum.IntEnum):

@@ -3,18 +3,11 @@
 from __future__ import annotations
 
 from collections.abc import Callable, Sequence
-from typing import Any, NamedTuple
+from typing import Any
 
-
-class Update(NamedTuple):
-    """The state and the paths as JSON, with what of them is asked for later, when the data that they were written of
-    may be others: the keys of the state, and the key that each buffer lies under."""
-
-    state: bytes
-    paths: bytes
-    keys: Sequence[str]
-    roots: Sequence[str]
-    buffers: Sequence[Any]
+# The state and the paths as JSON, with what of them is asked for later, when the data that they were written of may be
+# others: the keys of the state, and the key that each buffer lies under; and the buffers.
+Update = tuple[bytes, bytes, Sequence[str], Sequence[str], Sequence[Any]]
 
 
 def update_of(state: Any, paths: Any, buffers: Any, pack: Callable[[Any], bytes]) -> Update:
@@ -22,8 +15,8 @@ def update_of(state: Any, paths: Any, buffers: Any, pack: Callable[[Any], bytes]
     text = b"{}" if state is None else pack(state)
     keys = tuple(state) if isinstance(state, dict) else ()
     if not paths:
-        return Update(text, b"[]", keys, (), list(buffers) if buffers else ())
-    return Update(text, pack(paths), keys, _roots(paths), list(buffers or ()))
+        return text, b"[]", keys, (), list(buffers) if buffers else ()
+    return text, pack(paths), keys, _roots(paths), list(buffers or ())
 
 
 def _roots(paths: Any) -> list[Any]:

@@ -2,8 +2,8 @@
 
 from __future__ import annotations
 
-import threading
 from collections.abc import Callable
+from threading import get_ident
 
 from rolgunai._kernel import State
 
@@ -12,13 +12,14 @@ class Watch:
     """What the manager has of a widget, from a moment on: `held` is added to by each update that the kernel says. It is
     a context: at its end `end(watch)` is called."""
 
+    keys: frozenset[str] | None = None  # of the widget, where it was asked for them
+    is_answered = False  # by an update that the same thread has said
+    times = 0  # that something was said
+    is_crossed = False  # by what another thread said
+
     def __init__(self, comm_id: str, end: Callable[[Watch], object]) -> None:
-        self.comm_id, self._end = comm_id, end
+        self.comm_id, self._end, self.thread = comm_id, end, get_ident()
         self.held: State = {}
-        self.is_answered = False  # by an update that the same thread has said
-        self.times = 0  # that something was said
-        self.is_crossed = False  # by what another thread said
-        self.thread = threading.get_ident()
 
     def __enter__(self) -> Watch:
         return self
@@ -29,13 +30,13 @@ class Watch:
     def told(self, placed: State) -> None:
         """The kernel has said this."""
         self.heard(placed)
-        self.is_answered = self.is_answered or self.thread == threading.get_ident()
+        self.is_answered = self.is_answered or self.thread == get_ident()
 
     def heard(self, placed: State) -> None:
         """A frontend has."""
         self.held.update(placed)
         self.times += 1
-        self.is_crossed = self.is_crossed or self.thread != threading.get_ident()
+        self.is_crossed = self.is_crossed or self.thread != get_ident()
 
 
 class Watches:
@@ -43,28 +44,36 @@ class Watches:
 
     def __init__(self) -> None:
         self.by_comm: dict[str, list[Watch]] = {}
+        self.keys: dict[str, frozenset[str]] = {}  # of the widgets that were asked for them
         self._threads: dict[str, int] = {}  # the one that spoke of a comm's state last, or ended a watch of it
 
     def begin(self, watch: Watch, held: State) -> None:
         """From now on it is told; this is what the manager has."""
-        watches = self.by_comm.setdefault(watch.comm_id, [])
+        watch.held = held
+        if watch.keys is not None:
+            self.keys[watch.comm_id] = watch.keys
+        watches = self.by_comm.get(watch.comm_id)
+        if watches is None:
+            self.by_comm[watch.comm_id] = [watch]
+            return
         for other in watches:
             other.heard(held)
-        watch.held = held
         watches.append(watch)
 
     def end(self, watch: Watch) -> None:
         """No longer; it may never have begun, or have ended with its comm."""
-        watches = self.by_comm.get(watch.comm_id) or []
-        if watch in watches:
-            self._threads[watch.comm_id] = watch.thread
-            watches.remove(watch)
-            if not watches:
-                del self.by_comm[watch.comm_id]
+        watches = self.by_comm.get(watch.comm_id)
+        if watches is None or watch not in watches:
+            return
+        self._threads[watch.comm_id] = watch.thread
+        watches.remove(watch)
+        if not watches:
+            del self.by_comm[watch.comm_id]
 
     def forget(self, comm_id: str) -> None:
         """The comm is closed."""
         self.by_comm.pop(comm_id, None)
+        self.keys.pop(comm_id, None)
         self._threads.pop(comm_id, None)
 
     def told(self, comm_id: str, placed: State) -> None:
@@ -75,7 +84,9 @@ class Watches:
     def changes_hands(self, comm_id: str) -> bool:
         """This thread speaks of the comm's state: whether another one did before it, or watches. What this one says it
         may have read before that then, and it may not be what the widget holds."""
-        thread = threading.get_ident()
-        before = self._threads.get(comm_id, thread)
-        self._threads[comm_id] = thread
-        return before != thread or any(watch.thread != thread for watch in self.by_comm.get(comm_id, ()))
+        thread = get_ident()
+        if self._threads.setdefault(comm_id, thread) != thread:
+            self._threads[comm_id] = thread
+            return True
+        watches = self.by_comm.get(comm_id)
+        return watches is not None and any(watch.thread != thread for watch in watches)

@@ -6,35 +6,48 @@ A widget is known by what it does: the method that it gave its comm's `on_msg` i
 
 from __future__ import annotations
 
-from collections.abc import Callable, Collection, Iterable
+import weakref
+from collections.abc import Callable, Iterable, Sequence
 from typing import Any
 
 Data = dict[str, Any]
+Keys = frozenset[str]
 _NUMBERS = (int, float)
 _BYTES = (bytes, bytearray, memoryview)
 _PLAIN = frozenset((int, float, str, bool, bytes, type(None)))
 _OF_IPYWIDGETS = "ipywidgets.widgets.widget"
-
-
-def keys_of(comm: Any) -> Any:
-    """The keys of the widget that a comm is of, or None where it is of none."""
-    owner: Any = getattr(getattr(comm, "_msg_callback", None), "__self__", None)
-    keys = getattr(owner, "keys", None)
-    is_widget = keys is not None and not callable(keys) and callable(getattr(owner, "get_state", None))
-    return keys if is_widget else None
+# A set for each class, and not for each of its widgets.
+_keys_of_classes: weakref.WeakKeyDictionary[type, Keys] = weakref.WeakKeyDictionary()
 
 
 def widget_of(comm: Any) -> Any:
     """The widget that a comm is of, or None."""
-    return None if keys_of(comm) is None else comm._msg_callback.__self__
+    owner: Any = getattr(getattr(comm, "_msg_callback", None), "__self__", None)
+    if owner is None or not callable(getattr(owner, "get_state", None)):
+        return None
+    keys = getattr(owner, "keys", None)
+    return None if keys is None or callable(keys) else owner
 
 
-def known_part(update: Data, buffers: list[Any], keys: Collection[str]) -> tuple[Data, list[Any]]:
+def keys_of(comm: Any) -> Keys | None:
+    """The keys of the widget that a comm is of, or None."""
+    widget = widget_of(comm)
+    if widget is None:
+        return None
+    keys = frozenset(widget.keys)
+    shared = _keys_of_classes.setdefault(type(widget), keys)
+    return shared if shared == keys else keys
+
+
+def has_each(known: Keys, update: Data) -> bool:
+    """Whether all keys of an update, which has no buffers, are among these, as nearly each's are."""
+    state = update.get("state")
+    return isinstance(state, dict) and not update.get("buffer_paths") and known.issuperset(state)
+
+
+def known_part(update: Data, buffers: Sequence[Any], known: Keys) -> tuple[Data, Sequence[Any]]:
     """An update with those keys alone that the widget has, as ipywidgets takes it: the manager is told of no other."""
     state, paths = update.get("state"), update.get("buffer_paths") or []
-    if not paths and isinstance(state, dict) and len(state) == 1 and next(iter(state)) in keys:
-        return update, buffers  # as nearly each
-    known = set(keys)
     if not isinstance(state, dict) or not isinstance(paths, list):
         return update, buffers
     strange = [path for path in paths if isinstance(path, list) and _is_strange(path, known)]
@@ -45,7 +58,7 @@ def known_part(update: Data, buffers: list[Any], keys: Collection[str]) -> tuple
     return {**update, "state": state, "buffer_paths": [path for path in paths if path not in strange]}, buffers
 
 
-def _is_strange(path: list[Any], known: set[str]) -> bool:
+def _is_strange(path: list[Any], known: Keys) -> bool:
     return bool(path) and isinstance(path[0], str) and path[0] not in known
 
 
@@ -58,9 +71,13 @@ def copied(value: Any) -> Any:
     return value
 
 
+def _copy_of(state: Data) -> Data:
+    return dict(state) if _PLAIN.issuperset(map(type, state.values())) else copied(state)  # type: ignore[no-any-return]
+
+
 def placed(state: Data, paths: Iterable[list[Any]], buffers: Iterable[Any]) -> Data:
     """A copy of a state, with its buffers at their paths."""
-    state = dict(state) if _PLAIN.issuperset(map(type, state.values())) else copied(state)
+    state = _copy_of(state)
     for path, buffer in zip(paths, buffers):
         at: Any = state
         for step in path[:-1]:
@@ -70,9 +87,12 @@ def placed(state: Data, paths: Iterable[list[Any]], buffers: Iterable[Any]) -> D
 
 
 def state_of(data: Data, buffers: Iterable[Any]) -> Data:
-    """The state that the data of an open or an update have. The manager takes nothing of data without one."""
+    """A copy of the state that the data of an open or an update have, with its buffers. The manager takes nothing of
+    data without one."""
     state = data.get("state")
-    return {} if state is None else placed(state, data.get("buffer_paths") or (), buffers)
+    if state is None:
+        return {}
+    return placed(state, data.get("buffer_paths") or (), buffers) if buffers else _copy_of(state)
 
 
 def separated(value: Any, path: list[Any], paths: list[list[Any]], buffers: list[Any]) -> Any:
@@ -132,7 +152,9 @@ def differences(widget: Any, keys: Iterable[str] | None, held: Data, plain: Call
         holds = widget.get_state()
     else:
         asked = [key for key in keys if not (key in held and _is_plainly(widget, key, held[key]))]
-        known = widget.keys if asked else ()
+        if not asked:
+            return {}
+        known = widget.keys
         # Of several keys at once, Debian's ipywidgets 6 fails.
         holds = {key: widget.get_state(key)[key] for key in asked if key in known}
     return {key: value for key, value in holds.items() if not (key in held and _is_told(held[key], value, plain))}

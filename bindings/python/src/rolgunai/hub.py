@@ -29,12 +29,29 @@ A frontend opens a comm of a target of the user's, and says something; the kerne
 A comm that the kernel opens is opened in the manager by its `comm_open`, as a frontend's is, so that any id and any
 target are as the kernel has them.
 
-Threads. A call and the sending of what comes of it are under one lock, which no callback runs under. A close never
-waits for it: where another call is under way it comes right after that one, so that `__del__` may close a comm at any
-moment and on any thread. A frontend's message that comes amid a call of its own thread, as of a frontend in the same
-process that answers at once, is handled when that call is through. Where two threads speak of a widget's state, each
-looks afterwards whether what the frontends were told last is what the widget holds, and puts it right: what one says it
-may have read before the other set it.
+Threads. Any thread may call, and hear callbacks: the manager is one that threads share, each by a client of its own.
+The hub has one lock (`Turns`), and a line of what is to be sent:
+
+- The lock is over one change at a time, the call on the manager with what the hub notes of it: which comms are open, of
+  which target, by which version of the protocol, and which of them a frontend closed; which targets the manager knows;
+  long buffers; watches. So these tables are as the manager is for who has the lock, and nobody else changes them. Who
+  hasn't looks up one entry at most, and the manager has the say.
+- `comms` and `targets` the kernel's code may change as well, at any time. One step on a dict is whole in CPython; what
+  takes two, as where a comm gives way to another of its id, is made under the lock.
+- Reads need no lock: `comm_info` is one, by the thread's client. The states that a page asks for are read under it,
+  since they have to go out between the changes before them and those after.
+- What a change sends is put in line under the lock, so that the line is in the order of the changes' numbers, and is
+  sent without. One thread sends at a time, also what others have put in line before. Who says something goes on once it
+  is out, so that what it sends by itself then, as the output that shows a widget, comes after it.
+- No callback, widget, log or `send` is called under the lock, since they are others' code: it may take locks of its
+  own, wait for a thread that says something, or say something itself. The lock is taken, held and given back in one
+  function of C, which no interrupt ends, and a call of C on the manager is all that may take long under it.
+- A close waits for nobody, neither for the lock nor for what is in line: where another call is under way it comes right
+  after that one, on whichever thread. So `__del__` may close a comm at any moment. What is said, or comes from a
+  frontend in the same process, amid a call or a sending of its own thread is handled when that is through.
+
+Where two threads speak of a widget's state, each looks afterwards whether what the frontends were told last is what the
+widget holds, and puts it right: what one says it may have read before the other set it.
 """
 
 from __future__ import annotations
@@ -47,21 +64,19 @@ import weakref
 from collections.abc import Callable
 from typing import Any
 
-from rolgunai import Outcome, Reason, _widgets, old_widgets
-from rolgunai._calls import CLOSED, DONE, NO_COMM, OPENED, Calls, Pack
-from rolgunai._kernel import WIDGET, Comm, CommRefused, Message, Send
+from rolgunai import Outcome, Reason, old_widgets
+from rolgunai._callbacks import Callbacks
+from rolgunai._calls import CLOSED, DONE, NO_COMM, NOTHING, OPENED, Calls, Pack
+from rolgunai._kernel import NOT_PLAYABLE, WIDGET, Comm, CommRefused, Message, Send
 from rolgunai._last_word import LastWord
 from rolgunai._native import Turns
 from rolgunai._page_loads import PageLoads, asks_for_states
 from rolgunai._publisher import VERSION, Publisher
 from rolgunai._watches import Watch
+from rolgunai._widget_messages import Hearing, WidgetMessages
 from rolgunai._wire import packer
 
 __all__ = ["CommRefused", "Hub"]
-
-# What is raised for a message of a frontend that isn't JSON, as one in the same process may have.
-_NOT_PLAYABLE = (TypeError, ValueError, RecursionError)
-
 
 def _object(content: Any) -> dict[str, Any]:
     """The content of a message; one that isn't an object counts as empty, and is refused."""
@@ -100,10 +115,19 @@ class Hub:
         self.comms, self.targets = {}, {}
         self._request, self._make, self._pack = request, make, pack or packer()
         self._comm_log = comm_log or self.log
+        self._callbacks = Callbacks(self._comm_log)
         self._turns, self._pid = Turns(self._failed_later), os.getpid()
-        self._calls = Calls(send, self._pack, lambda: self.targets, is_old_browser)
+        self._calls = Calls(send, self._turns, self._pack, lambda: self.targets, is_old_browser)
         self._last_word = LastWord(self._calls, self._turns, self._pack, request, self.log)
         self._page_loads = PageLoads(self._calls, self._turns, self._last_word, self._pack)
+        hearing = Hearing(self._heard, self._is_done, self._callbacks.heard)
+        self._widget_messages = WidgetMessages(self._calls, self._turns, self._last_word, self._pack, hearing, self.log)
+        # What is done, under the lock, for each kind of a frontend's messages.
+        self._hearing: dict[str, Callable[..., Outcome]] = {
+            "comm_open": self._hear_open,
+            "comm_msg": self._calls.hear,
+            "comm_close": self._hear_close,
+        }
         # What the kernel's code says on a comm: each of its messages comes this way, which is a short one.
         self.publish = Publisher(
             self.comms, self._calls, self._turns, self._last_word, self._pack, request, self.log
@@ -166,6 +190,14 @@ class Hub:
         elif comm not in self._closed_by_frontends:
             raise KeyError(comm_id)
 
+    def _opened_by_hand(self, comm: Comm) -> str:
+        """Has the manager know a comm that a frontend speaks to; gives the name of its target."""
+        try:
+            self._turns.call(self._open_by_hand, comm)
+        except NOT_PLAYABLE as error:
+            self.log.warning("%s: %s", comm.comm_id, error)
+        return comm.target_name
+
     def _drop(self, comm_id: Any) -> None:
         if isinstance(comm_id, str) and comm_id not in self.comms:
             self._calls.drop(comm_id)
@@ -192,13 +224,23 @@ class Hub:
         self._turns.call_unlocked(self._comm_close, msg)
 
     def comm_info(self, msg: Message) -> bytes:
-        """The content of the reply to a `comm_info_request`, as JSON."""
-        return self._turns.call(self._info, self._pack(_object(msg.get("content"))))
+        """The content of the reply to a `comm_info_request`, as JSON. It waits for nobody."""
+        strange = [comm_id for comm_id in tuple(self.comms) if comm_id not in self._calls.open_comms]
+        if strange:
+            self._turns.call(self._open_strange, strange)
+        content = _object(msg.get("content"))
+        target_name = content.get("target_name")
+        if target_name is None or isinstance(target_name, str):
+            with contextlib.suppress(UnicodeEncodeError):  # half a surrogate pair, which the manager refuses
+                return self._calls.infos(target_name)
+        return self._turns.call(self._calls.info, self._pack(content))
 
-    def _info(self, request: bytes) -> bytes:
-        for comm in tuple(self.comms.values()):
-            self._open_by_hand(comm)
-        return self._calls.info(request)
+    def _open_strange(self, comm_ids: list[str]) -> None:
+        """Has the manager know those comms that were put among the hub's by hand."""
+        for comm_id in comm_ids:
+            comm = self.comms.get(comm_id)
+            if comm is not None:
+                self._open_by_hand(comm)
 
     def _comm_open(self, msg: Message) -> None:
         content = played = _object(msg.get("content"))
@@ -214,7 +256,7 @@ class Hub:
         elif self._heard("comm_open", heard, played, buffers) is not None:
             comm = self._comm_of(content)
             if comm is not None:  # else it was closed meanwhile
-                self._accept(comm, msg)
+                self._callbacks.opened(self.targets.get(comm.target_name), comm, msg)
 
     def _widget_open(self, msg: Message, heard: Message, played: dict[str, Any], buffers: Any, is_old: bool) -> None:
         with self._last_word.watch(str(played.get("comm_id"))) as watch:
@@ -224,57 +266,39 @@ class Hub:
             if comm is None:
                 return
             if is_old:
-                self._calls.old.add(comm.comm_id)
-            if self._accept(comm, msg):
+                self._turns.call(self._calls.note_old, comm.comm_id)
+            if self._callbacks.opened(self.targets.get(WIDGET), comm, msg):
                 self._last_word.say(comm, watch)
-
-    def _accept(self, comm: Comm, msg: Message) -> bool:
-        """Calls the target's callback for a comm; gives whether it took it. Else the comm is closed."""
-        f = self.targets.get(comm.target_name)
-        try:
-            if f is not None:
-                f(comm, msg)
-                return True
-            self._comm_log.error("No such comm target registered: %s", comm.target_name)
-        except Exception:
-            self._comm_log.error("Exception opening comm with target: %s", comm.target_name, exc_info=True)
-        try:
-            comm.close()
-        except Exception:
-            self._comm_log.error("Could not close comm during `comm_open` failure clean-up", exc_info=True)
-        return False
 
     def _comm_msg(self, msg: Message) -> None:
         content = _object(msg.get("content"))
         comm, data = self._comm_of(content), content.get("data")
-        if comm is not None and isinstance(data, dict) and self._is_widget(comm, content["comm_id"]):
-            self._widget_msg(comm, msg, content, data)
-        elif comm is None or comm.target_name == WIDGET:
+        if comm is None:
             self._heard("comm_msg", msg, content, msg.get("buffers"))
-        elif self._heard("comm_msg", msg, {"comm_id": comm.comm_id}, ()) is not None:
+            return
+        comm_id = content["comm_id"]
+        if (self._calls.open_comms.get(comm_id) or self._opened_by_hand(comm)) == WIDGET:
+            if isinstance(data, dict):
+                self._widget_messages.hear(comm, msg, content, data)
+            else:
+                self._heard("comm_msg", msg, content, msg.get("buffers"))
+        elif self._heard("comm_msg", msg, {"comm_id": comm_id}, ()) is not None:
             if asks_for_states(comm, data):
                 self._page_loads.answer(comm, tuple(self.comms.values()), msg)
             else:
-                self._deliver(comm, msg)
+                self._callbacks.heard(comm, msg)
 
     def _comm_close(self, msg: Message) -> None:
         content = _object(msg.get("content"))
         comm = self._comm_of(content)
         is_closed = self._heard("comm_close", msg, {"comm_id": content.get("comm_id")}, ()) is not None
         if is_closed and comm is not None:
-            try:
-                comm.handle_close(msg)
-            except Exception:
-                self._comm_log.error("Exception in comm_close for %s", comm.comm_id, exc_info=True)
+            self._callbacks.closed(comm, msg)
 
     def _comm_of(self, content: dict[str, Any]) -> Any:
         """The comm that a message is about, or None."""
         comm_id = content.get("comm_id")
         return self.comms.get(comm_id) if isinstance(comm_id, str) else None
-
-    def _is_widget(self, comm: Comm, comm_id: str) -> bool:
-        """Whether a comm is a widget's; it has its target by an attribute of traitlets', whose reading takes longer."""
-        return (self._calls.open_comms.get(comm_id) or comm.target_name) == WIDGET
 
     def _heard(
         self, kind: str, msg: Message, content: dict[str, Any], buffers: Any, watch: Watch | None = None
@@ -282,29 +306,33 @@ class Hub:
         """Plays a message of a frontend, with this content; None where it is refused, which is logged. A watch begins
         with what is heard."""
         try:
-            outcome = self._turns.call(self._hear, kind, msg, content, self._pack(content), buffers, watch)
-        except _NOT_PLAYABLE as error:
+            metadata = self._pack(msg.get("metadata") or {}) if kind == "comm_open" else NOTHING
+            texts = metadata, self._pack(content)
+            outcome = self._turns.call(self._hearing[kind], kind, msg, content, texts, buffers, watch)
+        except NOT_PLAYABLE as error:
             self.log.warning("%s: %s", kind, error)
             return None
+        return outcome if self._is_done(kind, content, outcome) else None
+
+    def _is_done(self, kind: str, content: dict[str, Any], outcome: Outcome) -> bool:
+        """Whether the manager took a message of this content; a refusal is logged."""
         if outcome.reply in DONE:
-            return outcome
+            return True
         if outcome.reply is NO_COMM:
             self._comm_log.warning("No such comm: %s", content.get("comm_id"))
         elif outcome.reason is Reason.NO_TARGET:
             self._comm_log.error("No such comm target registered: %s", content.get("target_name"))
         else:
             self.log.warning(self._calls.words_of(kind, outcome))
-        return None
+        return False
 
-    def _hear(
-        self, kind: str, msg: Message, content: dict[str, Any], text: bytes, buffers: Any, watch: Watch | None
+    def _hear_close(
+        self, kind: str, msg: Message, content: dict[str, Any], texts: Any, buffers: Any, watch: None
     ) -> Outcome:
-        if kind == "comm_open":
-            return self._hear_open(msg, content, text, buffers, watch)
         comm = self._comm_of(content)
-        if comm is not None and content["comm_id"] not in self._calls.open_comms:
+        if comm is not None:
             self._open_by_hand(comm)
-        outcome = self._calls.hear(kind, msg, content, text, buffers, watch)
+        outcome = self._calls.hear(kind, msg, content, texts, buffers)
         if outcome.reply is CLOSED and comm is not None:
             with contextlib.suppress(TypeError):  # a class that has no weak references
                 self._closed_by_frontends.add(comm)  # before another thread can see that it is gone
@@ -313,11 +341,11 @@ class Hub:
         return outcome
 
     def _hear_open(
-        self, msg: Message, content: dict[str, Any], text: bytes, buffers: Any, watch: Watch | None
+        self, kind: str, msg: Message, content: dict[str, Any], texts: Any, buffers: Any, watch: Watch | None
     ) -> Outcome:
         outcome = None
         try:
-            outcome = self._calls.hear("comm_open", msg, content, text, buffers, watch)
+            outcome = self._calls.hear(kind, msg, content, texts, buffers, watch)
             if outcome.reply is OPENED:
                 comm = self._make(comm_id=content["comm_id"], target_name=content["target_name"], primary=False)
                 if comm.comm_id != content["comm_id"]:  # `comm` has another one where it is empty
@@ -328,54 +356,3 @@ class Hub:
                 self._drop(content.get("comm_id"))
             raise
         return outcome
-
-    def _deliver(self, comm: Comm, msg: Message) -> None:
-        try:
-            comm.handle_msg(msg)
-        except Exception:
-            self._comm_log.error("Exception in comm_msg for %s", comm.comm_id, exc_info=True)
-
-    def _widget_msg(self, comm: Comm, msg: Message, content: dict[str, Any], data: dict[str, Any]) -> None:
-        said = old_widgets.from_frontend(data)
-        method = said.get("method")
-        if method == "request_state":
-            self._state_request(comm, msg, content)
-            return
-        if method == "update":
-            self._widget_update(comm, msg, content, data, said)
-            return
-        played = content if said is data else {**content, "data": said}
-        if self._heard("comm_msg", msg, played, ()) is not None:
-            self._deliver(comm, msg)
-
-    def _widget_update(
-        self, comm: Comm, msg: Message, content: dict[str, Any], data: dict[str, Any], said: dict[str, Any]
-    ) -> None:
-        buffers, keys = list(msg.get("buffers") or ()), _widgets.keys_of(comm)
-        if keys is not None:
-            said, buffers = _widgets.known_part(said, buffers, keys)
-        played = content if said is data else {**content, "data": said}
-        comm_id = content["comm_id"]
-        with self._last_word.watch(comm_id) as watch:
-            if self._heard("comm_msg", msg, played, buffers, watch) is None:
-                return
-            told = list(watch.held)
-            if comm_id in self._calls.old:
-                heard = old_widgets.to_kernel(data)
-                msg = msg if heard is data else {**msg, "content": {**content, "data": heard}}
-            self._deliver(comm, msg)
-            if watch.is_crossed:  # an echo of ipywidgets' may have gone out after what another thread said
-                watch.held = {}
-            self._last_word.say(comm, watch, told)
-
-    def _state_request(self, comm: Comm, msg: Message, content: dict[str, Any]) -> None:
-        """The widget answers, as it does in ipywidgets, and so has a say in what of it goes out. Where it says nothing
-        the manager answers with what it has, which is what the frontends were told."""
-        if comm.comm_id not in self._calls.open_comms:
-            self._turns.call(self._open_by_hand, comm)
-        with self._last_word.watch(comm.comm_id) as watch:
-            self._turns.call(self._calls.watches.begin, watch, {})
-            self._deliver(comm, msg)
-            self._last_word.say(comm, watch, list(watch.held))
-        if not watch.is_answered:
-            self._heard("comm_msg", msg, content, ())

@@ -47,11 +47,16 @@ def launch() -> None:
     from ipykernel.kernelapp import IPKernelApp
 
     import rolgunai.comms
+    from rolgunai._shell import read_on
 
     class ProvedKernel(IPythonKernel):
         def __init__(self, **keys: object) -> None:
             super().__init__(**keys)
             rolgunai.comms.install(self)
+
+        def start(self) -> None:
+            super().start()
+            read_on(self)
 
     IPKernelApp.launch_instance(kernel_class=ProvedKernel)
 

@@ -27,14 +27,15 @@ def is_old_ask(data: Any) -> bool:
     return isinstance(data, dict) and "widget_class" in data and "state" not in data
 
 
-def from_kernel(msg_type: str, data: Data) -> Data:
-    """What Python says in version 1, in version 2."""
-    if msg_type == "comm_open":
-        return {"state": data, "buffer_paths": []}
-    if data.get("method") == "update":
-        paths = [[key] for key in data.get("buffers") or ()]
-        return {"method": "update", "state": data.get("state"), "buffer_paths": paths}
-    return data
+def open_of(data: Data) -> Data:
+    """The data of an open by the kernel in version 1, in version 2."""
+    return {"state": data, "buffer_paths": []}
+
+
+def paths_of(data: Data) -> list[list[Any]]:
+    """The paths of the buffers of an update by the kernel in version 1."""
+    keys = data.get("buffers")
+    return [[key] for key in keys] if keys else []
 
 
 def to_kernel(data: Data) -> Data:
@@ -49,18 +50,17 @@ def from_frontend(data: Data) -> Data:
     """What a frontend says in version 1, in version 2."""
     if data.get("method") != "backbone":
         return data
-    keys = data.get("buffer_keys") or []
-    paths = [[key] for key in keys] if isinstance(keys, list) else keys
+    paths = data.get("buffer_keys") or []
+    if paths and isinstance(paths, list):
+        paths = [[key] for key in paths]
     return {"method": "update", "state": data.get("sync_data"), "buffer_paths": paths}
 
 
-def to_frontend(content: bytes, has_buffers: bool) -> bytes:
-    """The content of a `comm_msg` of the manager's in version 2, as a frontend reads it in version 1. An update without
-    buffers is the same in both."""
-    if has_buffers:  # the manager writes the keys in their order, so that the paths come first
-        before, _, rest = content.partition(_PATHS)
-        after = rest.decode()
-        paths, end = _decoder.raw_decode(after)
-        keys = write([path[0] for path in paths])
-        return b'%s"data":{"buffers":%s%s' % (before, keys, after[end:].encode())
-    return content
+def to_frontend(content: bytes) -> bytes:
+    """The content of a `comm_msg` with buffers of the manager's in version 2, as a frontend reads it in version 1. One
+    without buffers is the same in both."""
+    before, _, rest = content.partition(_PATHS)  # the manager writes the keys in their order: the paths come first
+    after = rest.decode()
+    paths, end = _decoder.raw_decode(after)
+    keys = write([path[0] for path in paths])
+    return b'%s"data":{"buffers":%s%s' % (before, keys, after[end:].encode())

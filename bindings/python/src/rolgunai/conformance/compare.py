@@ -75,7 +75,9 @@ def normal(message: Message, names: Names) -> Json:
     """What counts of a message: a widget's state with its buffers in it, and of comm_info the scenario's comms."""
     content = message.content if isinstance(message.content, dict) else {}
     if message.kind == "comm_info_reply":
-        comms = content.get("comms") or {}
+        comms = content.get("comms")
+        if not isinstance(comms, dict):
+            return [message.kind, {"no comms, but": content}]
         return [message.kind, {key: comms[key].get("target_name") for key in sorted(comms) if names.own(key)}]
     if message.kind == "comm_close":
         return [message.kind, content.get("comm_id")]

@@ -2,18 +2,21 @@
 
 from __future__ import annotations
 
+import hmac
 import json
 import os
+import tempfile
 import time
 from dataclasses import dataclass, field
 from typing import Any, NamedTuple
 
 import zmq
 from jupyter_client import KernelManager
-from jupyter_client.kernelspec import KernelSpecManager
+from jupyter_client.kernelspec import KernelSpecManager, NoSuchKernel
 
 Json = Any
 QUIET = 1.0  # seconds
+LAST_WORDS = 5  # lines of what a kernel that ended wrote
 
 
 class Message(NamedTuple):
@@ -28,7 +31,7 @@ class Message(NamedTuple):
 
 
 class NotAnswering(Exception):
-    """The kernel ended, or doesn't answer kernel_info_request any more."""
+    """The kernel didn't start, ended, or doesn't answer kernel_info_request any more."""
 
 
 @dataclass
@@ -40,6 +43,11 @@ class Came:
     states: list[str] = field(default_factory=list)
     printed: str = ""
     error: str = ""
+
+
+def content_of(message: Message) -> dict[str, Json]:
+    """A message's content; none of an object's members where it isn't one."""
+    return message.content if isinstance(message.content, dict) else {}
 
 
 class Frontend:
@@ -55,21 +63,34 @@ class Frontend:
         self.timeout = timeout
         self.starts = 0
         self.info: Json = {}
+        self.sockets: dict[str, zmq.Socket[bytes]] = {}
         self.start()
 
     def start(self) -> None:
-        """Starts the kernel, its words going nowhere."""
+        """Starts the kernel, and connects to it. What it writes is kept for what is said where it ends.
+
+        Raises NotAnswering where it doesn't come up.
+        """
+        self.starts += 1
         self.kernel = KernelManager(kernel_name=self.name, kernel_spec_manager=self.specs)
-        with open(os.devnull, "w") as nowhere:
-            self.kernel.start_kernel(stdout=nowhere, stderr=nowhere)
-        self.connect()
+        self.words = tempfile.TemporaryFile()
+        try:
+            self.kernel.start_kernel(stdout=self.words, stderr=self.words)
+            self.connect()
+        except NotAnswering:
+            self.close()
+            raise
+        except NoSuchKernel:
+            raise
+        except Exception as error:  # of the command, the kernelspec or the operating system, by jupyter_client
+            self.close()
+            raise NotAnswering(f"{type(error).__name__}: {error}") from error
 
     def connect(self) -> None:
         """Connects to the kernel, and waits until it answers on shell and iopub.
 
         Raises NotAnswering where it doesn't.
         """
-        self.starts += 1
         self.session = self.kernel.session
         self.sockets = {
             "iopub": self.kernel.connect_iopub(),
@@ -80,34 +101,40 @@ class Frontend:
         for socket in self.sockets.values():
             self.poller.register(socket, zmq.POLLIN)
         end = time.monotonic() + 4 * self.timeout
-        while not self.answers(1):
+        while (heard := self.heard(1)) != {"iopub", "shell"}:
             if time.monotonic() > end or not self.kernel.is_alive():
-                why = self.why_not()
-                self.close()
-                raise NotAnswering(why)
+                raise NotAnswering(self.why_not("shell" in heard, 4 * self.timeout))
         self.info = self.reply_to(self.send("shell", "kernel_info_request", b"{}"))
 
-    def answers(self, seconds: float) -> bool:
-        """Whether the kernel is heard on iopub too: what is subscribed to late is lost."""
+    def language(self) -> str:
+        """The name of the kernel's language, as it says it."""
+        return str((self.info.get("language_info") or {}).get("name", ""))
+
+    def heard(self, seconds: float) -> set[str]:
+        """The channels that the kernel is heard on: what is subscribed to late is lost."""
         probe = self.send("shell", "kernel_info_request", b"{}")
         channels: set[str] = set()
         end = time.monotonic() + seconds
-        while time.monotonic() < end and channels != {"iopub", "shell"}:
+        while time.monotonic() < end and channels != {"iopub", "shell"} and self.kernel.is_alive():
             channels |= {message.channel for message in self.receive(0.1) if message.parent == probe}
-        return channels == {"iopub", "shell"}
-
-    def disconnect(self) -> None:
-        for socket in self.sockets.values():
-            socket.close(linger=0)
+        return channels
 
     def restart(self) -> None:
-        """Kills the kernel and starts another."""
+        """Kills the kernel and starts another.
+
+        Raises NotAnswering where that doesn't come up.
+        """
         self.close()
         self.start()
 
     def close(self) -> None:
-        self.disconnect()
-        self.kernel.shutdown_kernel(now=True)
+        """Kills the kernel, where one runs."""
+        for socket in self.sockets.values():
+            socket.close(linger=0)
+        self.sockets = {}
+        if self.kernel.has_kernel:
+            self.kernel.shutdown_kernel(now=True)
+        self.words.close()
 
     def send(
         self, channel: str, kind: str, content: bytes, metadata: Json = None, buffers: list[bytes] | None = None,
@@ -125,17 +152,22 @@ class Frontend:
         ready = dict(self.poller.poll(int(seconds * 1000)))
         found = []
         for channel, socket in self.sockets.items():
-            if socket not in ready:
-                continue
-            try:
-                _, got = self.session.recv(socket, zmq.NOBLOCK)
-            except (ValueError, RecursionError):
-                continue  # it isn't JSON, or too deep for this Python
-            if got:
-                parent = got["parent_header"].get("msg_id", "")
-                buffers = [bytes(buffer) for buffer in got["buffers"]]
-                found.append(Message(channel, got["msg_type"], got["content"], got["metadata"], buffers, parent))
+            message = self.read(channel, socket.recv_multipart(zmq.NOBLOCK)) if socket in ready else None
+            if message:
+                found.append(message)
         return found
+
+    def read(self, channel: str, frames: list[bytes]) -> Message | None:
+        """The message in some frames; none where they aren't one, or are too deep for this Python. jupyter_client's own
+        Session.recv reads the dates too, which takes as long as all else here."""
+        try:
+            _, (signature, *parts) = self.session.feed_identities(frames)
+            if not hmac.compare_digest(signature, self.session.sign(parts[:4])):
+                return None
+            header, parent, metadata, content = map(json.loads, parts[:4])
+            return Message(channel, str(header["msg_type"]), content, metadata, parts[4:], parent.get("msg_id", ""))
+        except (ValueError, LookupError, TypeError, AttributeError, RecursionError):
+            return None
 
     def reply_to(self, sent: str, seconds: float | None = None) -> Json:
         """The content of the reply to a request.
@@ -157,7 +189,7 @@ class Frontend:
         """
         came, replied, idle = Came(), False, False
         quiet = time.monotonic() + (QUIET if channel == "control" else 0)
-        while time.monotonic() < quiet:
+        while time.monotonic() < quiet and sum(message.channel == channel for message in came.messages) < len(sent):
             for message in self.receive(0.1):
                 self.take(message, sent, came)
         probe = self.send("shell", "kernel_info_request", b"{}")
@@ -167,30 +199,34 @@ class Frontend:
             last = now if got else last
             silent = now > last + self.timeout or not got and not self.kernel.is_alive()
             if silent or now > begin + 4 * self.timeout:
-                raise NotAnswering(self.why_not())
+                raise NotAnswering(self.why_not(replied, self.timeout if silent else 4 * self.timeout))
             for message in got:
-                state = message.content.get("execution_state") if message.kind == "status" else None
                 if message.parent == probe:
                     replied = replied or message.channel != "iopub"
-                    idle = idle or state == "idle"
+                    idle = idle or message.kind == "status" and content_of(message).get("execution_state") == "idle"
                 else:
                     self.take(message, sent, came)
         return came
 
-    def why_not(self) -> str:
-        if not self.kernel.is_alive():
-            return "the kernel ended"
-        return f"the kernel doesn't answer kernel_info_request within {self.timeout:g} s"
+    def why_not(self, replied: bool, seconds: float) -> str:
+        """Why it is given up on: what it wrote last where it ended, or what is missing of its answer."""
+        if self.kernel.is_alive():
+            missing = "says no busy and idle on iopub after" if replied else "doesn't answer"
+            return f"the kernel {missing} kernel_info_request within {seconds:g} s"
+        size = os.fstat(self.words.fileno()).st_size
+        written = os.pread(self.words.fileno(), 4000, max(0, size - 4000)).decode(errors="replace")
+        lines = [line.strip() for line in written.splitlines() if line.strip()][-LAST_WORDS:]
+        return "the kernel ended" + (f"; the last that it wrote: {' | '.join(lines)}" if lines else "")
 
     def take(self, message: Message, sent: list[str], came: Came) -> None:
         """Puts one message where it belongs in what came."""
-        content = message.content
+        content = content_of(message)
         if message.kind == "status" and message.parent in sent:
             came.states.append(str(content.get("execution_state")))
         elif message.kind.startswith("comm_") and (message.channel == "iopub" or message.parent in sent):
             came.messages.append(message)
         elif message.kind == "stream" and message.parent in sent:
-            came.printed += content.get("text", "")
+            came.printed += str(content.get("text", ""))
         elif message.kind == "execute_reply" and content.get("status") == "error":
             came.error = f"{content.get('ename')}: {content.get('evalue')}"
 

@@ -8,6 +8,7 @@ from collections.abc import Iterator
 from dataclasses import dataclass, field
 from typing import Any
 
+from rolgunai import ArgumentError
 from rolgunai.conformance.compare import Names, buffers_of, message_fits, normal, shown
 from rolgunai.conformance.frontend import Came, Frontend, Message, NotAnswering
 from rolgunai.conformance.reference import Reference
@@ -15,6 +16,7 @@ from rolgunai.conformance.scenario import Due, Parts, Scenario, Step
 from rolgunai.conformance.storm import storm
 
 Json = Any
+UNREADABLE = (ArgumentError, AttributeError, LookupError, TypeError, ValueError)  # by what isn't of the protocol's form
 SUBSHELLS = "kernel subshells"  # among the supported_features of kernel_info_reply
 EXCHANGE = 200  # lines of a report
 PASSED, FAILED, CHOICE, SKIPPED = "passed", "failed", "choice", "skipped"
@@ -49,10 +51,14 @@ class Player:
         self.cells = cells
         self.storm_seconds = storm_seconds
         self.anew = anew
+        self.gone = ""  # why the kernel couldn't be started anew
 
     def play(self, scenario: Scenario) -> Result:
-        """Plays a scenario. Never raises what a kernel brings about."""
+        """Plays a scenario, where the kernel could be started. Never raises what a kernel brings about."""
         result, begin = Result(scenario), time.monotonic()
+        if self.gone:
+            result.add(FAILED, f"not played, since the kernel didn't start anew: {self.gone}")
+            return result
         answers = True
         try:
             Playing(self, scenario, result).all()
@@ -61,10 +67,19 @@ class Player:
         except NotAnswering as error:
             answers = False
             result.add(FAILED, str(error))
+        except UNREADABLE as error:
+            result.add(FAILED, f"what came couldn't be read: {type(error).__name__}: {error}")
         if not answers or (self.anew and result.outcome == FAILED):
-            self.frontend.restart()
+            self.start_anew(result)
         result.seconds = time.monotonic() - begin
         return result
+
+    def start_anew(self, result: Result) -> None:
+        try:
+            self.frontend.restart()
+        except NotAnswering as error:
+            self.gone = str(error)
+            result.add(FAILED, f"and after it the kernel didn't start anew: {self.gone}")
 
 
 class Playing:
@@ -78,7 +93,7 @@ class Playing:
     def all(self) -> None:
         for cell in self.scenario.cells():
             if cell not in self.cells:
-                raise Skip(f"no cell [{cell}] for kernels of {self.language()}")
+                raise Skip(f"no cell [{cell}] for kernels of {self.frontend.language() or 'this language'}")
         for cell in self.scenario.needs:
             came = self.run(cell)
             if came.error:
@@ -90,9 +105,6 @@ class Playing:
                 break
         if self.result.outcome != FAILED or not self.player.anew:
             self.end()
-
-    def language(self) -> str:
-        return str(self.frontend.info.get("language_info", {}).get("name", "?"))
 
     def fail(self, reason: str) -> None:
         self.result.add(FAILED, reason)
@@ -203,7 +215,7 @@ class Playing:
         for wanted in due.messages:
             found = next((at for at, message in enumerate(rest) if message_fits(wanted, message, self.names)), None)
             if found is None:
-                yield f"came: {shown(self.normal(self.mine(came)))}; due: " \
+                yield f"came: {', '.join(map(shown, came.messages[:5])) or 'nothing'}; due: " \
                     f"{wanted.kind} {wanted.content} {wanted.metadata or ''} {' '.join(wanted.buffers or [])}".rstrip()
                 return
             del rest[found]

@@ -31,7 +31,7 @@ def totals(results: list[Result]) -> str:
 
 def about(info: Json) -> str:
     """A kernel's own words on what it is."""
-    language = info.get("language_info", {})
+    language = info.get("language_info") or {}
     return f"{info.get('implementation')} {info.get('implementation_version')}, {language.get('name')} " \
         f"{language.get('version')}, protocol {info.get('protocol_version')}"  # fmt: skip
 
@@ -70,4 +70,4 @@ def as_html(kernel: str, info: Json, results: list[Result]) -> str:
 def write(path: Path, kernel: str, info: Json, results: list[Result]) -> None:
     """Writes the report, as a page where the file's name ends in .html, and as JSON where it doesn't."""
     make = as_html if path.suffix == ".html" else as_json
-    path.write_text(make(kernel, info, results), encoding="utf-8")
+    path.write_text(make(kernel, info, results), encoding="utf-8", errors="backslashreplace")

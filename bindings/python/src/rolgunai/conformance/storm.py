@@ -9,7 +9,7 @@ from collections import Counter
 from collections.abc import Iterator
 from typing import Any
 
-from rolgunai.conformance.frontend import Frontend, NotAnswering
+from rolgunai.conformance.frontend import QUIET, Frontend, NotAnswering, content_of
 
 Json = Any
 AHEAD = 20  # echoes that are asked for and haven't come
@@ -24,6 +24,7 @@ class Storm:
         self.requests: dict[str, str] = {}
         self.replies: Counter[str] = Counter()
         self.sent = 0
+        self.last: set[str] = set()  # requests behind all others
         self.asked = [("shell", "comm_info_request", header), ("control", "kernel_info_request", {})]
 
     def under_way(self) -> int:
@@ -37,14 +38,24 @@ class Storm:
         for channel, kind, header in self.asked:
             self.requests[self.frontend.send(channel, kind, b"{}", **header)] = f"{kind} on {channel}"
 
+    def send_last(self) -> None:
+        """Asks behind all that was sent: what hasn't come soon after these replies is lost."""
+        for channel, _, header in self.asked:
+            self.last.add(self.frontend.send(channel, "kernel_info_request", b"{}", **header))
+
     def receive(self, seconds: float) -> bool:
         came = self.frontend.receive(seconds)
         for message in came:
-            content = message.content
+            content = content_of(message)
+            data = content.get("data")
             if message.parent in self.requests and message.channel != "iopub":
                 self.replies[message.parent] += 1
+            elif message.parent in self.last and message.channel != "iopub":
+                self.last.remove(message.parent)
             elif message.kind == "comm_msg" and content.get("comm_id") == self.comm_id:
-                self.echoes[content.get("data", {}).get("number", -1)] += 1
+                self.echoes[data.get("number", -1) if isinstance(data, dict) else -1] += 1
+        if not came and seconds and not self.frontend.kernel.is_alive():
+            raise NotAnswering(self.frontend.why_not(False, seconds))
         return bool(came)
 
     def faults(self) -> Iterator[str]:
@@ -80,7 +91,7 @@ def storm(frontend: Frontend, words: str, seconds: float) -> list[str]:
         del blown.asked[1:]  # it isn't among what control has to take
     faults = list(blow(blown, seconds))
     frontend.send("shell", "comm_close", json.dumps({"comm_id": comm_id, "data": {}}).encode(), **header)
-    if header:
+    if header and not faults:
         frontend.reply_to(frontend.send("control", "delete_subshell_request", json.dumps(header).encode()))
     return faults
 
@@ -91,10 +102,9 @@ def blow(storm: Storm, seconds: float) -> Iterator[str]:
         if storm.under_way() < 3 * AHEAD:
             storm.send()
         storm.receive(0 if storm.under_way() < 3 * AHEAD else 0.05)
-        if not storm.frontend.kernel.is_alive():
-            raise NotAnswering("the kernel ended")
+    storm.send_last()
     quiet = time.monotonic()
-    while storm.under_way() and time.monotonic() < quiet + storm.frontend.timeout / 3:
+    while storm.under_way() and time.monotonic() < quiet + (storm.frontend.timeout / 3 if storm.last else QUIET):
         if storm.receive(0.1):
             quiet = time.monotonic()
     yield from storm.faults()

@@ -7,9 +7,10 @@ from pathlib import Path
 from typing import Any
 
 import pytest
+from jupyter_client.kernelspec import NoSuchKernel
 
 from rolgunai.conformance.cells import cells_for
-from rolgunai.conformance.frontend import Frontend
+from rolgunai.conformance.frontend import Frontend, NotAnswering
 from rolgunai.conformance.play import FAILED, SKIPPED, Player
 from rolgunai.conformance.scenario import Scenario, scenarios
 
@@ -19,9 +20,11 @@ def player(request: Any) -> Iterator[Player]:
     option = request.config.getoption
     if not option("--kernel", None):
         pytest.skip("no --kernel")
-    frontend = Frontend(option("--kernel"), option("--kernel-timeout"), option("--kernels"))
-    language = frontend.info.get("language_info", {}).get("name", "")
-    cells = cells_for(language, Path(option("--cells")) if option("--cells") else None)
+    try:
+        frontend = Frontend(option("--kernel"), option("--kernel-timeout"), option("--kernels"))
+    except (NoSuchKernel, NotAnswering) as error:
+        pytest.fail(f"{option('--kernel')} doesn't start: {error}", pytrace=False)
+    cells = cells_for(frontend.language(), Path(option("--cells")) if option("--cells") else None)
     yield Player(frontend, cells, option("--storm"))
     frontend.close()
 
