@@ -10,79 +10,45 @@ With --cpu it is the processor's time of the kernel's thread, on which other wor
 """
 
 import json
+import pathlib
 import sys
 import tempfile
 
 from frontend import Frontend
 
 CELL = """
-import ipywidgets, traitlets, zmq
+import json, sys
 from time import {clock} as clock
-kernel, count, file = get_ipython().kernel, {count}, {file!r}
-idents, parent = [b"bench"], kernel.get_parent("shell")
-is_old = int(ipywidgets.__version__.split(".")[0]) < 7
+sys.path.insert(0, {here!r})
+import traffic
+kernel, count, results = get_ipython().kernel, {count}, dict()
+parent = kernel.get_parent("shell")
 
-class Blob(ipywidgets.DOMWidget):
-    value = traitlets.Bytes().tag(sync=True, from_json=lambda value, widget: bytes(value))
+class Took(list):
+    def begin(self):
+        self.began = clock()
 
-def frames(comm_id, n, value):
-    "A move of a slider, as the browser side of this ipywidgets sends it: by version 1 of the protocol, or by version 2"
-    is_bytes = isinstance(value, bytes)
-    state = dict() if is_bytes else dict(value=value)
-    if is_old:
-        data = dict(method="backbone", sync_data=state, buffer_keys=["value"] * is_bytes)
-    else:
-        data = dict(method="update", state=state, buffer_paths=[["value"]] * is_bytes)
-    message = kernel.session.msg("comm_msg", dict(comm_id=comm_id, data=data))
-    return [zmq.Frame(part) for part in kernel.session.serialize(message, idents) + [value] * is_bytes]
+    def end(self):
+        self.append(clock() - self.began)
 
-async def heard(widget, values):
-    "Seconds from frames off the socket to the callback, the best half of them"
-    took = []
-    widget.observe(lambda change: took.append(clock() - began), "value")
-    for message in [frames(widget.comm.comm_id, n, value) for n, value in enumerate(values)]:
-        began = clock()
-        await kernel.dispatch_shell(message)
-    widget.close()
-    assert len(took) == len(values), (len(took), len(values))
-    return best(took)
+    def best(self):
+        "The mean of the best half"
+        best = sorted(self)[: len(self) // 2 or 1]
+        return sum(best) / len(best)
 
-def said(widget, values):
-    took = []
-    for value in values:
-        began = clock()
-        widget.value = value
-        took.append(clock() - began)
-    widget.close()
-    return best(took)
-
-def best(took):
-    took = sorted(took)[: len(took) // 2 or 1]
-    return sum(took) / len(took)
-
-def made(n):
-    began = clock()
-    sliders = [ipywidgets.IntSlider() for _ in range(n)]
-    took = clock() - began
-    for slider in sliders:
-        for part in (slider.layout, getattr(slider, "style", None), slider):
-            if part is not None:
-                part.close()
-    return took / n
-
-integers = [n % 100 + 1 for n in range(count)]
-floats = [n % 100 + 0.5 for n in range(count)]
-blobs = [bytes([n % 250 + 1]) * 2**20 for n in range(max(count // 20, 4))]
-cases = dict(int=(ipywidgets.IntSlider, integers), float=(ipywidgets.FloatSlider, floats), bytes=(Blob, blobs))
-results = dict()
-for name, (widget, values) in cases.items():
-    results["set in the kernel: " + name] = said(widget(), values)
-    results["off the socket: " + name] = await heard(widget(), values)
-    kernel.set_parent(idents, parent)
-results["sliders made"] = made(min(5 * count, 1000))
-import json
-open(file, "w").write(json.dumps(results))
+for name, (kind, values) in traffic.cases(count, max(count // 20, 4), 2**20).items():
+    for way, play in (("set in the kernel: ", traffic.said), ("off the socket: ", traffic.heard)):
+        widget, took = kind(), Took()
+        await play(kernel, widget, values, took.begin, took.end)
+        widget.close()
+        results[way + name] = took.best()
+    kernel.set_parent(traffic.IDENTS, parent)
+n, took = min(5 * count, 1000), Took()
+traffic.made(n, took.begin, took.end)
+results["sliders made"] = took.best() / n
+open({file!r}, "w").write(json.dumps(results))
 """
+HERE = str(pathlib.Path(__file__).resolve().parent)
 
 
 def main(*words):
@@ -94,7 +60,7 @@ def main(*words):
         runs = [[], []]
         for _ in range(rounds):
             for front, found in zip(fronts, runs):
-                said, _ = front.run(CELL.format(count=count, file=file.name, clock=clock))
+                said, _ = front.run(CELL.format(here=HERE, count=count, file=file.name, clock=clock))
                 if said:
                     sys.exit(said)
                 with open(file.name) as results:

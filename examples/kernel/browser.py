@@ -175,11 +175,11 @@ class Page:
         """So of the first element."""
         return (self.show(where, [text], lambda texts: texts[:1]) or [None])[0]
 
-    def show_value(self, where, wanted):
-        """Waits some seconds until an input has a value."""
+    def show_value(self, where, wanted, seconds):
+        """Waits until an input has a value, so long at most."""
         words = "return document.querySelector(arguments[0]).value"
         with contextlib.suppress(TimeoutError):
-            until(where, lambda: self.script(words, where) == wanted, 5)
+            until(where, lambda: self.script(words, where) == wanted, seconds)
 
     def prints(self, code, wanted):
         """Runs code until it prints what is wanted; gives what it prints."""

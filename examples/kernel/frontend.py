@@ -8,6 +8,7 @@ import sys
 import tempfile
 from typing import NamedTuple
 
+import zmq
 from jupyter_client import BlockingKernelClient, KernelManager
 from jupyter_client.kernelspec import KernelSpecManager
 
@@ -53,6 +54,7 @@ class Frontend:
         client = BlockingKernelClient(connection_file=self.kernel.connection_file, parent=self.kernel)
         client.load_connection_file()
         client.session.unpack = loads
+        client.context.setsockopt(zmq.RCVHWM, 0)  # who reads late misses nothing
         client.start_channels()
         client.wait_for_ready(timeout=SECONDS)
         return client

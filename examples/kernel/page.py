@@ -4,9 +4,13 @@ it has none, the page's messages go to the main shell, and a cell starts a threa
 
 import queue
 
+import jupyter_client.session
+import zmq
+
 from frontend import Frontend
 
 SECONDS = 30  # after which a kernel that says nothing has stopped answering
+jupyter_client.session.extract_dates = lambda content: content  # which nobody asks for here, and which takes long
 
 
 class Stopped(Exception):
@@ -50,7 +54,14 @@ class Page:
                 left.discard(self.client.get_shell_msg(timeout=seconds)["parent_header"].get("msg_id"))
             except queue.Empty:
                 break
+            self.let_go()
         return len(wanted) - len(left)
+
+    def let_go(self):
+        """Lets what came on iopub go, so that what comes next isn't dropped for want of room."""
+        socket = zmq.Socket.shadow(self.client.iopub_channel.socket.underlying)
+        while socket.poll(0):
+            socket.recv_multipart()
 
     def post(self, kind, content, metadata=None, beside=True):
         """Sends a message, from the page, or as a cell is sent. Gives its id."""

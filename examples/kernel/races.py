@@ -1,5 +1,5 @@
-"""What a kernel's threads do to its comms where a page speaks while a cell works. Each race is handed a page and how
-often it is tried, and yields for each time whether it went wrong."""
+"""What a kernel's threads do to its comms where a page speaks while a cell works. Each race is handed a page and `left`,
+which tells how many times it is still to be tried, and yields for each time whether it went wrong."""
 
 import json
 import random
@@ -23,14 +23,17 @@ going = True
 
 
 class Race(NamedTuple):
-    """What goes wrong, `run(page, times)`, from which version of ipywidgets on, how often it is tried, and in a long
-    run."""
+    """What goes wrong, `run(page, left)`, from which version of ipywidgets on, how often it is tried at the least, even
+    where that takes long, in a short run at most (0: not at all), and in a long run; or how many seconds that goes
+    on."""
 
     words: str
     run: object
     widgets: int
+    least: int
     short: int
     long: int
+    seconds: int = 0
 
 
 def said(came, method=None):
@@ -44,6 +47,7 @@ def said(came, method=None):
 
 PAGES = """
 kept = [ipywidgets.IntSlider(i) for i in range(100)]
+going = True
 def work():
     number = 0
     while going:
@@ -64,20 +68,23 @@ def load(page):
     return told[0] if told else None
 
 
-def page_loads(page, times):
+def page_loads(page, left):
     page.run(PAGES)
     working = page.start("work()")
-    for _ in range(times):
+    while left():
+        page.all_seen()
         states = load(page)
         yield states is None or len(states) < 100
     page.run("going = False", beside=True)
     page.end(working)
+    page.run("ipywidgets.Widget.close_all()")
 
 
 # ---- A page asks which comms are open while a cell opens and closes some.
 
 INFOS = """
 kept = [make(target_name="t") for _ in range(2000)]
+going = True
 def work():
     while going:
         make(target_name="t").close()
@@ -85,14 +92,15 @@ def work():
 """
 
 
-def infos(page, times):
+def infos(page, left):
     page.run(INFOS)
     working = page.start("work()")
-    answered = page.replies([page.post("comm_info_request", {}) for _ in range(times)], 10)
-    page.reply(page.execute("going = False", beside=True))  # iopub may have let messages go
+    while times := min(10, left()):
+        answered = page.replies([page.post("comm_info_request", {}) for _ in range(times)], 5)
+        yield from [False] * answered + [True] * (times - answered)
+    page.reply(page.execute("going = False", beside=True))
     page.end(working)
     page.run("for one in kept: one.close()")
-    yield from [False] * answered + [True] * (times - answered)
 
 
 # ---- A cell closes a comm, and a frontend within 0.3 ms: neither fails, and the close is told once.
@@ -124,23 +132,67 @@ logging.disable(logging.CRITICAL)
 """
 
 
-def closes_of_both(page, times):
+def closes_of_both(page, left):
     page.run(CLOSES)
-    printed, came = page.run(f"both_close({times})")
-    raised, heard, left = map(int, printed.split())
-    sent = sum(got["msg_type"] == "comm_close" for got in came)
-    wrong = raised + left + abs(times - heard - sent)
-    yield from [True] * wrong + [False] * (times - wrong)
+    while times := min(100, left()):
+        printed, came = page.run(f"both_close({times})")
+        raised, heard, open_yet = map(int, printed.split())
+        sent = sum(got["msg_type"] == "comm_close" for got in came)
+        wrong = min(times, raised + open_yet + abs(times - heard - sent))
+        yield from [True] * wrong + [False] * (times - wrong)
 
 
-# ---- A cell sets a slider while the page moves it: at rest both show the same.
+# ---- A cell sets a slider while another thread handles the page's moves of it: at rest both show the same. What goes
+# out last on the wire is what a page shows; after each time a comm of its own tells what the kernel holds.
 
 SLIDER = """
+slider, rest = ipywidgets.IntSlider(0, max=10**9), make(target_name="rest")
+def moved(value):
+    data = dict(method="update", state=dict(value=value), buffer_paths=[])
+    content = dict(comm_id=slider.comm.comm_id, data=data)
+    manager.comm_msg(None, None, dict(content=content, metadata={}, buffers=[], header={}, parent_header={}))
+def twice(call):
+    for _ in range(2):
+        time.sleep(random.random() * 0.0004)
+        call(random.randrange(10**6))
+def moves(times):
+    barrier = threading.Barrier(2)
+    def page():
+        for _ in range(times):
+            barrier.wait()
+            twice(moved)
+            barrier.wait()
+    other = threading.Thread(target=page)
+    other.start()
+    for _ in range(times):
+        barrier.wait()
+        twice(lambda value: setattr(slider, "value", value))
+        barrier.wait()
+        rest.send(dict(held=slider.value))
+    other.join()
+print(slider.comm.comm_id, rest.comm_id)
+"""
+
+
+def moves(page, left):
+    slider, rest = page.run(SLIDER)[0].split()
+    while times := min(100, left()):
+        shown = None
+        for comm_id, data in said(page.run(f"moves({times})")[1]):
+            if comm_id == slider:
+                shown = data["state"].get("value", shown)
+            elif comm_id == rest:
+                yield shown != data["held"]
+
+
+# ---- The same, where the page's moves come over ZeroMQ.
+
+SETS = """
 slider = ipywidgets.IntSlider(0, max=10**9)
 def sets(first):
-    for number in range(20):
+    for number in range(8):
         slider.value = first + number
-        sum(range(30000))  # it computes
+        sum(range(20000))  # it computes
 print(slider.comm.comm_id)
 """
 
@@ -150,12 +202,13 @@ def move(page, comm_id, value):
     page.post("comm_msg", {"comm_id": comm_id, "data": data})
 
 
-def moves(page, times):
-    comm_id = page.run(SLIDER)[0].strip()
-    for number in range(1, times + 1):
+def moves_of_a_page(page, left):
+    comm_id, number = page.run(SETS)[0].strip(), 0
+    while left():
+        number += 1
         setting = page.start(f"sets({1000 * number})")
-        for nth in range(5):
-            time.sleep(random.random() * 0.006)
+        for nth in range(3):
+            time.sleep(random.random() * 0.004)
             move(page, comm_id, 1000 * number + 500 + nth)
         page.end(setting)
         page.settle()
@@ -169,6 +222,7 @@ def moves(page, times):
 
 STORM = """
 kept, failed = [[ipywidgets.IntSlider(0, max=10**9) for _ in range(4)] for _ in range(8)], []
+going = True
 def lives(mine):
     try:
         while going:
@@ -176,7 +230,7 @@ def lives(mine):
             for value in range(3):
                 made.value = random.choice(mine).value = random.randrange(10**6)
             made.close(); made.layout.close(); made.style.close()
-            time.sleep(0.05)
+            time.sleep(0.3)  # so that a busy page keeps up
     except Exception as error:
         failed.append(repr(error))
 threads = [threading.Thread(target=lives, args=(mine,)) for mine in kept]
@@ -188,14 +242,14 @@ print(json.dumps([failed, {one.comm.comm_id: one.value for mine in kept for one 
 """
 
 
-def storm(page, times):
+def storm(page, left):
     page.all_seen()
     page.run(STORM)
-    is_wrong = False
-    for number in range(times):
-        if number:
+    is_wrong, has_begun = False, False
+    while left() > 1 or not has_begun:
+        if has_begun:
             yield is_wrong
-        began, states = time.monotonic(), load(page)
+        has_begun, began, states = True, time.monotonic(), load(page)
         sliders = [at for at, told in (states or {}).items() if told["model_name"] == "IntSliderModel"]
         for comm_id in random.sample(sliders, min(4, len(sliders))):
             move(page, comm_id, random.randrange(10**6))
@@ -224,10 +278,12 @@ def shown(came):
     return values
 
 
+# ipywidgets 6 has no `request_states`, and no echo, so that what its page shows isn't on the wire.
 RACES = (
-    Race("page loads that aren't answered", page_loads, 7, 20, 50),
-    Race("comm_info_requests that aren't answered", infos, 6, 100, 300),
-    Race("closes of both ends that fail or aren't told once", closes_of_both, 6, 300, 2000),
-    Race("sliders that differ in page and kernel at rest", moves, 7, 40, 10000),
-    Race("loads beside eight threads that go wrong", storm, 7, 20, 600),
+    Race("page loads that aren't answered", page_loads, 7, 5, 50, 100),
+    Race("comm_info_requests that aren't answered", infos, 6, 10, 300, 1000),
+    Race("closes of both ends that fail or aren't told once", closes_of_both, 6, 100, 500, 2000),
+    Race("sliders that differ in page and kernel at rest", moves, 7, 100, 500, 10000),
+    Race("the same, moved over ZeroMQ", moves_of_a_page, 7, 5, 100, 300),
+    Race("loads beside eight threads that go wrong", storm, 7, 5, 0, 10**6, 60),
 )

@@ -155,15 +155,15 @@ def steps(page):
     yield "and from the kernel", page.shows(whole + READOUT, "2"), "2"
 
 
-def refused(page):
-    """What the page shows of a number that the kernel's widget refuses."""
+def refused(page, seconds):
+    """What the page shows of a number that the kernel's widget refuses: as soon as it is put right, or after so long."""
     from selenium.webdriver.common.keys import Keys
 
     page.run(EVEN)
     page.add_cell("display(even)")
     box = page.cell(len(CELLS)) + AREA + " input"
     page.keys(box, Keys.CONTROL + "a", "5", Keys.TAB)
-    page.show_value(box, "2")
+    page.show_value(box, "2", seconds)
     return page.script(TYPED, box), page.run("print(even.value)")
 
 
@@ -180,8 +180,8 @@ def played(server, kernel, picture):
         for name, got, wanted in steps(page):
             check(f"{kernel}: {name}", got, wanted)
             found.append((name, got))
-        wanted = ("5" if kernel == "python3" else "2", "2\n")
-        check(f"{kernel}: a number that the widget refuses", refused(page), wanted)
+        shown, seconds = ("5", 5) if kernel == "python3" else ("2", 60)
+        check(f"{kernel}: a number that the widget refuses", refused(page, seconds), (shown, "2\n"))
     except Exception:
         check(f"{kernel}: no error", traceback.format_exc(), None)
     found.append(("comms", page.run(COUNTS)))

@@ -23,7 +23,7 @@ SUITES = pathlib.Path(__file__).resolve().parent / "suites"
 FOUND = os.environ.get("PYTHONPATH")  # other packages than the machine's
 PATHS = os.pathsep.join([os.environ["ROLGUNAI_PACKAGE"], *([FOUND] if FOUND else [])])
 OUTCOMES = "outcomes.json"
-SECONDS = 300
+SECONDS = 600  # a machine may be busy
 INSTALL = "import rolgunai.comms; rolgunai.comms.install()\n"
 CELL = "import sys; sys.dont_write_bytecode = True; sys.path.insert(0, {!r}); import widgets; widgets.widgets({})"
 
