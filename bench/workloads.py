@@ -1,3 +1,4 @@
+#!/usr/bin/env python3
 """Workloads, as generators of a script's lines (bytes, each with its line feed). Each has lines that set up, and lines
 of its loop; `bench/workloads.py NAME LINES` prints a script."""
 import base64
@@ -213,5 +214,13 @@ def script(name, lines):
     yield from loop(lines)
 
 
+def main(words):
+    if len(words) != 2 or words[0] not in WORKLOADS or not words[1].isdigit():
+        print(__doc__, f"NAME is one of {', '.join(WORKLOADS)}.", file=sys.stdout if "--help" in words else sys.stderr)
+        return 0 if "--help" in words else 2
+    sys.stdout.buffer.writelines(script(words[0], int(words[1])))
+    return 0
+
+
 if __name__ == "__main__":
-    sys.stdout.buffer.writelines(script(sys.argv[1], int(sys.argv[2])))
+    sys.exit(main(sys.argv[1:]))
