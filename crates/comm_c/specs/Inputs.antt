@@ -8,10 +8,12 @@ use Rattle.comm_json.specs.Behind.{line_value}
 use Rattle.comm_value.specs.Gives as any
 use Rattle.comm_value.specs.Gives.{◌>>=◌, or_fault}
 use Rattle.comm_value.specs.declared.from_json.Numbers.{Numbers}
-use Rattle.comm_messages.specs.Buffers.{split_buffers}
+use Rattle.comm_messages.specs.Buffers.{framed, split_buffers}
 use Rattle.comm_messages.specs.Envelope.{Envelope}
 use Rattle.comm_messages.specs.Gives as message
 use Rattle.comm_messages.specs.Message.{envelope_in}
+use Rattle.comm_messages.specs.declared.raw_buffers.RawBuffers.{RawBuffers}
+use Rattle.comm_messages.specs.declared.raw_buffers.RawBuffers.TheVariants.{Joined, Frames}
 use Rattle.comm_core.specs.Machine.{Machine, Name}
 use Rattle.comm_core.specs.declared.call.Call.TheVariants as call
 use Rattle.comm_script.specs.Command.{asked, launch_with, of_client, push_with, send_with}
@@ -38,10 +40,18 @@ Gives view result tested = any.Gives is_memory view result tested
 
 -- ---- the tests
 
+abbrev pub TestedBuffers : Type 0
+TestedBuffers = Result (List (List ℕ)) CallFault
+
 -- the buffers of these sizes, which add up to the bytes in which they stand one after another
-abbrev pub buffers_tested : (buffers sizes : List ℕ) → Result (List (List ℕ)) CallFault
+abbrev pub buffers_tested : (buffers sizes : List ℕ) → TestedBuffers
 buffers_tested buffers sizes =
     if sum sizes == length buffers then Ok (split_buffers buffers sizes) else Err BadSizes
+
+-- frames fail no test
+abbrev pub raw_tested : RawBuffers → TestedBuffers
+raw_tested (Joined bytes sizes) = buffers_tested bytes.now sizes.now
+raw_tested (Frames frames) = Ok (framed frames.now)
 
 abbrev pub name_tested : List ℕ → Result Name CallFault
 name_tested name = if is_utf8 name then Ok name else Err BadName
@@ -82,34 +92,34 @@ envelope_input m numbers envelope = message_read (asked_of m numbers envelope) e
 
 -- ---- calls
 
-unfoldable pub message_input : Machine → Numbers → (client : ℕ) → (header metadata content buffers sizes : List ℕ)
+unfoldable pub message_input : Machine → Numbers → (client : ℕ) → (header metadata content : List ℕ) → TestedBuffers
     → Tested
-message_input m numbers client header metadata content buffers sizes = do
-  split ← buffers_tested buffers sizes
-  envelope ← envelope_tested (envelope_in client header metadata content split)
+message_input m numbers client header metadata content tested = do
+  buffers ← tested
+  envelope ← envelope_tested (envelope_in client header metadata content buffers)
   Ok (envelope_input m numbers envelope)
 
-unfoldable pub launch_input : Numbers → (client : ℕ) → (target uuid state paths buffers sizes : List ℕ) → Tested
-launch_input numbers client target uuid state paths buffers sizes = do
-  split ← buffers_tested buffers sizes
+unfoldable pub launch_input : Numbers → (client : ℕ) → (target uuid state paths : List ℕ) → TestedBuffers → Tested
+launch_input numbers client target uuid state paths tested = do
+  buffers ← tested
   name ← name_tested target
   id ← name_tested uuid
   values ← pair_tested state paths
-  Ok (input_of (of_client 4 client (launch_with numbers name id values.0 values.1 (Ok split))))
+  Ok (input_of (of_client 4 client (launch_with numbers name id values.0 values.1 (Ok buffers))))
 
-unfoldable pub push_input : Numbers → (client : ℕ) → (id state paths buffers sizes : List ℕ) → Tested
-push_input numbers client id state paths buffers sizes = do
-  split ← buffers_tested buffers sizes
+unfoldable pub push_input : Numbers → (client : ℕ) → (id state paths : List ℕ) → TestedBuffers → Tested
+push_input numbers client id state paths tested = do
+  buffers ← tested
   name ← name_tested id
   values ← pair_tested state paths
-  Ok (input_of (of_client 4 client (push_with numbers name values.0 values.1 (Ok split))))
+  Ok (input_of (of_client 4 client (push_with numbers name values.0 values.1 (Ok buffers))))
 
-unfoldable pub send_input : Numbers → (client : ℕ) → (id content buffers sizes : List ℕ) → Tested
-send_input numbers client id content buffers sizes = do
-  split ← buffers_tested buffers sizes
+unfoldable pub send_input : Numbers → (client : ℕ) → (id content : List ℕ) → TestedBuffers → Tested
+send_input numbers client id content tested = do
+  buffers ← tested
   name ← name_tested id
   value ← json_tested content
-  Ok (input_of (of_client 4 client (send_with numbers name value (Ok split))))
+  Ok (input_of (of_client 4 client (send_with numbers name value (Ok buffers))))
 
 unfoldable pub close_input : (client : ℕ) → (id : List ℕ) → Tested
 close_input client id = name_tested id >>= (λ name. Ok (input_of (of_client 4 client (Ok (Change (call.HangUp name))))))

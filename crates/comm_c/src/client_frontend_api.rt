@@ -1,9 +1,10 @@
 //! The call of a client for what frontends send.
 ghost use Rattle.comm_c.specs.ClientExports.{HasClientCalled};
-ghost use Rattle.comm_c.specs.Inputs.{message_input};
+ghost use Rattle.comm_c.specs.Inputs.{buffers_tested, message_input};
 
 use crate::client_calls::{Entered, answer, enter, not_entered};
 use crate::client_handle::ClientHandle;
+use comm_messages::RawBuffers;
 use std::alloc::Global;
 
 /// Plays a message by its parts: three JSON texts, and binary buffers that stand one after another with their sizes
@@ -22,7 +23,7 @@ pub extern "C" fn rolgunai_client_handle_message(
     sent: &mut usize,
 ) -> u32
     ensures { HasClientCalled (λ m numbers. message_input m numbers 0 header.now metadata.now
-        content.now buffers.now sizes.now)
+        content.now (buffers_tested buffers.now sizes.now))
         client.old.value client.new.value result reply.new sent.new }
 {
     match enter(alloc, client) {
@@ -31,15 +32,11 @@ pub extern "C" fn rolgunai_client_handle_message(
                 client: here,
                 mut desk,
             } = entered;
-            let input = desk.message(
-                alloc,
-                here.numbers(),
-                header,
-                metadata,
-                content,
-                buffers,
+            let buffers = RawBuffers::Joined {
+                bytes: buffers,
                 sizes,
-            );
+            };
+            let input = desk.message(alloc, here.numbers(), header, metadata, content, buffers);
             answer(alloc, client, here, desk, input, reply, sent)
         }
         Err(status) => not_entered(status, reply, sent),

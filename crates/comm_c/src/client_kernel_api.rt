@@ -5,7 +5,8 @@ ghost use Rattle.std.specs.Prelude.{◌≡◌, ◌≢◌, ◌⊎◌, ◌↔◌, 
 ghost use Rattle.comm_c.specs.ClientExports.{HasClientCalled, HasClientRegistered, HasClientResult, IsFull};
 ghost use Rattle.comm_c.specs.Codes.{bad_kind, bad_name, busy, closed, exhausted, kind_numbered, memory, ok};
 ghost use Rattle.comm_c.specs.Codes.{stranger};
-ghost use Rattle.comm_c.specs.Inputs.{close_input, launch_input, push_input, send_input, unregister_input};
+ghost use Rattle.comm_c.specs.Inputs.{buffers_tested, close_input, launch_input, push_input, send_input};
+ghost use Rattle.comm_c.specs.Inputs.{unregister_input};
 
 use crate::client_calls::{Entered, answer, enter, not_entered, put_client, take_client};
 use crate::client_handle::ClientHandle;
@@ -13,6 +14,7 @@ use crate::client_register::register;
 use crate::codes::{CLOSED, OK};
 use crate::copying::write_result;
 use crate::inputs::{close_input, unregister_input};
+use comm_messages::RawBuffers;
 use std::alloc::Global;
 
 /// Registers a new target of a kind (`ROLGUNAI_WIDGET`, `_PLAIN`, `_WIDGET_ECHO`, `_OPAQUE`) under a name, UTF-8. The
@@ -93,8 +95,8 @@ pub extern "C" fn rolgunai_client_launch(
     reply: &mut u32,
     sent: &mut usize,
 ) -> u32
-    ensures { HasClientCalled (λ m numbers. launch_input numbers 0 target.now uuid.now state.now paths.now
-        buffers.now sizes.now)
+    ensures { HasClientCalled (λ m numbers. launch_input numbers 0 target.now uuid.now state.now
+        paths.now (buffers_tested buffers.now sizes.now))
         client.old.value client.new.value result reply.new sent.new }
 {
     match enter(alloc, client) {
@@ -103,16 +105,11 @@ pub extern "C" fn rolgunai_client_launch(
                 client: here,
                 mut desk,
             } = entered;
-            let input = desk.launch(
-                alloc,
-                here.numbers(),
-                target,
-                uuid,
-                state,
-                paths,
-                buffers,
+            let buffers = RawBuffers::Joined {
+                bytes: buffers,
                 sizes,
-            );
+            };
+            let input = desk.launch(alloc, here.numbers(), target, uuid, state, paths, buffers);
             answer(alloc, client, here, desk, input, reply, sent)
         }
         Err(status) => not_entered(status, reply, sent),
@@ -134,7 +131,7 @@ pub extern "C" fn rolgunai_client_push(
     sent: &mut usize,
 ) -> u32
     ensures { HasClientCalled (λ m numbers. push_input numbers 0 id.now state.now paths.now
-        buffers.now sizes.now)
+        (buffers_tested buffers.now sizes.now))
         client.old.value client.new.value result reply.new sent.new }
 {
     match enter(alloc, client) {
@@ -143,7 +140,11 @@ pub extern "C" fn rolgunai_client_push(
                 client: here,
                 mut desk,
             } = entered;
-            let input = desk.push(alloc, here.numbers(), id, state, paths, buffers, sizes);
+            let buffers = RawBuffers::Joined {
+                bytes: buffers,
+                sizes,
+            };
+            let input = desk.push(alloc, here.numbers(), id, state, paths, buffers);
             answer(alloc, client, here, desk, input, reply, sent)
         }
         Err(status) => not_entered(status, reply, sent),
@@ -163,7 +164,7 @@ pub extern "C" fn rolgunai_client_send(
     sent: &mut usize,
 ) -> u32
     ensures { HasClientCalled (λ m numbers. send_input numbers 0 id.now content.now
-        buffers.now sizes.now)
+        (buffers_tested buffers.now sizes.now))
         client.old.value client.new.value result reply.new sent.new }
 {
     match enter(alloc, client) {
@@ -172,7 +173,11 @@ pub extern "C" fn rolgunai_client_send(
                 client: here,
                 mut desk,
             } = entered;
-            let input = desk.send(alloc, here.numbers(), id, content, buffers, sizes);
+            let buffers = RawBuffers::Joined {
+                bytes: buffers,
+                sizes,
+            };
+            let input = desk.send(alloc, here.numbers(), id, content, buffers);
             answer(alloc, client, here, desk, input, reply, sent)
         }
         Err(status) => not_entered(status, reply, sent),

@@ -4,14 +4,14 @@ ghost use Rattle.comm_shared.specs.SharedView.{most_changes, newcomer, seats};
 ghost use Rattle.comm_c.specs.BuiltinTarget.{kind_of};
 ghost use Rattle.comm_c.specs.Clients.{ClientAnswers, GivesRegister, machine_of};
 ghost use Rattle.comm_c.specs.Handles.{IsAllowed};
-ghost use Rattle.comm_c.specs.Inputs.{Gives, launch_input, message_input, push_input, send_input};
+ghost use Rattle.comm_c.specs.Inputs.{Gives, launch_input, message_input, push_input, raw_tested, send_input};
 
 use crate::builtin_target::{BuiltinKind, BuiltinTarget};
 use crate::input::{CallFault, Input};
 use crate::inputs::{launch_input, push_input, send_input};
 use crate::opaque::message_input;
 use crate::playing::{Played, play, register};
-use comm_messages::PartsScratch;
+use comm_messages::{PartsScratch, RawBuffers};
 use comm_shared::{ChangeFault, SharedClient, SharedManager};
 use comm_value::{KnownTexts, Numbers, Text};
 use comm_versions::RawFront;
@@ -83,12 +83,11 @@ impl Desk {
         header: &[u8],
         metadata: &[u8],
         content: &[u8],
-        buffers: &[u8],
-        sizes: &[usize],
+        buffers: RawBuffers<'_>,
     ) -> Result<Input, CallFault>
         ensures input { Gives (λ i. i) result
             (message_input (machine_of self.new) numbers 0 header.now metadata.now content.now
-            buffers.now sizes.now) }
+            (raw_tested buffers.entry)) }
         ensures allowed { IfOk result IsAllowed }
         ensures same { self.new ≡ self.old }
     {
@@ -101,7 +100,6 @@ impl Desk {
             metadata,
             content,
             buffers,
-            sizes,
             &mut self.scratch,
             &mut self.texts,
             self.has_opaque,
@@ -117,12 +115,11 @@ impl Desk {
         uuid: &[u8],
         state: &[u8],
         paths: &[u8],
-        buffers: &[u8],
-        sizes: &[usize],
+        buffers: RawBuffers<'_>,
     ) -> Result<Input, CallFault>
         ensures input { Gives (λ i. i) result
-            (launch_input numbers 0 target.now uuid.now state.now paths.now buffers.now
-            sizes.now) }
+            (launch_input numbers 0 target.now uuid.now state.now paths.now
+            (raw_tested buffers.entry)) }
         ensures allowed { IfOk result IsAllowed }
         ensures same { self.new ≡ self.old }
     {
@@ -135,7 +132,6 @@ impl Desk {
             state,
             paths,
             buffers,
-            sizes,
             &mut self.scratch,
             &mut self.texts,
         )
@@ -149,11 +145,10 @@ impl Desk {
         id: &[u8],
         state: &[u8],
         paths: &[u8],
-        buffers: &[u8],
-        sizes: &[usize],
+        buffers: RawBuffers<'_>,
     ) -> Result<Input, CallFault>
         ensures input { Gives (λ i. i) result
-            (push_input numbers 0 id.now state.now paths.now buffers.now sizes.now) }
+            (push_input numbers 0 id.now state.now paths.now (raw_tested buffers.entry)) }
         ensures allowed { IfOk result IsAllowed }
         ensures same { self.new ≡ self.old }
     {
@@ -165,7 +160,6 @@ impl Desk {
             state,
             paths,
             buffers,
-            sizes,
             &mut self.scratch,
             &mut self.texts,
         )
@@ -178,11 +172,10 @@ impl Desk {
         numbers: Numbers,
         id: &[u8],
         content: &[u8],
-        buffers: &[u8],
-        sizes: &[usize],
+        buffers: RawBuffers<'_>,
     ) -> Result<Input, CallFault>
         ensures input { Gives (λ i. i) result
-            (send_input numbers 0 id.now content.now buffers.now sizes.now) }
+            (send_input numbers 0 id.now content.now (raw_tested buffers.entry)) }
         ensures allowed { IfOk result IsAllowed }
         ensures same { self.new ≡ self.old }
     {
@@ -193,7 +186,6 @@ impl Desk {
             id,
             content,
             buffers,
-            sizes,
             &mut self.scratch.content,
             &mut self.texts,
         )

@@ -4,13 +4,14 @@ ghost use Rattle.comm_core.specs.Ready.{machine};
 ghost use Rattle.comm_c.specs.CallResult.{result_text};
 ghost use Rattle.comm_c.specs.Codes.{buffer_too_small, closed, exhausted, memory, no_text, ok};
 ghost use Rattle.comm_c.specs.Exports.{FillsPart, HasCalled, HasPlayedLine, IsExhausted, IsLongerPart, text_of};
-ghost use Rattle.comm_c.specs.Inputs.{line_input, message_input};
+ghost use Rattle.comm_c.specs.Inputs.{buffers_tested, line_input, message_input};
 ghost use Rattle.comm_c.specs.ManagerState.{Plays};
 
 use crate::calls::{answer, put, take, without_manager};
 use crate::codes::{CLOSED, EXHAUSTED, MEMORY, NO_TEXT};
 use crate::handle::Handle;
 use crate::held_manager::HeldManager;
+use comm_messages::RawBuffers;
 use std::alloc::Global;
 
 /// Plays a message of a client by its parts: three JSON texts, and binary buffers that stand one after
@@ -30,12 +31,16 @@ pub extern "C" fn rolgunai_handle_message(
     sent: &mut usize,
 ) -> u32
     ensures { HasCalled (λ d. message_input (machine d.core) d.numbers client
-        header.now metadata.now content.now buffers.now sizes.now)
+        header.now metadata.now content.now (buffers_tested buffers.now sizes.now))
         handle.old.value handle.new.value result reply.new sent.new }
 {
     match take(handle, alloc) {
         Some(mut manager) => {
-            let input = manager.message(alloc, client, header, metadata, content, buffers, sizes);
+            let buffers = RawBuffers::Joined {
+                bytes: buffers,
+                sizes,
+            };
+            let input = manager.message(alloc, client, header, metadata, content, buffers);
             answer(alloc, handle, manager, input, reply, sent)
         }
         None => without_manager(reply, sent),

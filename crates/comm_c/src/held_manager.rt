@@ -9,7 +9,7 @@ ghost use Rattle.comm_c.specs.Codes.{buffer_too_small, memory, ok};
 ghost use Rattle.comm_c.specs.CountedCore.{Registers};
 ghost use Rattle.comm_c.specs.Exports.{FillsPart, IsLongerPart};
 ghost use Rattle.comm_c.specs.Handles.{IsAllowed};
-ghost use Rattle.comm_c.specs.Inputs.{Gives, launch_input, line_input, message_input, push_input, send_input};
+ghost use Rattle.comm_c.specs.Inputs.{Gives, launch_input, line_input, message_input, push_input, raw_tested, send_input};
 ghost use Rattle.comm_c.specs.ManagerState.{Plays, new_manager};
 
 use crate::builtin_target::BuiltinKind;
@@ -21,7 +21,7 @@ use crate::input::{CallFault, Input};
 use crate::inputs::{launch_input, line_input, push_input, send_input};
 use crate::opaque::message_input;
 use comm_core::{BadCommsLimit, Core};
-use comm_messages::PartsScratch;
+use comm_messages::{PartsScratch, RawBuffers};
 use comm_value::{KnownTexts, Numbers, Text};
 use std::alloc::{AllocError, Global};
 use std::marker::Model;
@@ -111,12 +111,11 @@ impl HeldManager {
         header: &[u8],
         metadata: &[u8],
         content: &[u8],
-        buffers: &[u8],
-        sizes: &[usize],
+        buffers: RawBuffers<'_>,
     ) -> Result<Input, CallFault>
         ensures input { Gives (λ i. i) result
             (message_input (machine self.new.counted_core.core) self.new.counted_core.numbers client
-            header.now metadata.now content.now buffers.now sizes.now) }
+            header.now metadata.now content.now (raw_tested buffers.entry)) }
         ensures allowed { IfOk result IsAllowed }
         ensures same { self.new ≡ self.old }
     {
@@ -129,7 +128,6 @@ impl HeldManager {
             metadata,
             content,
             buffers,
-            sizes,
             &mut self.scratch,
             &mut self.texts,
             self.has_opaque,
@@ -145,12 +143,11 @@ impl HeldManager {
         uuid: &[u8],
         state: &[u8],
         paths: &[u8],
-        buffers: &[u8],
-        sizes: &[usize],
+        buffers: RawBuffers<'_>,
     ) -> Result<Input, CallFault>
         ensures input { Gives (λ i. i) result
             (launch_input self.new.counted_core.numbers client target.now uuid.now state.now
-            paths.now buffers.now sizes.now) }
+            paths.now (raw_tested buffers.entry)) }
         ensures allowed { IfOk result IsAllowed }
         ensures same { self.new ≡ self.old }
     {
@@ -163,7 +160,6 @@ impl HeldManager {
             state,
             paths,
             buffers,
-            sizes,
             &mut self.scratch,
             &mut self.texts,
         )
@@ -177,12 +173,11 @@ impl HeldManager {
         id: &[u8],
         state: &[u8],
         paths: &[u8],
-        buffers: &[u8],
-        sizes: &[usize],
+        buffers: RawBuffers<'_>,
     ) -> Result<Input, CallFault>
         ensures input { Gives (λ i. i) result
-            (push_input self.new.counted_core.numbers client id.now state.now paths.now buffers.now
-            sizes.now) }
+            (push_input self.new.counted_core.numbers client id.now state.now paths.now
+            (raw_tested buffers.entry)) }
         ensures allowed { IfOk result IsAllowed }
         ensures same { self.new ≡ self.old }
     {
@@ -194,7 +189,6 @@ impl HeldManager {
             state,
             paths,
             buffers,
-            sizes,
             &mut self.scratch,
             &mut self.texts,
         )
@@ -207,12 +201,11 @@ impl HeldManager {
         client: u32,
         id: &[u8],
         content: &[u8],
-        buffers: &[u8],
-        sizes: &[usize],
+        buffers: RawBuffers<'_>,
     ) -> Result<Input, CallFault>
         ensures input { Gives (λ i. i) result
-            (send_input self.new.counted_core.numbers client id.now content.now buffers.now
-            sizes.now) }
+            (send_input self.new.counted_core.numbers client id.now content.now
+            (raw_tested buffers.entry)) }
         ensures allowed { IfOk result IsAllowed }
         ensures same { self.new ≡ self.old }
     {
@@ -223,7 +216,6 @@ impl HeldManager {
             id,
             content,
             buffers,
-            sizes,
             &mut self.scratch.content,
             &mut self.texts,
         )

@@ -3,16 +3,16 @@ ghost use Rattle.std.specs.Prelude.{◌≡◌, ◌↔◌, IfOk, IsTrue};
 ghost use Rattle.std.specs.List.{sum};
 ghost use Rattle.json.specs.Value.{value_view};
 ghost use Rattle.comm_json.specs.Behind.{tidy};
-ghost use Rattle.comm_messages.specs.Buffers.{split_buffers};
+ghost use Rattle.comm_messages.specs.Buffers.{raw_buffers};
 ghost use Rattle.comm_script.specs.Command.{HandsNothing, of_client};
 ghost use Rattle.comm_script.specs.Line.{Reading, Gives as ReadGives};
 ghost use Rattle.comm_script.specs.declared.asked.Request.{Request};
 ghost use Rattle.comm_c.specs.Handles.{IsAllowed};
-ghost use Rattle.comm_c.specs.Inputs.{Gives, buffers_tested, input_of, json_tested, name_tested, pair_tested};
+ghost use Rattle.comm_c.specs.Inputs.{Gives, input_of, json_tested, name_tested, pair_tested, raw_tested};
 
 use bumpalo::Bump;
 use comm_json::{JsonFault, LineValue, TextScratch, read_among};
-use comm_messages::{MessageFault, PartsScratch};
+use comm_messages::{MessageFault, PartsScratch, RawBuffers};
 use comm_script::{LineFault, Request};
 use comm_value::Text;
 use std::alloc::AllocError;
@@ -68,16 +68,16 @@ fn add_up(sizes: &[usize], whole: usize) -> bool
     left == 0
 }
 
-/// Tests whether the buffers of these sizes are the bytes. Err: BadSizes.
+/// Tests whether buffers that stand one after another are, in these sizes, all of their bytes. Err: BadSizes.
 #[tactic(auto, using(crate::proofs::Tests::sizes_add_up, crate::proofs::Tests::sizes_do_not))]
-pub fn test_buffers(buffers: &[u8], sizes: &[usize]) -> Result<(), CallFault>
-    ensures { Gives (λ _. split_buffers buffers.now sizes.now) result
-        (buffers_tested buffers.now sizes.now) }
+pub fn test_buffers(buffers: RawBuffers<'_>) -> Result<(), CallFault>
+    ensures { Gives (λ _. raw_buffers buffers.entry) result (raw_tested buffers.entry) }
 {
-    if add_up(sizes, buffers.len()) {
-        Ok(())
-    } else {
-        Err(CallFault::BadSizes)
+    match buffers {
+        RawBuffers::Joined { bytes, sizes } if !add_up(sizes, bytes.len()) => Err(
+            CallFault::BadSizes,
+        ),
+        RawBuffers::Joined { .. } | RawBuffers::Frames(_) => Ok(()),
     }
 }
 

@@ -2,13 +2,13 @@
 ghost use Rattle.std.specs.Prelude.{◌≡◌, IfOk};
 ghost use Rattle.comm_c.specs.Handles.{IsAllowed};
 ghost use Rattle.comm_c.specs.Inputs.{Gives, close_input, launch_input, line_input, push_input, send_input};
-ghost use Rattle.comm_c.specs.Inputs.{state_input, unregister_input};
+ghost use Rattle.comm_c.specs.Inputs.{raw_tested, state_input, unregister_input};
 
 use crate::input::{CallFault, Input, MAX_CLIENTS, json_of, json_pair, name_of, test_buffers};
 use bumpalo::Bump;
 use comm_core::Call;
 use comm_json::{JsonRef, TextScratch};
-use comm_messages::{BuffersRef, PartsScratch};
+use comm_messages::{BuffersRef, PartsScratch, RawBuffers};
 use comm_script::{Request, is_blank, launch_with, parse_line_among, push_with, send_with};
 use comm_value::{KnownTexts, Numbers, Text};
 use std::alloc::{AllocError, Global};
@@ -49,16 +49,15 @@ pub fn launch_input<'a>(
     uuid: &[u8],
     state: &'a [u8],
     paths: &'a [u8],
-    buffers: &[u8],
-    sizes: &[usize],
+    buffers: RawBuffers<'_>,
     scratch: &'a mut PartsScratch,
     texts: &mut KnownTexts,
 ) -> Result<Input, CallFault>
     ensures input { Gives (λ i. i) result (launch_input numbers client target.now uuid.now
-        state.now paths.now buffers.now sizes.now) }
+        state.now paths.now (raw_tested buffers.entry)) }
     ensures allowed { IfOk result IsAllowed }
 {
-    test_buffers(buffers, sizes)?;
+    test_buffers(buffers)?;
     let name = name_of(target)?;
     let id = name_of(uuid)?;
     let lists = Bump::new(alloc);
@@ -71,10 +70,7 @@ pub fn launch_input<'a>(
         id,
         JsonRef::Borrowed(&values.0),
         JsonRef::Borrowed(&values.1),
-        BuffersRef::Raw {
-            bytes: buffers,
-            sizes,
-        },
+        BuffersRef::Raw(buffers),
     );
     Ok(Input::for_client(client, request)?)
 }
@@ -88,16 +84,15 @@ pub fn push_input<'a>(
     id: &[u8],
     state: &'a [u8],
     paths: &'a [u8],
-    buffers: &[u8],
-    sizes: &[usize],
+    buffers: RawBuffers<'_>,
     scratch: &'a mut PartsScratch,
     texts: &mut KnownTexts,
 ) -> Result<Input, CallFault>
     ensures input { Gives (λ i. i) result (push_input numbers client id.now state.now paths.now
-        buffers.now sizes.now) }
+        (raw_tested buffers.entry)) }
     ensures allowed { IfOk result IsAllowed }
 {
-    test_buffers(buffers, sizes)?;
+    test_buffers(buffers)?;
     let name = name_of(id)?;
     let lists = Bump::new(alloc);
     let values = json_pair(state, paths, scratch, &lists)?;
@@ -108,10 +103,7 @@ pub fn push_input<'a>(
         name,
         JsonRef::Borrowed(&values.0),
         JsonRef::Borrowed(&values.1),
-        BuffersRef::Raw {
-            bytes: buffers,
-            sizes,
-        },
+        BuffersRef::Raw(buffers),
     );
     Ok(Input::for_client(client, request)?)
 }
@@ -124,16 +116,15 @@ pub fn send_input<'a>(
     client: u32,
     id: &[u8],
     content: &'a [u8],
-    buffers: &[u8],
-    sizes: &[usize],
+    buffers: RawBuffers<'_>,
     scratch: &'a mut TextScratch,
     texts: &mut KnownTexts,
 ) -> Result<Input, CallFault>
     ensures input { Gives (λ i. i) result
-        (send_input numbers client id.now content.now buffers.now sizes.now) }
+        (send_input numbers client id.now content.now (raw_tested buffers.entry)) }
     ensures allowed { IfOk result IsAllowed }
 {
-    test_buffers(buffers, sizes)?;
+    test_buffers(buffers)?;
     let name = name_of(id)?;
     let lists = Bump::new(alloc);
     let value = json_of(content, scratch, &lists)?;
@@ -143,10 +134,7 @@ pub fn send_input<'a>(
         texts,
         name,
         JsonRef::Borrowed(&value),
-        BuffersRef::Raw {
-            bytes: buffers,
-            sizes,
-        },
+        BuffersRef::Raw(buffers),
     );
     Ok(Input::for_client(client, request)?)
 }

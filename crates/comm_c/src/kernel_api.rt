@@ -4,7 +4,7 @@
 ghost use Rattle.std.specs.Prelude.{◌≡◌, ◌≢◌, ◌⊎◌, ◌↔◌, None, IsSome, IsUtf8};
 ghost use Rattle.comm_c.specs.Codes.{bad_kind, bad_name, closed, exhausted, kind_numbered, memory, ok};
 ghost use Rattle.comm_c.specs.Exports.{HasCalled, HasLastResult, HasRegistered, IsExhausted};
-ghost use Rattle.comm_c.specs.Inputs.{close_input, launch_input, push_input, send_input, state_input};
+ghost use Rattle.comm_c.specs.Inputs.{buffers_tested, close_input, launch_input, push_input, send_input, state_input};
 ghost use Rattle.comm_c.specs.Inputs.{unregister_input};
 
 use crate::calls::{answer, put, register, take, without_manager};
@@ -12,6 +12,7 @@ use crate::codes::{CLOSED, OK};
 use crate::copying::write_result;
 use crate::handle::Handle;
 use crate::inputs::{close_input, state_input, unregister_input};
+use comm_messages::RawBuffers;
 use std::alloc::Global;
 
 /// Registers a new target of a kind (`ROLGUNAI_WIDGET`, `_PLAIN`, `_WIDGET_ECHO`, `_OPAQUE`) under a name, UTF-8. The
@@ -94,12 +95,16 @@ pub extern "C" fn rolgunai_launch(
     sent: &mut usize,
 ) -> u32
     ensures { HasCalled (λ d. launch_input d.numbers client target.now uuid.now state.now paths.now
-        buffers.now sizes.now)
+        (buffers_tested buffers.now sizes.now))
         handle.old.value handle.new.value result reply.new sent.new }
 {
     match take(handle, alloc) {
         Some(mut manager) => {
-            let input = manager.launch(alloc, client, target, uuid, state, paths, buffers, sizes);
+            let buffers = RawBuffers::Joined {
+                bytes: buffers,
+                sizes,
+            };
+            let input = manager.launch(alloc, client, target, uuid, state, paths, buffers);
             answer(alloc, handle, manager, input, reply, sent)
         }
         None => without_manager(reply, sent),
@@ -120,13 +125,17 @@ pub extern "C" fn rolgunai_push(
     reply: &mut u32,
     sent: &mut usize,
 ) -> u32
-    ensures { HasCalled (λ d. push_input d.numbers client id.now state.now paths.now buffers.now
-        sizes.now)
+    ensures { HasCalled (λ d. push_input d.numbers client id.now state.now paths.now
+        (buffers_tested buffers.now sizes.now))
         handle.old.value handle.new.value result reply.new sent.new }
 {
     match take(handle, alloc) {
         Some(mut manager) => {
-            let input = manager.push(alloc, client, id, state, paths, buffers, sizes);
+            let buffers = RawBuffers::Joined {
+                bytes: buffers,
+                sizes,
+            };
+            let input = manager.push(alloc, client, id, state, paths, buffers);
             answer(alloc, handle, manager, input, reply, sent)
         }
         None => without_manager(reply, sent),
@@ -146,12 +155,17 @@ pub extern "C" fn rolgunai_send(
     reply: &mut u32,
     sent: &mut usize,
 ) -> u32
-    ensures { HasCalled (λ d. send_input d.numbers client id.now content.now buffers.now sizes.now)
+    ensures { HasCalled (λ d. send_input d.numbers client id.now content.now
+        (buffers_tested buffers.now sizes.now))
         handle.old.value handle.new.value result reply.new sent.new }
 {
     match take(handle, alloc) {
         Some(mut manager) => {
-            let input = manager.send(alloc, client, id, content, buffers, sizes);
+            let buffers = RawBuffers::Joined {
+                bytes: buffers,
+                sizes,
+            };
+            let input = manager.send(alloc, client, id, content, buffers);
             answer(alloc, handle, manager, input, reply, sent)
         }
         None => without_manager(reply, sent),

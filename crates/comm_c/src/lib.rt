@@ -5,8 +5,8 @@
 //! manager, a buffer that is too small, a name that isn't UTF-8, all give a status. After `MEMORY` nothing
 //! has changed. A target takes no memory until a comm is open, so any number of targets may be registered.
 //!
-//! Messages of frontends and lines come by `frontend_api`, the kernel's own calls by `kernel_api`; `result_api` gives
-//! what the last call came to.
+//! Messages of frontends and lines come by `frontend_api`, the kernel's own calls by `kernel_api`, both with frames by
+//! `frames_api`; `result_api` gives what the last call came to.
 #![tactic(auto)]
 
 mod builtin_target;
@@ -15,6 +15,7 @@ mod calls;
 mod client;
 pub mod client_api;
 mod client_calls;
+pub mod client_frames_api;
 pub mod client_frontend_api;
 mod client_handle;
 pub mod client_kernel_api;
@@ -26,6 +27,7 @@ mod copying;
 mod counted_core;
 mod desk;
 mod executing;
+pub mod frames_api;
 pub mod frontend_api;
 mod gate;
 mod handle;

@@ -1,13 +1,13 @@
 //! What a frontend's message asks for. Of one for an opaque target neither data nor buffers count, whatever they are.
 ghost use Rattle.std.specs.Prelude.{◌≡◌, ◌<◌, IfOk, IfSome, option_map};
-ghost use Rattle.comm_messages.specs.Buffers.{split_buffers};
+ghost use Rattle.comm_messages.specs.Buffers.{raw_buffers};
 ghost use Rattle.comm_messages.specs.Envelope.{envelope};
 ghost use Rattle.comm_messages.specs.Fields.{fields};
 ghost use Rattle.comm_core.specs.Ready.{HandsNothingIn, machine};
 ghost use Rattle.comm_script.specs.Command.{HandsNothing};
 ghost use Rattle.comm_script.specs.Line.{Gives as ReadGives};
 ghost use Rattle.comm_c.specs.Handles.{IsAllowed};
-ghost use Rattle.comm_c.specs.Inputs.{Gives, envelope_input, message_input};
+ghost use Rattle.comm_c.specs.Inputs.{Gives, envelope_input, message_input, raw_tested};
 ghost use Rattle.comm_c.specs.Opaque.{AskedByParts, asked_for, asked_of, bare, comm_id_in, is_for_opaque, is_opaque};
 ghost use Rattle.comm_c.specs.Opaque.{is_opaque_comm, is_opaque_target};
 ghost use Rattle.comm_c.specs.Opaque.{nothing_in, opaque_call, opaque_close, opaque_msg, opaque_open, opening_in};
@@ -18,7 +18,7 @@ use bumpalo::Bump;
 use comm_core::{Call, Core};
 use comm_messages::{
     Body, EnvelopeRef, Field, Fields, Incoming, IncomingParts, MessageFault, MessageType,
-    PartsScratch, heading, incoming_in, member, object_of, parse_parts, text, type_of,
+    PartsScratch, RawBuffers, heading, incoming_in, member, object_of, parse_parts, text, type_of,
 };
 use comm_reader::parts_at_once;
 use comm_script::{LineFault, Request, asked_by_message};
@@ -305,6 +305,13 @@ fn looks_opaque(
     }
 }
 
+fn has_bytes(buffers: RawBuffers<'_>) -> bool {
+    match buffers {
+        RawBuffers::Joined { bytes, sizes: _ } => !bytes.is_empty(),
+        RawBuffers::Frames(frames) => !frames.is_empty(),
+    }
+}
+
 // What a message by its parts asks for, if it can be read in one walk over its content, and doesn't look as if much of
 // it would be read in vain, for an opaque target.
 fn asked_at_once<'a>(
@@ -315,20 +322,19 @@ fn asked_at_once<'a>(
     header: &'a [u8],
     metadata: &'a [u8],
     content: &'a [u8],
-    buffers: &'a [u8],
-    sizes: &'a [usize],
+    buffers: RawBuffers<'a>,
     scratch: &'a mut PartsScratch,
     lists: &'a Bump,
     texts: &mut KnownTexts,
     has_opaque: bool,
 ) -> Option<(u8, Request)>
     ensures asked { IfSome result (λ r. AskedByParts (machine core.now) numbers
-        client header.now metadata.now content.now (split_buffers buffers.now sizes.now)
+        client header.now metadata.now content.now (raw_buffers buffers.entry)
         (r.0, r.1)) }
     ensures below { IfSome result (λ r. r.0 < 4) }
     ensures handless { IfSome result (λ r. HandsNothing r.1) }
 {
-    let is_large = content.len() > SMALL || !buffers.is_empty();
+    let is_large = content.len() > SMALL || has_bytes(buffers);
     if has_opaque && is_large && looks_opaque(alloc, core, content, texts) {
         return None;
     }
@@ -338,7 +344,6 @@ fn asked_at_once<'a>(
         metadata,
         content,
         buffers,
-        sizes,
     };
     let (client, message) = parts_at_once(
         alloc,
@@ -364,28 +369,25 @@ pub fn message_input<'a>(
     header: &'a [u8],
     metadata: &'a [u8],
     content: &'a [u8],
-    buffers: &'a [u8],
-    sizes: &'a [usize],
+    buffers: RawBuffers<'a>,
     scratch: &'a mut PartsScratch,
     texts: &mut KnownTexts,
     has_opaque: bool,
 ) -> Result<Input, CallFault>
     ensures input { Gives (λ i. i) result
         (message_input (machine core.now) numbers client header.now metadata.now
-        content.now buffers.now sizes.now) }
+        content.now (raw_tested buffers.entry)) }
     ensures allowed { IfOk result IsAllowed }
 {
-    test_buffers(buffers, sizes)?;
+    test_buffers(buffers)?;
     let lists = Bump::new(alloc);
     if let Some(asked) = asked_at_once(
-        alloc, core, numbers, client, header, metadata, content, buffers, sizes, scratch, &lists,
-        texts, has_opaque,
+        alloc, core, numbers, client, header, metadata, content, buffers, scratch, &lists, texts,
+        has_opaque,
     ) {
         return Ok(Input::reading(Ok(asked)));
     }
-    match parse_parts(
-        client, header, metadata, content, buffers, sizes, scratch, &lists,
-    ) {
+    match parse_parts(client, header, metadata, content, buffers, scratch, &lists) {
         Ok(read) => Ok(envelope_input(alloc, core, numbers, &read.envelope(), texts)?),
         Err(MessageFault::Memory) => Err(CallFault::Memory),
         Err(_) => Err(CallFault::NotJson),

@@ -7,7 +7,7 @@ use Rattle.serde_json.specs.Written.{outline}
 use Rattle.comm_json.specs.Behind.{get_member, tidy}
 use Rattle.comm_messages.specs.Gives.{Reading}
 use Rattle.comm_messages.specs.Fields.{behind}
-use Rattle.comm_messages.specs.Buffers.{buffers_of, split_buffers}
+use Rattle.comm_messages.specs.Buffers.{buffers_of, raw_buffers}
 use Rattle.comm_messages.specs.declared.envelope.BuffersRef.{BuffersRef}
 use Rattle.comm_messages.specs.declared.envelope.BuffersRef.TheVariants.{Encoded, Raw}
 use Rattle.comm_messages.specs.declared.envelope.EnvelopeRef.{EnvelopeRef}
@@ -45,7 +45,7 @@ of_parts client header metadata content buffers = record {
 
 abbrev pub buffers_in : BuffersRef → Reading (List (List ℕ))
 buffers_in (Encoded value) = buffers_of (behind value)
-buffers_in (Raw bytes sizes) = Ok (split_buffers bytes.now sizes.now)
+buffers_in (Raw buffers) = Ok (raw_buffers buffers)
 
 abbrev pub envelope : EnvelopeRef → Envelope
 envelope e = record {
@@ -63,5 +63,5 @@ parsed p = record {
   header = Some (tidy (value_view p.header));
   content = Some (tidy (value_view p.content));
   metadata = Some (tidy (value_view p.metadata));
-  buffers = Ok (split_buffers p.buffers.now p.sizes.now);
+  buffers = Ok (raw_buffers p.buffers);
 }

@@ -1,8 +1,7 @@
-ghost use Rattle.std.specs.Prelude.{◌≡◌, ◌≢◌, IfOk, take, drop};
 ghost use Rattle.comm_value.specs.Gives.{or_fault};
 ghost use Rattle.comm_messages.specs.Gives.{Gives};
 ghost use Rattle.comm_messages.specs.Fields.{behind};
-ghost use Rattle.comm_messages.specs.Buffers.{buffers_of, buffer_of, buffers_from, split_buffers};
+ghost use Rattle.comm_messages.specs.Buffers.{buffers_of, buffer_of, buffers_from};
 ghost use Rattle.comm_messages.specs.Envelope.{buffers_in};
 ghost use Rattle.comm_json.specs.Behind.{items};
 ghost use Rattle.comm_json.specs.Behind.{behind as of_ref};
@@ -10,11 +9,12 @@ ghost use Rattle.comm_messages.specs.declared.fault.MessageFault.TheVariants.{Ba
 
 use crate::envelope::BuffersRef;
 use crate::fault::{Field, MessageFault};
+use crate::raw_buffers::copy_buffers;
 use base64::DecodeAllocError;
 use base64::engine::general_purpose::STANDARD;
 use comm_json::{ItemsRef, JsonKind, JsonRef};
 use comm_value::{Buffers, Bytes};
-use std::alloc::{AllocError, Global};
+use std::alloc::Global;
 
 /// The buffers of a message. Those of a line are decoded as [`buffers_of`] does, with its errors; those beside it are
 /// copied. Err: Memory.
@@ -23,33 +23,7 @@ pub fn buffers_in(alloc: Global, buffers: BuffersRef<'_, '_>) -> Result<Buffers,
 {
     match buffers {
         BuffersRef::Encoded(value) => buffers_of(alloc, value),
-        BuffersRef::Raw { bytes, sizes } => Ok(split_buffers(alloc, bytes, sizes)?),
-    }
-}
-
-// Copies the buffers of these sizes. One that reaches past the end has the bytes that are there.
-fn split_buffers(alloc: Global, bytes: &[u8], sizes: &[usize]) -> Result<Buffers, AllocError>
-    ensures { IfOk result (λ b. b ≡ split_buffers bytes.now sizes.now) }
-{
-    let mut all = Vec::with_capacity(alloc, sizes.len())?;
-    let mut rest = bytes;
-    for size in sizes {
-        let (buffer, more) = split_within(rest, *size);
-        all.push(Bytes::new(alloc, Vec::from_slice(alloc, buffer)?)?)?;
-        rest = more;
-    }
-    Ok(Buffers::new(all))
-}
-
-// The first bytes, as many as the size or all, and those after them.
-fn split_within(bytes: &[u8], size: usize) -> (&[u8], &[u8])
-    ensures front { result.0.now ≡ take size bytes.now }
-    ensures back { result.1.now ≡ drop size bytes.now }
-{
-    if size <= bytes.len() {
-        bytes.split_at(size)
-    } else {
-        (bytes, &[])
+        BuffersRef::Raw(buffers) => Ok(copy_buffers(alloc, buffers)?),
     }
 }
 

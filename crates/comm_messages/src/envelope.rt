@@ -4,6 +4,7 @@ ghost use Rattle.comm_messages.specs.Fields.{fields};
 ghost use Rattle.comm_messages.specs.Envelope.{envelope, of_line};
 
 use crate::fields::{Fields, member};
+use crate::raw_buffers::RawBuffers;
 use comm_json::JsonRef;
 
 /// The buffers of a message that is read.
@@ -11,8 +12,8 @@ use comm_json::JsonRef;
 pub enum BuffersRef<'v, 'a> {
     /// The value of a line's member `buffers`, which may be no list of strings in base64.
     Encoded(Option<JsonRef<'v, 'a>>),
-    /// Bytes in which buffers of these sizes stand one after another.
-    Raw { bytes: &'v [u8], sizes: &'v [usize] },
+    /// Bytes.
+    Raw(RawBuffers<'v>),
 }
 
 /// The fields of a message, before any of them is tested. None: a line doesn't have the member.

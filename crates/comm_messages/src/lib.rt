@@ -28,6 +28,7 @@ mod laws;
 mod outgoing;
 mod outgoing_body;
 mod parts;
+mod raw_buffers;
 mod read;
 mod telling;
 mod write;
@@ -46,6 +47,7 @@ pub use laws::{any_number_is_read, written_is_read_again};
 pub use outgoing::{Outgoing, Parent};
 pub use outgoing_body::OutgoingBody;
 pub use parts::{IncomingParts, ParsedParts, PartsScratch, message_by_parts, parse_parts};
+pub use raw_buffers::{Frame, RawBuffers, copy_buffers};
 pub use read::{
     MessageType, body_of, body_with, heading, incoming_in, message_from, message_in, message_of,
     object_of, read_message, read_message_with, type_named, type_of,

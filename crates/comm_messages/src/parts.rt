@@ -7,7 +7,7 @@ ghost use Rattle.json.specs.Json.{number};
 ghost use Rattle.json.specs.Value.{value_view};
 ghost use Rattle.comm_json.specs.Behind.{tidy, line_value};
 ghost use Rattle.comm_value.specs.Gives.{or_fault};
-ghost use Rattle.comm_messages.specs.Buffers.{split_buffers};
+ghost use Rattle.comm_messages.specs.Buffers.{raw_buffers};
 ghost use Rattle.comm_messages.specs.Gives.{Gives};
 ghost use Rattle.comm_messages.specs.Envelope.{envelope, parsed};
 ghost use Rattle.comm_messages.specs.Message.{envelope_in, message_by_parts};
@@ -16,6 +16,7 @@ ghost use Rattle.comm_messages.specs.declared.fault.MessageFault.TheVariants.{No
 use crate::envelope::{BuffersRef, EnvelopeRef};
 use crate::fault::MessageFault;
 use crate::incoming::Incoming;
+use crate::raw_buffers::RawBuffers;
 use crate::read::message_from;
 use bumpalo::Bump;
 use comm_json::{JsonFault, JsonRef, LineValue, TextScratch, read_among};
@@ -23,16 +24,14 @@ use comm_value::{KnownTexts, Numbers};
 use serde_json::{Number, Value};
 use std::alloc::Global;
 
-/// The parts of a message: the client's index, three JSON texts, and bytes in which buffers of these sizes stand one
-/// after another.
+/// The parts of a message: the client's index, three JSON texts, and buffers as bytes.
 #[derive(Clone, Copy)]
 pub struct IncomingParts<'a> {
     pub client: u32,
     pub header: &'a [u8],
     pub metadata: &'a [u8],
     pub content: &'a [u8],
-    pub buffers: &'a [u8],
-    pub sizes: &'a [usize],
+    pub buffers: RawBuffers<'a>,
 }
 
 /// The memory that the strings of a message's parts are parsed into: keep one from message to message.
@@ -61,8 +60,7 @@ pub struct ParsedParts<'a> {
     pub header: LineValue<'a>,
     pub metadata: LineValue<'a>,
     pub content: LineValue<'a>,
-    pub buffers: &'a [u8],
-    pub sizes: &'a [usize],
+    pub buffers: RawBuffers<'a>,
 }
 
 impl<'a> ParsedParts<'a> {
@@ -75,10 +73,7 @@ impl<'a> ParsedParts<'a> {
             header: Some(JsonRef::Borrowed(&self.header)),
             content: Some(JsonRef::Borrowed(&self.content)),
             metadata: Some(JsonRef::Borrowed(&self.metadata)),
-            buffers: BuffersRef::Raw {
-                bytes: self.buffers,
-                sizes: self.sizes,
-            },
+            buffers: BuffersRef::Raw(self.buffers),
         }
     }
 }
@@ -104,13 +99,12 @@ pub fn parse_parts<'a>(
     header: &'a [u8],
     metadata: &'a [u8],
     content: &'a [u8],
-    buffers: &'a [u8],
-    sizes: &'a [usize],
+    buffers: RawBuffers<'a>,
     scratch: &'a mut PartsScratch,
     lists: &'a Bump,
 ) -> Result<ParsedParts<'a>, MessageFault>
     ensures { Gives parsed result (envelope_in client header.now metadata.now content.now
-        (split_buffers buffers.now sizes.now)) }
+        (raw_buffers buffers.entry)) }
 {
     let PartsScratch {
         header: for_header,
@@ -126,13 +120,11 @@ pub fn parse_parts<'a>(
         metadata,
         content,
         buffers,
-        sizes,
     })
 }
 
 /// Reads a message of one of `clients` clients from its parts, with these numbers as values, as
-/// [`crate::read_message_with`] does from a line. A buffer that reaches past the bytes has those that are there. Err:
-/// the first test that the parts fail, or Memory, after which the scratch serves the next message as before.
+/// [`crate::read_message_with`] does from a line. Err: the first test that the parts fail, or Memory, after which the scratch serves the next message as before.
 pub fn message_by_parts<'a>(
     alloc: Global,
     parts: IncomingParts<'a>,
@@ -143,7 +135,7 @@ pub fn message_by_parts<'a>(
     ensures message { Gives (λ r. (r.0, r.1)) result
         (message_by_parts clients numbers parts.entry.client parts.entry.header.now
         parts.entry.metadata.now parts.entry.content.now
-        (split_buffers parts.entry.buffers.now parts.entry.sizes.now)) }
+        (raw_buffers parts.entry.buffers)) }
     ensures below { 0 < clients → IfOk result (λ r. r.0 < clients) }
 {
     let lists = Bump::new(alloc);
@@ -153,7 +145,6 @@ pub fn message_by_parts<'a>(
         parts.metadata,
         parts.content,
         parts.buffers,
-        parts.sizes,
         scratch,
         &lists,
     )?;

@@ -1,7 +1,7 @@
 ghost use Rattle.std.specs.Prelude.{◌≡◌, ◌<◌, false, decimal, Some, Ok, IfSome};
 ghost use Rattle.json.specs.Json.{number};
 ghost use Rattle.comm_value.specs.Places.{members_have_bytes};
-ghost use Rattle.comm_messages.specs.Buffers.{split_buffers};
+ghost use Rattle.comm_messages.specs.Buffers.{raw_buffers};
 ghost use Rattle.comm_messages.specs.Fields.{client_of};
 ghost use Rattle.comm_messages.specs.Message.{message_by_parts};
 ghost use Rattle.comm_reader.specs.Reader.{HasContent, IsType, IsVersion, ReadsLine};
@@ -13,8 +13,8 @@ use crate::line::DEPTH;
 use crate::walk::{end, reader_of};
 use bumpalo::Bump;
 use comm_json::TextScratch;
-use comm_messages::{BuffersRef, Incoming, IncomingParts, MessageType, PartsScratch, buffers_in};
-use comm_value::{Buffers, KnownTexts, Numbers};
+use comm_messages::{Incoming, IncomingParts, MessageType, PartsScratch, copy_buffers};
+use comm_value::{KnownTexts, Numbers};
 use std::alloc::Global;
 
 fn type_in<'a>(
@@ -85,12 +85,6 @@ fn client_below(client: u32, clients: u8) -> Option<u8>
     }
 }
 
-fn raw_buffers<'a>(alloc: Global, bytes: &'a [u8], sizes: &'a [usize]) -> Option<Buffers>
-    ensures { IfSome result (λ b. b ≡ split_buffers bytes.now sizes.now) }
-{
-    buffers_in(alloc, BuffersRef::Raw { bytes, sizes }).ok()
-}
-
 // What was read of the JSON texts of a message.
 #[derive(Drop)]
 struct ReadParts<'a> {
@@ -142,7 +136,7 @@ pub fn parts_at_once<'a>(
 ) -> Option<(u8, Incoming)>
     ensures message { IfSome result (λ r. message_by_parts clients numbers parts.entry.client
         parts.entry.header.now parts.entry.metadata.now parts.entry.content.now
-        (split_buffers parts.entry.buffers.now parts.entry.sizes.now) ≡ Ok (r.0, r.1)) }
+        (raw_buffers parts.entry.buffers) ≡ Ok (r.0, r.1)) }
     ensures below { 0 < clients → IfSome result (λ r. r.0 < clients) }
 {
     let read = read_parts(alloc, numbers, texts, parts, scratch, lists)?;
@@ -152,7 +146,7 @@ pub fn parts_at_once<'a>(
         content,
     } = read;
     let client = client_below(parts.client, clients)?;
-    let buffers = raw_buffers(alloc, parts.buffers, parts.sizes)?;
+    let buffers = copy_buffers(alloc, parts.buffers).ok()?;
     let incoming = incoming_of(alloc, texts, type_, content, version, buffers)?;
     Some((client, incoming))
 }

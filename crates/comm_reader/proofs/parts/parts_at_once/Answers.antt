@@ -1,6 +1,6 @@
 use Rattle.std.proofs.Common.{◌≡◌, Ok, ap, ◌∙◌, refl, rules}
 use Rattle.json.specs.Json.{object}
-use Rattle.comm_messages.specs.Buffers.{split_buffers}
+use Rattle.comm_messages.specs.Buffers.{raw_buffers}
 use Rattle.comm_messages.specs.Envelope.{of_parts}
 use Rattle.comm_reader.specs.Reader.{HasRest}
 use Rattle.comm_reader.proofs.MessageTests.{message_is, by_parts}
@@ -11,7 +11,7 @@ returns-clause-message c =
     let h = c.in_ok-read.ensures.header in
     let m = c.in_ok-read.ensures.metadata in
     let r = c.in_ok-read.ensures.content in
-    let all = split_buffers c.args.parts.buffers.now c.args.parts.sizes.now in
+    let all = raw_buffers c.args.parts.buffers in
     let buffers : all ≡ c.in_ok-buffers.buffers = search rules in
     let from = of_parts c.args.parts.client (object h.0) (object m.0) (object r.0) all in
     let rest : HasRest from c.in_ok-read.read.version c.in_ok-buffers.buffers = ((m.0, refl, m.2), ap Ok buffers) in

@@ -2,7 +2,7 @@
 use super::append_read;
 use super::at_once::append_found;
 use bumpalo::Bump;
-use comm_messages::{IncomingParts, PartsScratch, message_by_parts};
+use comm_messages::{IncomingParts, PartsScratch, RawBuffers, message_by_parts};
 use comm_reader::parts_at_once;
 use comm_value::{KnownTexts, Numbers};
 use std::alloc::Global;
@@ -38,8 +38,10 @@ impl Subject for MessagesByParts {
             header: header.as_bytes(),
             metadata: metadata.as_bytes(),
             content: content.as_bytes(),
-            buffers: &buffers,
-            sizes: &sizes,
+            buffers: RawBuffers::Joined {
+                bytes: &buffers,
+                sizes: &sizes,
+            },
         };
         let mut scratch = PartsScratch::new(alloc);
         if self.at_once {

@@ -1,6 +1,6 @@
 use Rattle.std.proofs.Common.{◌≡◌, ◌++◌, drop}
 use Rattle.comm_messages.specs.Buffers.{split_buffers}
-use Rattle.comm_messages.proofs.buffers.split_buffers.Given as goal
+use Rattle.comm_messages.proofs.raw_buffers.split_buffers.Given as goal
 
 abbrev pub invariant-loop-size : goal.invariant-loop-size
 invariant-loop-size l =
