@@ -77,6 +77,12 @@ typedef struct rolgunai_handle {
   void *manager;
 } rolgunai_handle;
 
+/* A binary buffer where it lies, as a frame of a ZeroMQ message. */
+typedef struct rolgunai_frame {
+  const uint8_t *bytes; /* not null, also where there is none */
+  size_t size;
+} rolgunai_frame;
+
 /* The status that each call gives. Where more than one test fails, the first of CLOSED or ALREADY_OPEN, BAD_LIMIT,
  * BAD_KIND, BAD_SIZES, BAD_NAME, NOT_JSON, EXHAUSTED gives it; ROLGUNAI_MEMORY may come in place of the last four. The
  * last four statuses come from the calls of rolgunai_client.h alone, which says in which order these test.
@@ -325,6 +331,23 @@ uint32_t rolgunai_push(rolgunai_handle *handle, uint32_t client, const uint8_t *
 uint32_t rolgunai_send(rolgunai_handle *handle, uint32_t client, const uint8_t *id, size_t id_size,
                        const uint8_t *data, size_t data_size, const uint8_t *buffers, size_t buffers_size,
                        const size_t *sizes, size_t count, uint32_t *reply, size_t *sent);
+
+/* ---- The calls that take buffers, each where it lies: they needn't stand one after another, and each is copied once.
+ * Otherwise these are as those above; no test of theirs is of sizes. */
+uint32_t rolgunai_handle_frames(rolgunai_handle *handle, uint32_t client, const uint8_t *header, size_t header_size,
+                                const uint8_t *metadata, size_t metadata_size, const uint8_t *content,
+                                size_t content_size, const rolgunai_frame *frames, size_t count, uint32_t *reply,
+                                size_t *sent);
+uint32_t rolgunai_launch_frames(rolgunai_handle *handle, uint32_t client, const uint8_t *target, size_t target_size,
+                                const uint8_t *uuid, size_t uuid_size, const uint8_t *state, size_t state_size,
+                                const uint8_t *paths, size_t paths_size, const rolgunai_frame *frames, size_t count,
+                                uint32_t *reply, size_t *sent);
+uint32_t rolgunai_push_frames(rolgunai_handle *handle, uint32_t client, const uint8_t *id, size_t id_size,
+                              const uint8_t *state, size_t state_size, const uint8_t *paths, size_t paths_size,
+                              const rolgunai_frame *frames, size_t count, uint32_t *reply, size_t *sent);
+uint32_t rolgunai_send_frames(rolgunai_handle *handle, uint32_t client, const uint8_t *id, size_t id_size,
+                              const uint8_t *data, size_t data_size, const rolgunai_frame *frames, size_t count,
+                              uint32_t *reply, size_t *sent);
 
 /* Closes a comm, and sends a `comm_close`. Replies: CLOSED; NO_COMM. */
 uint32_t rolgunai_close(rolgunai_handle *handle, uint32_t client, const uint8_t *id, size_t id_size, uint32_t *reply,

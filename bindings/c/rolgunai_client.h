@@ -73,6 +73,20 @@ uint32_t rolgunai_client_push(rolgunai_client *client, const uint8_t *id, size_t
 uint32_t rolgunai_client_send(rolgunai_client *client, const uint8_t *id, size_t id_size, const uint8_t *data,
                               size_t data_size, const uint8_t *buffers, size_t buffers_size, const size_t *sizes,
                               size_t count, uint32_t *reply, size_t *sent);
+uint32_t rolgunai_client_handle_frames(rolgunai_client *client, const uint8_t *header, size_t header_size,
+                                       const uint8_t *metadata, size_t metadata_size, const uint8_t *content,
+                                       size_t content_size, const rolgunai_frame *frames, size_t count,
+                                       uint32_t *reply, size_t *sent);
+uint32_t rolgunai_client_launch_frames(rolgunai_client *client, const uint8_t *target, size_t target_size,
+                                       const uint8_t *uuid, size_t uuid_size, const uint8_t *state, size_t state_size,
+                                       const uint8_t *paths, size_t paths_size, const rolgunai_frame *frames,
+                                       size_t count, uint32_t *reply, size_t *sent);
+uint32_t rolgunai_client_push_frames(rolgunai_client *client, const uint8_t *id, size_t id_size, const uint8_t *state,
+                                     size_t state_size, const uint8_t *paths, size_t paths_size,
+                                     const rolgunai_frame *frames, size_t count, uint32_t *reply, size_t *sent);
+uint32_t rolgunai_client_send_frames(rolgunai_client *client, const uint8_t *id, size_t id_size, const uint8_t *data,
+                                     size_t data_size, const rolgunai_frame *frames, size_t count, uint32_t *reply,
+                                     size_t *sent);
 uint32_t rolgunai_client_close(rolgunai_client *client, const uint8_t *id, size_t id_size, uint32_t *reply,
                                size_t *sent);
 

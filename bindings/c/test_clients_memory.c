@@ -90,9 +90,11 @@ static const char *frontends(void) {
 }
 
 static const char *kernel(void) {
+  static const rolgunai_frame frames[] = {{(const uint8_t *)"abc", 3}, {(const uint8_t *)"", 0}};
   MADE(&A, rolgunai_client_launch(&A, TEXT("widget"), TEXT(ONE), TEXT("{\"v\":[1]}"), TEXT("[[\"b\"]]"), XYZ));
   MADE(&B, rolgunai_client_push(&B, TEXT(ONE), TEXT("{\"v\":[1]}"), TEXT("[[\"b\"]]"), XYZ));
   MADE(&A, rolgunai_client_send(&A, TEXT("m"), TEXT("{\"v\":[1]}"), XYZ));
+  MADE(&A, rolgunai_client_send_frames(&A, TEXT("m"), TEXT("{\"v\":[1]}"), frames, 2, &reply, &sent));
   MADE(&A, rolgunai_client_state(&A, 0, TEXT(ONE), &reply, &sent));
   MADE(&B, rolgunai_client_state(&B, 2, TEXT("m"), &reply, &sent));
   MADE(&A, rolgunai_client_target(&A, 0, TEXT("o"), &reply, &sent));

@@ -123,6 +123,17 @@ static int sent_data(const char *id) {
   return status == ROLGUNAI_OK && tell_all(reply, sent);
 }
 
+static int sent_frames(const char *id) {
+  const rolgunai_frame frames[] = {{bytes("abc"), 3}, {bytes(""), 0}, {bytes("de"), 2}};
+  uint32_t status, reply;
+  size_t sent;
+  do {
+    status = rolgunai_send_frames(&handle, 0, bytes(id), strlen(id), bytes(state), strlen(state), frames, 3, &reply,
+                                  &sent);
+  } while (may_again(status));
+  return status == ROLGUNAI_OK && tell_all(reply, sent);
+}
+
 static int state_read(void) {
   uint32_t status, reply;
   size_t sent;
@@ -151,7 +162,7 @@ static int unregistered(const char *name) {
 }
 
 static int kernel_calls(void) {
-  return launched() && pushed() && sent_data("m") && state_read() && closed(uuid) && unregistered("mine");
+  return launched() && pushed() && sent_data("m") && sent_frames("m") && state_read() && closed(uuid) && unregistered("mine");
 }
 
 static const char *played(long at) {

@@ -36,11 +36,11 @@ public:
   /// numbered 0 to 3.
   outcome message(std::string_view header, std::string_view metadata, std::string_view content,
                   buffer_list buffers = {}, std::uint32_t client = 0) {
-    const bytes head(header), meta(metadata), body(content), all = joined(buffers);
+    const bytes head(header), meta(metadata), body(content);
+    const rolgunai_frame *frames = framed(buffers);
     return made([&](std::uint32_t &reply, std::size_t &count) {
-      return rolgunai_handle_message(handle(), client, some(head), head.size(), some(meta), meta.size(), some(body),
-                                     body.size(), some(all), all.size(), sizes_.data(), buffers.size(), &reply,
-                                     &count);
+      return rolgunai_handle_frames(handle(), client, some(head), head.size(), some(meta), meta.size(), some(body),
+                                    body.size(), frames, buffers.size(), &reply, &count);
     });
   }
 
@@ -62,30 +62,32 @@ public:
   /// JSON list of lists of strings and indices. The comm's id is the UUID, with hyphens.
   outcome launch(std::string_view target, std::string_view uuid, std::string_view state, std::string_view paths = "[]",
                  buffer_list buffers = {}, std::uint32_t client = 0) {
-    const bytes name(target), id(uuid), values(state), places(paths), all = joined(buffers);
+    const bytes name(target), id(uuid), values(state), places(paths);
+    const rolgunai_frame *frames = framed(buffers);
     return made([&](std::uint32_t &reply, std::size_t &count) {
-      return rolgunai_launch(handle(), client, some(name), name.size(), some(id), id.size(), some(values),
-                             values.size(), some(places), places.size(), some(all), all.size(), sizes_.data(),
-                             buffers.size(), &reply, &count);
+      return rolgunai_launch_frames(handle(), client, some(name), name.size(), some(id), id.size(), some(values),
+                                    values.size(), some(places), places.size(), frames, buffers.size(), &reply, &count);
     });
   }
 
   /// Changes these keys of a widget's state, and sends an `update` with just them.
   outcome push(std::string_view id, std::string_view state, std::string_view paths = "[]", buffer_list buffers = {},
                std::uint32_t client = 0) {
-    const bytes name(id), values(state), places(paths), all = joined(buffers);
+    const bytes name(id), values(state), places(paths);
+    const rolgunai_frame *frames = framed(buffers);
     return made([&](std::uint32_t &reply, std::size_t &count) {
-      return rolgunai_push(handle(), client, some(name), name.size(), some(values), values.size(), some(places),
-                           places.size(), some(all), all.size(), sizes_.data(), buffers.size(), &reply, &count);
+      return rolgunai_push_frames(handle(), client, some(name), name.size(), some(values), values.size(), some(places),
+                                  places.size(), frames, buffers.size(), &reply, &count);
     });
   }
 
   /// Sends a `comm_msg` with this data, a JSON object, on a comm, past its target.
   outcome send(std::string_view id, std::string_view data, buffer_list buffers = {}, std::uint32_t client = 0) {
-    const bytes name(id), values(data), all = joined(buffers);
+    const bytes name(id), values(data);
+    const rolgunai_frame *frames = framed(buffers);
     return made([&](std::uint32_t &reply, std::size_t &count) {
-      return rolgunai_send(handle(), client, some(name), name.size(), some(values), values.size(), some(all),
-                           all.size(), sizes_.data(), buffers.size(), &reply, &count);
+      return rolgunai_send_frames(handle(), client, some(name), name.size(), some(values), values.size(), frames,
+                                  buffers.size(), &reply, &count);
     });
   }
 

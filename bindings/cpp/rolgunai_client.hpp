@@ -73,11 +73,11 @@ public:
   /// Plays a message of a frontend by its parts: JSON texts as the wire has them, and binary buffers.
   shared_outcome message(std::string_view header, std::string_view metadata, std::string_view content,
                          buffer_list buffers = {}) {
-    const bytes head(header), meta(metadata), body(content), all = joined(buffers);
+    const bytes head(header), meta(metadata), body(content);
+    const rolgunai_frame *frames = framed(buffers);
     return changed([&](rolgunai_client *of, std::uint32_t &reply, std::size_t &count) {
-      return rolgunai_client_handle_message(of, some(head), head.size(), some(meta), meta.size(), some(body),
-                                            body.size(), some(all), all.size(), sizes_.data(), buffers.size(), &reply,
-                                            &count);
+      return rolgunai_client_handle_frames(of, some(head), head.size(), some(meta), meta.size(), some(body),
+                                           body.size(), frames, buffers.size(), &reply, &count);
     });
   }
 
@@ -100,31 +100,33 @@ public:
   /// Opens a widget of the kernel towards the frontends: see `manager::launch`.
   shared_outcome launch(std::string_view target, std::string_view uuid, std::string_view state,
                         std::string_view paths = "[]", buffer_list buffers = {}) {
-    const bytes name(target), id(uuid), values(state), places(paths), all = joined(buffers);
+    const bytes name(target), id(uuid), values(state), places(paths);
+    const rolgunai_frame *frames = framed(buffers);
     return changed([&](rolgunai_client *of, std::uint32_t &reply, std::size_t &count) {
-      return rolgunai_client_launch(of, some(name), name.size(), some(id), id.size(), some(values), values.size(),
-                                    some(places), places.size(), some(all), all.size(), sizes_.data(), buffers.size(),
-                                    &reply, &count);
+      return rolgunai_client_launch_frames(of, some(name), name.size(), some(id), id.size(), some(values),
+                                           values.size(), some(places), places.size(), frames, buffers.size(), &reply,
+                                           &count);
     });
   }
 
   /// Changes these keys of a widget's state, and sends an `update` with just them.
   shared_outcome push(std::string_view id, std::string_view state, std::string_view paths = "[]",
                       buffer_list buffers = {}) {
-    const bytes name(id), values(state), places(paths), all = joined(buffers);
+    const bytes name(id), values(state), places(paths);
+    const rolgunai_frame *frames = framed(buffers);
     return changed([&](rolgunai_client *of, std::uint32_t &reply, std::size_t &count) {
-      return rolgunai_client_push(of, some(name), name.size(), some(values), values.size(), some(places),
-                                  places.size(), some(all), all.size(), sizes_.data(), buffers.size(), &reply,
-                                  &count);
+      return rolgunai_client_push_frames(of, some(name), name.size(), some(values), values.size(), some(places),
+                                         places.size(), frames, buffers.size(), &reply, &count);
     });
   }
 
   /// Sends a `comm_msg` with this data, a JSON object, on a comm, past its target.
   shared_outcome send(std::string_view id, std::string_view data, buffer_list buffers = {}) {
-    const bytes name(id), values(data), all = joined(buffers);
+    const bytes name(id), values(data);
+    const rolgunai_frame *frames = framed(buffers);
     return changed([&](rolgunai_client *of, std::uint32_t &reply, std::size_t &count) {
-      return rolgunai_client_send(of, some(name), name.size(), some(values), values.size(), some(all), all.size(),
-                                  sizes_.data(), buffers.size(), &reply, &count);
+      return rolgunai_client_send_frames(of, some(name), name.size(), some(values), values.size(), frames,
+                                         buffers.size(), &reply, &count);
     });
   }
 

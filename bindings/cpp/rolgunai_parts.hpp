@@ -27,15 +27,12 @@ protected:
     return text.data() ? text.data() : &nothing;
   }
 
-  /// The buffers one after another, with their sizes in `sizes_`. One that is alone isn't copied.
-  bytes joined(buffer_list buffers) {
-    sizes_.clear();
-    together_.clear();
-    for (const bytes &buffer : buffers) sizes_.push_back(buffer.size());
-    sizes_.push_back(0); // since the library takes no null pointer, which an empty vector may have
-    if (buffers.size() == 1) return buffers.front();
-    for (const bytes &buffer : buffers) together_.insert(together_.end(), buffer.begin(), buffer.end());
-    return together_;
+  /// The buffers where they lie, until the next call.
+  const rolgunai_frame *framed(buffer_list buffers) {
+    frames_.clear();
+    frames_.reserve(buffers.size() + 1); // since the library takes no null pointer, which an empty vector may have
+    for (const bytes &buffer : buffers) frames_.push_back({some(buffer), buffer.size()});
+    return frames_.data();
   }
 
   /// All of a result. `Result` has its reason, the parts of its reply, and those of what is sent.
@@ -68,7 +65,7 @@ protected:
   }
 
   std::vector<std::uint8_t> out_;
-  std::vector<std::size_t> sizes_;
+  std::vector<rolgunai_frame> frames_;
 
 private:
   template <class Result> sent message_of(std::size_t message, const Result &from) {
@@ -114,8 +111,6 @@ private:
       }
     }
   }
-
-  std::vector<std::uint8_t> together_;
 };
 
 } // namespace rolgunai::detail

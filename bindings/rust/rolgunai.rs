@@ -27,7 +27,7 @@ mod types;
 pub use client::{Client, SharedOutcome};
 pub use types::{answers, Answer, Error, Field, Kind, Outcome, Payload, Reason, Reply, Sent};
 
-use parts::{checked, Joined, LastResult, BUFFER_TOO_SMALL, NOT_UTF8, OK, SHORT};
+use parts::{checked, framed, LastResult, BUFFER_TOO_SMALL, NOT_UTF8, OK, SHORT};
 
 /// The version of the library that is linked: 2,003,004 is 2.3.4.
 pub fn version() -> u32 {
@@ -78,10 +78,10 @@ impl Manager {
         content: &[u8],
         buffers: &[&[u8]],
     ) -> Result<Outcome, Error> {
-        let Joined { bytes, sizes } = Joined::of(buffers);
+        let frames = framed(buffers);
         // SAFETY: each slice is readable for its length, and none is null, not even where it is empty; and so below.
         self.made(|handle, reply, sent| unsafe {
-            ffi::rolgunai_handle_message(
+            ffi::rolgunai_handle_frames(
                 handle,
                 client,
                 header.as_ptr(),
@@ -90,10 +90,8 @@ impl Manager {
                 metadata.len(),
                 content.as_ptr(),
                 content.len(),
-                bytes.as_ptr(),
-                bytes.len(),
-                sizes.as_ptr(),
-                sizes.len(),
+                frames.as_ptr(),
+                frames.len(),
                 reply,
                 sent,
             )
@@ -124,10 +122,10 @@ impl Manager {
         paths: &[u8],
         buffers: &[&[u8]],
     ) -> Result<Outcome, Error> {
-        let Joined { bytes, sizes } = Joined::of(buffers);
+        let frames = framed(buffers);
         // SAFETY: as in `message`.
         self.made(|handle, reply, sent| unsafe {
-            ffi::rolgunai_launch(
+            ffi::rolgunai_launch_frames(
                 handle,
                 client,
                 target.as_ptr(),
@@ -138,10 +136,8 @@ impl Manager {
                 state.len(),
                 paths.as_ptr(),
                 paths.len(),
-                bytes.as_ptr(),
-                bytes.len(),
-                sizes.as_ptr(),
-                sizes.len(),
+                frames.as_ptr(),
+                frames.len(),
                 reply,
                 sent,
             )
@@ -157,10 +153,10 @@ impl Manager {
         paths: &[u8],
         buffers: &[&[u8]],
     ) -> Result<Outcome, Error> {
-        let Joined { bytes, sizes } = Joined::of(buffers);
+        let frames = framed(buffers);
         // SAFETY: as in `message`.
         self.made(|handle, reply, sent| unsafe {
-            ffi::rolgunai_push(
+            ffi::rolgunai_push_frames(
                 handle,
                 client,
                 id.as_ptr(),
@@ -169,10 +165,8 @@ impl Manager {
                 state.len(),
                 paths.as_ptr(),
                 paths.len(),
-                bytes.as_ptr(),
-                bytes.len(),
-                sizes.as_ptr(),
-                sizes.len(),
+                frames.as_ptr(),
+                frames.len(),
                 reply,
                 sent,
             )
@@ -181,20 +175,18 @@ impl Manager {
 
     /// Sends a `comm_msg` with this data, a JSON object, on a comm, past its target.
     pub fn send(&mut self, client: u32, id: &str, data: &[u8], buffers: &[&[u8]]) -> Result<Outcome, Error> {
-        let Joined { bytes, sizes } = Joined::of(buffers);
+        let frames = framed(buffers);
         // SAFETY: as in `message`.
         self.made(|handle, reply, sent| unsafe {
-            ffi::rolgunai_send(
+            ffi::rolgunai_send_frames(
                 handle,
                 client,
                 id.as_ptr(),
                 id.len(),
                 data.as_ptr(),
                 data.len(),
-                bytes.as_ptr(),
-                bytes.len(),
-                sizes.as_ptr(),
-                sizes.len(),
+                frames.as_ptr(),
+                frames.len(),
                 reply,
                 sent,
             )

@@ -2,7 +2,7 @@
 
 use super::ffi;
 use super::outbox::{Outbox, Turn};
-use super::parts::{checked, outcome, outcome_once, Joined, LastResult, OK, SHORT};
+use super::parts::{checked, framed, outcome, outcome_once, LastResult, OK, SHORT};
 use super::types::{Error, Kind, Outcome, Reply, Sent};
 use std::sync::{Arc, Mutex, MutexGuard, PoisonError};
 
@@ -116,10 +116,10 @@ impl Client {
         content: &[u8],
         buffers: &[&[u8]],
     ) -> Result<SharedOutcome, Error> {
-        let Joined { bytes, sizes } = Joined::of(buffers);
+        let frames = framed(buffers);
         // SAFETY: each slice is readable for its length, and none is null, not even where it is empty; and so below.
         self.changed(|handle, reply, sent| unsafe {
-            ffi::rolgunai_client_handle_message(
+            ffi::rolgunai_client_handle_frames(
                 handle,
                 header.as_ptr(),
                 header.len(),
@@ -127,10 +127,8 @@ impl Client {
                 metadata.len(),
                 content.as_ptr(),
                 content.len(),
-                bytes.as_ptr(),
-                bytes.len(),
-                sizes.as_ptr(),
-                sizes.len(),
+                frames.as_ptr(),
+                frames.len(),
                 reply,
                 sent,
             )
@@ -159,10 +157,10 @@ impl Client {
         paths: &[u8],
         buffers: &[&[u8]],
     ) -> Result<SharedOutcome, Error> {
-        let Joined { bytes, sizes } = Joined::of(buffers);
+        let frames = framed(buffers);
         // SAFETY: as in `message`.
         self.changed(|handle, reply, sent| unsafe {
-            ffi::rolgunai_client_launch(
+            ffi::rolgunai_client_launch_frames(
                 handle,
                 target.as_ptr(),
                 target.len(),
@@ -172,10 +170,8 @@ impl Client {
                 state.len(),
                 paths.as_ptr(),
                 paths.len(),
-                bytes.as_ptr(),
-                bytes.len(),
-                sizes.as_ptr(),
-                sizes.len(),
+                frames.as_ptr(),
+                frames.len(),
                 reply,
                 sent,
             )
@@ -184,10 +180,10 @@ impl Client {
 
     /// Changes these keys of a widget's state, and sends an `update` with just them.
     pub fn push(&mut self, id: &str, state: &[u8], paths: &[u8], buffers: &[&[u8]]) -> Result<SharedOutcome, Error> {
-        let Joined { bytes, sizes } = Joined::of(buffers);
+        let frames = framed(buffers);
         // SAFETY: as in `message`.
         self.changed(|handle, reply, sent| unsafe {
-            ffi::rolgunai_client_push(
+            ffi::rolgunai_client_push_frames(
                 handle,
                 id.as_ptr(),
                 id.len(),
@@ -195,10 +191,8 @@ impl Client {
                 state.len(),
                 paths.as_ptr(),
                 paths.len(),
-                bytes.as_ptr(),
-                bytes.len(),
-                sizes.as_ptr(),
-                sizes.len(),
+                frames.as_ptr(),
+                frames.len(),
                 reply,
                 sent,
             )
@@ -207,19 +201,17 @@ impl Client {
 
     /// Sends a `comm_msg` with this data, a JSON object, on a comm, past its target.
     pub fn send(&mut self, id: &str, data: &[u8], buffers: &[&[u8]]) -> Result<SharedOutcome, Error> {
-        let Joined { bytes, sizes } = Joined::of(buffers);
+        let frames = framed(buffers);
         // SAFETY: as in `message`.
         self.changed(|handle, reply, sent| unsafe {
-            ffi::rolgunai_client_send(
+            ffi::rolgunai_client_send_frames(
                 handle,
                 id.as_ptr(),
                 id.len(),
                 data.as_ptr(),
                 data.len(),
-                bytes.as_ptr(),
-                bytes.len(),
-                sizes.as_ptr(),
-                sizes.len(),
+                frames.as_ptr(),
+                frames.len(),
                 reply,
                 sent,
             )

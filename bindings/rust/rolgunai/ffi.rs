@@ -15,6 +15,13 @@ pub struct Client {
     pub at: *mut c_void,
 }
 
+/// A buffer where it lies.
+#[repr(C)]
+pub struct Frame {
+    pub bytes: *const u8,
+    pub size: usize,
+}
+
 /// A call of the kernel on a name or an id.
 pub type NamedCall = unsafe extern "C" fn(*mut Handle, u32, *const u8, usize, *mut u32, *mut usize) -> u32;
 
@@ -49,7 +56,7 @@ unsafe extern "C" {
         out_size: usize,
         size: *mut usize,
     ) -> u32;
-    pub fn rolgunai_handle_message(
+    pub fn rolgunai_handle_frames(
         handle: *mut Handle,
         client: u32,
         header: *const u8,
@@ -58,9 +65,7 @@ unsafe extern "C" {
         metadata_size: usize,
         content: *const u8,
         content_size: usize,
-        buffers: *const u8,
-        buffers_size: usize,
-        sizes: *const usize,
+        frames: *const Frame,
         count: usize,
         reply: *mut u32,
         sent: *mut usize,
@@ -82,7 +87,7 @@ unsafe extern "C" {
         reply: *mut u32,
         sent: *mut usize,
     ) -> u32;
-    pub fn rolgunai_launch(
+    pub fn rolgunai_launch_frames(
         handle: *mut Handle,
         client: u32,
         target: *const u8,
@@ -93,14 +98,12 @@ unsafe extern "C" {
         state_size: usize,
         paths: *const u8,
         paths_size: usize,
-        buffers: *const u8,
-        buffers_size: usize,
-        sizes: *const usize,
+        frames: *const Frame,
         count: usize,
         reply: *mut u32,
         sent: *mut usize,
     ) -> u32;
-    pub fn rolgunai_push(
+    pub fn rolgunai_push_frames(
         handle: *mut Handle,
         client: u32,
         id: *const u8,
@@ -109,23 +112,19 @@ unsafe extern "C" {
         state_size: usize,
         paths: *const u8,
         paths_size: usize,
-        buffers: *const u8,
-        buffers_size: usize,
-        sizes: *const usize,
+        frames: *const Frame,
         count: usize,
         reply: *mut u32,
         sent: *mut usize,
     ) -> u32;
-    pub fn rolgunai_send(
+    pub fn rolgunai_send_frames(
         handle: *mut Handle,
         client: u32,
         id: *const u8,
         id_size: usize,
         data: *const u8,
         data_size: usize,
-        buffers: *const u8,
-        buffers_size: usize,
-        sizes: *const usize,
+        frames: *const Frame,
         count: usize,
         reply: *mut u32,
         sent: *mut usize,
@@ -153,7 +152,7 @@ unsafe extern "C" {
     pub fn rolgunai_open_shared_with_decimals(client: *mut Client, comms: usize) -> u32;
     pub fn rolgunai_client_join(client: *mut Client, other: *mut Client) -> u32;
     pub fn rolgunai_client_free(client: *mut Client) -> u32;
-    pub fn rolgunai_client_handle_message(
+    pub fn rolgunai_client_handle_frames(
         client: *mut Client,
         header: *const u8,
         header_size: usize,
@@ -161,9 +160,7 @@ unsafe extern "C" {
         metadata_size: usize,
         content: *const u8,
         content_size: usize,
-        buffers: *const u8,
-        buffers_size: usize,
-        sizes: *const usize,
+        frames: *const Frame,
         count: usize,
         reply: *mut u32,
         sent: *mut usize,
@@ -183,7 +180,7 @@ unsafe extern "C" {
         reply: *mut u32,
         sent: *mut usize,
     ) -> u32;
-    pub fn rolgunai_client_launch(
+    pub fn rolgunai_client_launch_frames(
         client: *mut Client,
         target: *const u8,
         target_size: usize,
@@ -193,14 +190,12 @@ unsafe extern "C" {
         state_size: usize,
         paths: *const u8,
         paths_size: usize,
-        buffers: *const u8,
-        buffers_size: usize,
-        sizes: *const usize,
+        frames: *const Frame,
         count: usize,
         reply: *mut u32,
         sent: *mut usize,
     ) -> u32;
-    pub fn rolgunai_client_push(
+    pub fn rolgunai_client_push_frames(
         client: *mut Client,
         id: *const u8,
         id_size: usize,
@@ -208,22 +203,18 @@ unsafe extern "C" {
         state_size: usize,
         paths: *const u8,
         paths_size: usize,
-        buffers: *const u8,
-        buffers_size: usize,
-        sizes: *const usize,
+        frames: *const Frame,
         count: usize,
         reply: *mut u32,
         sent: *mut usize,
     ) -> u32;
-    pub fn rolgunai_client_send(
+    pub fn rolgunai_client_send_frames(
         client: *mut Client,
         id: *const u8,
         id_size: usize,
         data: *const u8,
         data_size: usize,
-        buffers: *const u8,
-        buffers_size: usize,
-        sizes: *const usize,
+        frames: *const Frame,
         count: usize,
         reply: *mut u32,
         sent: *mut usize,

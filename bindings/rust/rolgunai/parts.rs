@@ -1,7 +1,7 @@
 //! How buffers are handed in, and how the parts of a result come out, of a manager and of a client alike.
 
+use super::ffi::Frame;
 use super::types::{Error, Outcome, Payload, Reason, Reply, Sent};
-use std::borrow::Cow;
 
 pub const OK: u32 = 0;
 pub const BUFFER_TOO_SMALL: u32 = 5;
@@ -26,21 +26,9 @@ pub trait LastResult {
     fn sent_part(&mut self, message: usize, part: usize, out: &mut [u8], size: &mut usize) -> u32;
 }
 
-/// Buffers one after another, and their sizes. One that is alone isn't copied.
-pub struct Joined<'a> {
-    pub bytes: Cow<'a, [u8]>,
-    pub sizes: Vec<usize>,
-}
-
-impl<'a> Joined<'a> {
-    pub fn of(buffers: &[&'a [u8]]) -> Joined<'a> {
-        let sizes = buffers.iter().map(|buffer| buffer.len()).collect();
-        let bytes = match buffers {
-            [one] => (*one).into(),
-            more => more.concat().into(),
-        };
-        Joined { bytes, sizes }
-    }
+/// The buffers where they lie.
+pub fn framed(buffers: &[&[u8]]) -> Vec<Frame> {
+    buffers.iter().map(|buffer| Frame { bytes: buffer.as_ptr(), size: buffer.len() }).collect()
 }
 
 pub fn checked(status: u32) -> Result<(), Error> {
