@@ -1,8 +1,7 @@
 /* What a call is handed: texts, binary buffers and numbers. */
 #include "native.h"
 
-static const uint8_t no_bytes[1];
-static size_t no_sizes[1];
+static const uint8_t no_bytes[1]; // since the library takes no null pointer
 
 int read_text(PyObject *object, text *into) {
   char *bytes = NULL;
@@ -56,81 +55,65 @@ int read_limits(PyObject *arguments, PyObject *names, const char *format, size_t
 /* Whether the buffer's bytes stand together; the order is theirs, C's or Fortran's, as where a kernel sends them. */
 static int stands_together(const Py_buffer *view) { return PyBuffer_IsContiguous(view, 'A'); }
 
-/* Puts several buffers, or one whose bytes don't stand together, one after another. */
-static int join(frames *read) {
-  uint8_t *at = read->joined = malloc(read->size ? read->size : 1);
-  if (!at) {
-    PyErr_NoMemory();
-    return -1;
-  }
-  for (size_t i = 0; i < read->count; at += read->sizes[i++])
-    if (!stands_together(&read->views[i])
-        && PyBuffer_ToContiguous(at, &read->views[i], read->views[i].len, 'C') < 0)
-      return -1;
-  PyThreadState *let_go = read->size >= LONG_WORK ? PyEval_SaveThread() : NULL;
-  at = read->joined;
-  for (size_t i = 0; i < read->count; at += read->sizes[i++])
-    if (stands_together(&read->views[i]) && read->sizes[i]) memcpy(at, read->views[i].buf, read->sizes[i]);
-  if (let_go) PyEval_RestoreThread(let_go);
-  read->bytes = read->joined;
-  return 0;
+/* A view of the item, or of a copy of it where its bytes don't stand together. */
+static int view_item(PyObject *item, Py_buffer *view) {
+  if (!item || PyObject_GetBuffer(item, view, PyBUF_FULL_RO) < 0) return -1;
+  if (stands_together(view)) return 0;
+  PyBuffer_Release(view);
+  PyObject *copy = PyBytes_FromObject(item);
+  if (!copy) return -1;
+  const int status = PyObject_GetBuffer(copy, view, PyBUF_SIMPLE);
+  Py_DECREF(copy); // the view holds it
+  return status;
 }
 
 static int view_each(PyObject *buffers, frames *read) {
   for (; read->views_held < read->count; read->views_held++) {
     Py_buffer *view = &read->views[read->views_held];
-    PyObject *item = PyTuple_GetItem(buffers, (Py_ssize_t)read->views_held);
-    if (!item || PyObject_GetBuffer(item, view, PyBUF_FULL_RO) < 0) return -1;
-    read->sizes[read->views_held] = (size_t)view->len;
-    if ((size_t)view->len > (size_t)PY_SSIZE_T_MAX - read->size) {
+    if (view_item(PyTuple_GetItem(buffers, (Py_ssize_t)read->views_held), view) < 0) return -1;
+    const size_t size = (size_t)view->len;
+    read->list[read->views_held] = (rolgunai_frame){size ? view->buf : no_bytes, size};
+    if (size > (size_t)PY_SSIZE_T_MAX - read->size) {
       read->views_held++;
       PyErr_NoMemory();
       return -1;
     }
-    read->size += (size_t)view->len;
+    read->size += size;
   }
   return 0;
 }
 
 static int give_places(frames *read) {
-  read->sizes = read->few_sizes;
-  read->views = read->few_views;
-  if (read->count <= FEW_FRAMES) return 0;
-  read->sizes = malloc(read->count * sizeof *read->sizes);
+  if (read->count <= FEW_FRAMES) {
+    read->views = read->few_views;
+    return 0;
+  }
+  read->list = malloc(read->count * sizeof *read->list);
   read->views = malloc(read->count * sizeof *read->views);
-  if (read->sizes && read->views) return 0;
+  if (read->list && read->views) return 0;
   PyErr_NoMemory();
   return -1;
 }
 
 int read_frames(PyObject *object, frames *into) {
-  into->bytes = no_bytes;
-  into->sizes = no_sizes;
+  into->list = into->few;
   into->size = into->count = into->views_held = 0;
   into->views = NULL;
-  into->joined = NULL;
   if (!object || object == Py_None) return 0;
   // A tuple of their own, since a list may change while its items are asked for.
   PyObject *buffers = PySequence_Tuple(object);
   if (!buffers) return -1;
   into->count = (size_t)PyTuple_Size(buffers);
-  int status = 0;
-  if (into->count) {
-    status = give_places(into);
-    if (status == 0) status = view_each(buffers, into);
-    if (status == 0 && into->count == 1 && stands_together(&into->views[0]) && into->size)
-      into->bytes = into->views[0].buf;
-    else if (status == 0) status = join(into);
-  }
+  int status = into->count ? give_places(into) : 0;
+  if (status == 0) status = view_each(buffers, into);
   Py_DECREF(buffers);
   return status;
 }
 
 void frames_end(frames *read) {
-  free(read->joined);
   while (read->views_held) PyBuffer_Release(&read->views[--read->views_held]);
   if (read->count > FEW_FRAMES) {
     free(read->views);
-    free(read->sizes);
+    free(read->list);
   }
 }

@@ -21,19 +21,19 @@ static uint32_t played(rolgunai_handle *handle, const request *of, uint32_t *rep
   const frames *b = &of->buffers;
   switch (of->call) {
     case MESSAGE:
-      return rolgunai_handle_message(handle, of->client, t[0].bytes, t[0].size, t[1].bytes, t[1].size, t[2].bytes,
-                                     t[2].size, b->bytes, b->size, b->sizes, b->count, reply, sent);
+      return rolgunai_handle_frames(handle, of->client, t[0].bytes, t[0].size, t[1].bytes, t[1].size, t[2].bytes,
+                                    t[2].size, b->list, b->count, reply, sent);
     case REGISTER: return rolgunai_register(handle, of->client, of->kind, t[0].bytes, t[0].size, reply, sent);
     case UNREGISTER: return rolgunai_unregister(handle, of->client, t[0].bytes, t[0].size, reply, sent);
     case LAUNCH:
-      return rolgunai_launch(handle, of->client, t[0].bytes, t[0].size, t[1].bytes, t[1].size, t[2].bytes, t[2].size,
-                             t[3].bytes, t[3].size, b->bytes, b->size, b->sizes, b->count, reply, sent);
+      return rolgunai_launch_frames(handle, of->client, t[0].bytes, t[0].size, t[1].bytes, t[1].size, t[2].bytes,
+                                    t[2].size, t[3].bytes, t[3].size, b->list, b->count, reply, sent);
     case PUSH:
-      return rolgunai_push(handle, of->client, t[0].bytes, t[0].size, t[1].bytes, t[1].size, t[2].bytes, t[2].size,
-                           b->bytes, b->size, b->sizes, b->count, reply, sent);
+      return rolgunai_push_frames(handle, of->client, t[0].bytes, t[0].size, t[1].bytes, t[1].size, t[2].bytes,
+                                  t[2].size, b->list, b->count, reply, sent);
     case SEND:
-      return rolgunai_send(handle, of->client, t[0].bytes, t[0].size, t[1].bytes, t[1].size, b->bytes, b->size,
-                           b->sizes, b->count, reply, sent);
+      return rolgunai_send_frames(handle, of->client, t[0].bytes, t[0].size, t[1].bytes, t[1].size, b->list, b->count,
+                                  reply, sent);
     case CLOSE: return rolgunai_close(handle, of->client, t[0].bytes, t[0].size, reply, sent);
     case STATE: return rolgunai_state(handle, t[0].bytes, t[0].size, reply, sent);
   }

@@ -78,15 +78,13 @@ typedef struct {
 
 enum { FEW_FRAMES = 4 };
 
-/* The binary buffers that were handed in: of one its own bytes, of several a copy of them one after another. */
+/* The binary buffers that were handed in, where they lie; of one whose bytes don't stand together a copy. */
 typedef struct {
-  const uint8_t *bytes;
-  size_t size;
-  size_t *sizes;
+  rolgunai_frame *list;
+  size_t size; /* of all together */
   size_t count, views_held;
   Py_buffer *views;
-  uint8_t *joined;
-  size_t few_sizes[FEW_FRAMES];
+  rolgunai_frame few[FEW_FRAMES];
   Py_buffer few_views[FEW_FRAMES];
 } frames;
 

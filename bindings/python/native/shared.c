@@ -57,19 +57,19 @@ static uint32_t played(rolgunai_client *client, const request *of, uint32_t *rep
   const frames *b = &of->buffers;
   switch (of->call) {
     case MESSAGE:
-      return rolgunai_client_handle_message(client, t[0].bytes, t[0].size, t[1].bytes, t[1].size, t[2].bytes, t[2].size,
-                                            b->bytes, b->size, b->sizes, b->count, reply, sent);
+      return rolgunai_client_handle_frames(client, t[0].bytes, t[0].size, t[1].bytes, t[1].size, t[2].bytes, t[2].size,
+                                           b->list, b->count, reply, sent);
     case REGISTER: return rolgunai_client_register(client, of->kind, t[0].bytes, t[0].size, reply, sent);
     case UNREGISTER: return rolgunai_client_unregister(client, t[0].bytes, t[0].size, reply, sent);
     case LAUNCH:
-      return rolgunai_client_launch(client, t[0].bytes, t[0].size, t[1].bytes, t[1].size, t[2].bytes, t[2].size,
-                                    t[3].bytes, t[3].size, b->bytes, b->size, b->sizes, b->count, reply, sent);
+      return rolgunai_client_launch_frames(client, t[0].bytes, t[0].size, t[1].bytes, t[1].size, t[2].bytes, t[2].size,
+                                           t[3].bytes, t[3].size, b->list, b->count, reply, sent);
     case PUSH:
-      return rolgunai_client_push(client, t[0].bytes, t[0].size, t[1].bytes, t[1].size, t[2].bytes, t[2].size, b->bytes,
-                                  b->size, b->sizes, b->count, reply, sent);
+      return rolgunai_client_push_frames(client, t[0].bytes, t[0].size, t[1].bytes, t[1].size, t[2].bytes, t[2].size,
+                                         b->list, b->count, reply, sent);
     case SEND:
-      return rolgunai_client_send(client, t[0].bytes, t[0].size, t[1].bytes, t[1].size, b->bytes, b->size, b->sizes,
-                                  b->count, reply, sent);
+      return rolgunai_client_send_frames(client, t[0].bytes, t[0].size, t[1].bytes, t[1].size, b->list, b->count,
+                                         reply, sent);
     case CLOSE: return rolgunai_client_close(client, t[0].bytes, t[0].size, reply, sent);
     case STATE: break;
   }
