@@ -332,6 +332,13 @@ uint32_t rolgunai_send(rolgunai_handle *handle, uint32_t client, const uint8_t *
                        const uint8_t *data, size_t data_size, const uint8_t *buffers, size_t buffers_size,
                        const size_t *sizes, size_t count, uint32_t *reply, size_t *sent);
 
+/* Closes a comm, and sends a `comm_close`. Replies: CLOSED; NO_COMM. */
+uint32_t rolgunai_close(rolgunai_handle *handle, uint32_t client, const uint8_t *id, size_t id_size, uint32_t *reply,
+                        size_t *sent);
+
+/* Reads a comm's state. Replies: STATE, NO_STATE, NO_COMM. */
+uint32_t rolgunai_state(rolgunai_handle *handle, const uint8_t *id, size_t id_size, uint32_t *reply, size_t *sent);
+
 /* ---- The calls that take buffers, each where it lies: they needn't stand one after another, and each is copied once.
  * Otherwise these are as those above; no test of theirs is of sizes. */
 uint32_t rolgunai_handle_frames(rolgunai_handle *handle, uint32_t client, const uint8_t *header, size_t header_size,
@@ -348,13 +355,6 @@ uint32_t rolgunai_push_frames(rolgunai_handle *handle, uint32_t client, const ui
 uint32_t rolgunai_send_frames(rolgunai_handle *handle, uint32_t client, const uint8_t *id, size_t id_size,
                               const uint8_t *data, size_t data_size, const rolgunai_frame *frames, size_t count,
                               uint32_t *reply, size_t *sent);
-
-/* Closes a comm, and sends a `comm_close`. Replies: CLOSED; NO_COMM. */
-uint32_t rolgunai_close(rolgunai_handle *handle, uint32_t client, const uint8_t *id, size_t id_size, uint32_t *reply,
-                        size_t *sent);
-
-/* Reads a comm's state. Replies: STATE, NO_STATE, NO_COMM. */
-uint32_t rolgunai_state(rolgunai_handle *handle, const uint8_t *id, size_t id_size, uint32_t *reply, size_t *sent);
 
 #ifdef __cplusplus
 }
