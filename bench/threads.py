@@ -2,12 +2,17 @@
 """Writers beside readers of the shared manager, on the program and on the peer in plain Rust in five ways, in turn.
 
 bench/threads.py load_generator [--quick] [--changes N] [--repeats N] [--only 1+3,info]
+bench/threads.py --library bench_clients [--changes N] [--repeats N] [--only 0+4]
+
+With --library the program calls the library for C by clients: also readers alone, for CHANGES milliseconds, and three
+times as many threads as there are processors.
 
 For each arrangement: changes and reads a second, in thousands, the middle of the repeats; and the program's over those
 of the peer that is best there, the middle of the ratios of each repeat, with the least and the greatest. `mutex again`
 is the same peer a second time: its ratio to itself shows the noise. It stops at a run whose counts don't add up."""
 import argparse
 import json
+import os
 import statistics
 import subprocess
 import sys
@@ -25,13 +30,23 @@ ARRANGEMENTS = [  # writers, readers, what they read, comms
     *((1, 3, "info", 1000), (1, 3, "info", 4000), (2, 2, "info", 1000)),
 ]
 QUICK = [(1, 0, "none", 1000), (4, 0, "none", 1000), (1, 3, "state", 1000), (2, 2, "state", 1000), (1, 3, "info", 1000)]
+PROCESSORS = len(os.sched_getaffinity(0))
+LIBRARY = [
+    *((1, 0, "none", 1000), (PROCESSORS, 0, "none", 1000), (0, 1, "state", 1000), (0, PROCESSORS, "state", 1000)),
+    *((1, PROCESSORS - 1, "state", 1000), (1, PROCESSORS - 1, "info", 1000)),
+    *((PROCESSORS, 2 * PROCESSORS, "state", 1000), (1, 3 * PROCESSORS - 1, "state", 1000)),
+]
 FIELDS = ["changes", "reads", "history", "taken", "untaken", "sum", "ns"]
+FIELDS_OF_C = ["changes", "reads", "ns"]
 
 
 def amiss(told, arrangement, changes):
     """Which counts of a run don't add up."""
     writers, readers, read, comms = arrangement
-    made = changes // writers * writers
+    made = changes // writers * writers if writers else 0
+    if list(told) == FIELDS_OF_C:  # the library's history is in proofs alone
+        holds = {"changes": told["changes"] == made, "reads": (told["reads"] > 0) == (readers > 0)}
+        return [what for what, is_so in holds.items() if not is_so]
     sums = {"info": told["sum"] == 5 * comms * told["reads"], "state": told["sum"] >= told["reads"]}
     holds = {
         "changes": told["changes"] == made,
@@ -48,7 +63,7 @@ def played(words, arrangement, changes):
     writers, readers, read, comms = arrangement
     words = [*words, *map(str, (writers, readers, changes, comms, KEYS, read))]
     told = json.loads(subprocess.run(words, stdout=subprocess.PIPE, check=True).stdout)
-    wrong = amiss(told, arrangement, changes) if list(told) == FIELDS else ["keys"]
+    wrong = amiss(told, arrangement, changes) if list(told) in (FIELDS, FIELDS_OF_C) else ["keys"]
     if wrong:
         raise SystemExit(f"{' '.join(words)}: wrong {', '.join(wrong)} in {told}")
     return {what: told[what] / told["ns"] * 1e6 for what in ("changes", "reads")}
@@ -76,7 +91,7 @@ def measured(players, arrangement, changes, repeats):
 def rows(runs, arrangement):
     """The lines of the table for an arrangement."""
     writers, readers, read, comms = arrangement
-    for what in ("changes", "reads") if readers else ("changes",):
+    for what in ["changes"] * (writers > 0) + ["reads"] * (readers > 0):
         rates = {who: [run[what] for run in each] for who, each in runs.items()}
         best = max(WAYS, key=lambda way: statistics.median(rates[way]))
         cells = [middle(rates[who]) for who in ("program", *WAYS)]
@@ -86,7 +101,8 @@ def rows(runs, arrangement):
 
 def options():
     made = argparse.ArgumentParser(description=__doc__, formatter_class=argparse.RawDescriptionHelpFormatter)
-    made.add_argument("program", help="the built load_generator")
+    made.add_argument("program", help="the built load_generator, or bench_clients")
+    made.add_argument("--library", action="store_true", help="the arrangements for the library for C")
     made.add_argument("--quick", action="store_true", help="five arrangements, half the changes, three repeats")
     made.add_argument("--changes", type=int)
     made.add_argument("--repeats", type=int)
@@ -104,7 +120,7 @@ def main():
     print(f"{changes:,} changes a run, {KEYS} keys a state, {repeats} repeats; thousands a second\n")
     head = ["writers + readers", "read", "comms", "", "program", *WAYS, "program ÷ best", "mutex again ÷ mutex"]
     print(f"| {' | '.join(head)} |\n|{'---|' * len(head)}")
-    for arrangement in QUICK if asked.quick else ARRANGEMENTS:
+    for arrangement in LIBRARY if asked.library else QUICK if asked.quick else ARRANGEMENTS:
         writers, readers, read, comms = arrangement
         if wanted <= {f"{writers}+{readers}", read, str(comms)}:
             for line in rows(measured(players, arrangement, changes, repeats), arrangement):

@@ -1,6 +1,7 @@
 //! The peer of `load_generator`: a shared comm manager in plain Rust. Usage:
 //!   thread_peer WAY WRITERS READERS CHANGES COMMS KEYS READ
-//! WAY is how reads and changes meet: mutex, rwlock, leftright, arcswap or slots. bench/README.md tells the rest.
+//! WAY is how reads and changes meet: mutex, rwlock, leftright, arcswap or slots. With no writer, READERS read for
+//! CHANGES milliseconds. bench/README.md tells the rest.
 #![allow(dead_code)] // the history keeps much that nothing here reads
 mod core;
 mod manager;
@@ -14,7 +15,7 @@ use sorted::{Dict, Val};
 use std::sync::atomic::{AtomicBool, Ordering::*};
 use std::sync::Arc;
 use std::thread;
-use std::time::Instant;
+use std::time::{Duration, Instant};
 
 #[derive(Clone, Copy, PartialEq)]
 enum Read {
@@ -23,9 +24,12 @@ enum Read {
     None,
 }
 
+const MOST_CLIENTS: usize = 64;
+
 struct Load {
     writers: usize,
     readers: usize,
+    /// The changes of a writer; the milliseconds of the readers, where there is none.
     each: u64,
     comms: usize,
     keys: usize,
@@ -43,13 +47,12 @@ fn load(args: &[String]) -> Option<Load> {
         "none" => Read::None,
         _ => return None,
     };
-    let fits = (1..=4).contains(&writers)
-        && readers <= 4 - writers
+    let fits = (1..=MOST_CLIENTS).contains(&(writers + readers))
         && changes <= 10_000_000
         && (1..=4096).contains(&comms)
         && (1..=999).contains(&keys)
         && (read == Read::None) == (readers == 0);
-    fits.then(|| Load { writers, readers, each: changes / writers as u64, comms, keys, read })
+    fits.then(|| Load { writers, readers, each: changes / writers.max(1) as u64, comms, keys, read })
 }
 
 fn texts(letter: char, count: usize, digits: usize) -> Vec<Arc<str>> {
@@ -152,6 +155,9 @@ fn run<R: Rows + Send + Sync>(l: &Load, m: &Manager<R>, clients: &mut [Client]) 
         let readers: Vec<_> = readers.iter_mut().zip(for_readers).enumerate().map(reading).collect();
         let writing = |(n, (client, own))| s.spawn(move || write(m, client, l, first(n, l.writers), own));
         let writers: Vec<_> = writers.iter_mut().zip(for_writers).enumerate().map(writing).collect();
+        if writers.is_empty() {
+            thread::sleep(Duration::from_millis(l.each));
+        }
         writers.into_iter().for_each(|w| w.join().expect("no thread panics"));
         let ns = start.elapsed().as_nanos();
         done.store(true, Release);
