@@ -24,7 +24,7 @@ enum Read {
     None,
 }
 
-const MOST_CLIENTS: usize = 64;
+const MOST_CLIENTS: usize = 32;
 
 struct Load {
     writers: usize,

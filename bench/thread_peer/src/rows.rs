@@ -224,7 +224,7 @@ impl Rows for BySlots {
     }
 }
 
-const READERS: usize = 4;
+const READERS: usize = crate::MOST_CLIENTS;
 
 /// Two tables and an epoch for each reader, odd while it is inside.
 pub struct ByLeftRight {
