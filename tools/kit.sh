@@ -6,7 +6,7 @@ TOP=$(cd "$(dirname "${BASH_SOURCE[0]}")/.." && pwd)
 need_kit() {
   if ! command -v rt >/dev/null 2>&1; then
     echo "$1: the Rattle kit isn't there: no command 'rt' on the PATH (wanted: ${WANTED_KITS// / or }; README.md," \
-      "'A first answer', says from whom)" >&2
+      "'A first run', says from whom)" >&2
     exit 2
   fi
   local version
