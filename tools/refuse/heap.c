@@ -8,7 +8,7 @@
      REFUSED      from here on no request is refused; granted if one was refused since REFUSE or ABOVE
      LEAKED       granted if more blocks are held than at MARK
    A program says no word: with REFUSE_AT=n in the environment the request of number n of the whole process is refused,
-   once. At the end of the process one line goes to the descriptor REFUSE_TO: 'asked=A refused=R peak=P', A being the
+   once; with REFUSE_FROM=n that one and each after it. At the end of the process one line goes to the descriptor REFUSE_TO: 'asked=A refused=R peak=P', A being the
    words REFUSE + n and ABOVE + n, R the refusals, and P the most bytes that were held at a time. It needs no header, so
    that the kit's clang alone compiles it. */
 typedef unsigned long size;
@@ -31,7 +31,7 @@ static char granted[64] __attribute__((aligned(64)));
 
 static _Atomic long refused_number, requests, held, words, refusals;
 static _Atomic size most, bytes, peak;
-static _Atomic int counts, was_refused;
+static _Atomic int counts, was_refused, is_for_good;
 
 /* From here on the request of this number is refused, and each that is larger. */
 static void refuse_from_here(long number, size larger) {
@@ -69,8 +69,13 @@ static int is_word(size n, void **answer) {
     return 0;
 }
 
+static int is_due(void) {
+    const long at = ++requests;
+    return is_for_good ? at >= refused_number : at == refused_number;
+}
+
 static int refuses(size n) {
-    if (!counts || (++requests != refused_number && n <= most)) return 0;
+    if (!counts || (!is_due() && n <= most)) return 0;
     was_refused = 1;
     refusals++;
     *__errno_location() = NO_MEMORY;
@@ -152,7 +157,9 @@ static long number(const char *name) {
 }
 
 static __attribute__((constructor)) void begin(void) {
-    refused_number = number("REFUSE_AT");
+    const long from = number("REFUSE_FROM");
+    is_for_good = from > 0;
+    refused_number = is_for_good ? from : number("REFUSE_AT");
     most = ANY;
     counts = refused_number > 0;
 }
