@@ -34,7 +34,7 @@ class BuildWithLibrary(build_ext):
         super().run()
 
 
-SOURCES = "arguments requests json gather outcome manager seats shared sending turns module".split()
+SOURCES = "arguments requests json values updates gather outcome manager seats shared sending turns long_buffers module".split()
 NATIVE = Extension(
     "rolgunai._native",
     sources=[

@@ -194,12 +194,16 @@ static int write_float(writer *to, PyObject *number) {
   return status;
 }
 
+/* The flags of a value's type, which say which of Python's own it is or is a subclass of: one call of CPython's. */
+static unsigned long flags_of(PyObject *value) { return PyType_GetFlags(Py_TYPE(value)); }
+
 /* Writes null, true, false or a number; gives 1 where the value is none of them. */
-static int write_atom(writer *to, PyObject *value) {
+static int write_atom(writer *to, PyObject *value, unsigned long flags) {
+  if (flags & Py_TPFLAGS_LONG_SUBCLASS) {
+    if (value == Py_True) return put(to, "true", 4);
+    return value == Py_False ? put(to, "false", 5) : write_int(to, value);
+  }
   if (value == Py_None) return put(to, "null", 4);
-  if (value == Py_True) return put(to, "true", 4);
-  if (value == Py_False) return put(to, "false", 5);
-  if (PyLong_Check(value)) return write_int(to, value);
   return PyFloat_Check(value) ? write_float(to, value) : 1;
 }
 
@@ -247,9 +251,10 @@ static int refuse(const char *words, PyObject *object) {
 }
 
 static int write_key(writer *to, PyObject *key) {
-  if (PyUnicode_Check(key)) return write_text(to, key);
+  unsigned long flags = flags_of(key);
+  if (flags & Py_TPFLAGS_UNICODE_SUBCLASS) return write_text(to, key);
   int status = put_byte(to, '"');
-  if (status == 0) status = write_atom(to, key);
+  if (status == 0) status = write_atom(to, key, flags);
   if (status == 1) return refuse("keys must be str, int, float, bool or None, not %U", key);
   return status == 0 ? put_byte(to, '"') : -1;
 }
@@ -325,15 +330,33 @@ static int write_fallback(writer *to, PyObject *value) {
 }
 
 static int write_value(writer *to, PyObject *value) {
-  if (PyUnicode_Check(value)) return write_text(to, value);
-  int status = write_atom(to, value);
+  unsigned long flags = flags_of(value);
+  if (flags & Py_TPFLAGS_UNICODE_SUBCLASS) return write_text(to, value);
+  int status = write_atom(to, value, flags);
   if (status != 1) return status;
   if (enter(to, value) < 0) return -1;
-  if (PyDict_Check(value)) status = write_dict(to, value);
-  else if (PyList_Check(value) || PyTuple_Check(value)) status = write_sequence(to, value);
+  if (flags & Py_TPFLAGS_DICT_SUBCLASS) status = write_dict(to, value);
+  else if (flags & (Py_TPFLAGS_LIST_SUBCLASS | Py_TPFLAGS_TUPLE_SUBCLASS)) status = write_sequence(to, value);
   else status = write_fallback(to, value);
   leave(to);
   return status;
+}
+
+/* ---- The calls. */
+
+static void begin(writer *to, PyObject *module, PyObject *fallback) {
+  const module_state *state = PyModule_GetState(module);
+  to->bytes = to->few;
+  to->room = sizeof to->few;
+  to->size = to->depth = 0;
+  to->fallback = fallback == Py_None ? NULL : fallback;
+  to->not_finite = state->not_finite;
+}
+
+static PyObject *written(writer *to, int status) {
+  PyObject *made = status == 0 ? PyBytes_FromStringAndSize(to->bytes, (Py_ssize_t)to->size) : NULL;
+  if (to->bytes != to->few) PyMem_Free(to->bytes);
+  return made;
 }
 
 PyObject *call_write(PyObject *module, PyObject *const *arguments, Py_ssize_t count) {
@@ -341,15 +364,26 @@ PyObject *call_write(PyObject *module, PyObject *const *arguments, Py_ssize_t co
     PyErr_Format(PyExc_TypeError, "write() takes 1 or 2 positional arguments (%zd given)", count);
     return NULL;
   }
-  const module_state *state = PyModule_GetState(module);
   writer to;
-  to.bytes = to.few;
-  to.room = sizeof to.few;
-  to.size = to.depth = 0;
-  to.fallback = count == 2 && arguments[1] != Py_None ? arguments[1] : NULL;
-  to.not_finite = state->not_finite;
-  int status = write_value(&to, arguments[0]);
-  PyObject *made = status == 0 ? PyBytes_FromStringAndSize(to.bytes, (Py_ssize_t)to.size) : NULL;
-  if (to.bytes != to.few) PyMem_Free(to.bytes);
-  return made;
+  begin(&to, module, count == 2 ? arguments[1] : Py_None);
+  return written(&to, write_value(&to, arguments[0]));
+}
+
+static int write_field(writer *to, const char *before, PyObject *value) {
+  return put(to, before, strlen(before)) < 0 ? -1 : write_value(to, value);
+}
+
+PyObject *call_write_update(PyObject *module, PyObject *const *arguments, Py_ssize_t count) {
+  enum { ID, STATE_OF, PATHS, MOST };
+  if (count != MOST) {
+    PyErr_Format(PyExc_TypeError, "write_update() takes 3 positional arguments (%zd given)", count);
+    return NULL;
+  }
+  writer to;
+  begin(&to, module, Py_None);
+  int status = write_field(&to, "{\"comm_id\":", arguments[ID]);
+  if (status == 0) status = write_field(&to, ",\"data\":{\"method\":\"update\",\"state\":", arguments[STATE_OF]);
+  if (status == 0 && arguments[PATHS] != Py_None) status = write_field(&to, ",\"buffer_paths\":", arguments[PATHS]);
+  if (status == 0) status = put(&to, "}}", 2);
+  return written(&to, status);
 }

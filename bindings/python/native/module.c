@@ -32,6 +32,7 @@ static int fill(module_state *state, PyObject *types) {
   static const char *const names[TYPES] = {"comm_open", "comm_msg", "comm_close", "comm_info_reply"};
   for (size_t i = 0; i < TYPES; i++)
     if (!(state->types[i] = PyUnicode_InternFromString(names[i]))) return -1;
+  if (make_words(state->words) < 0) return -1;
   state->outcome = PyObject_GetAttrString(types, "Outcome");
   state->sent = PyObject_GetAttrString(types, "Sent");
   state->error = PyObject_GetAttrString(types, "error_of");
@@ -65,7 +66,8 @@ static int make_module(PyObject *module) {
   if (status < 0) return -1;
   state->seat_type = PyType_FromModuleAndSpec(module, &seat_type, NULL);
   if (!state->seat_type || add_type(module, &manager_type, "Manager") < 0) return -1;
-  return add_type(module, &shared_type, "SharedManager") < 0 ? -1 : add_type(module, &turns_type, "Turns");
+  if (add_type(module, &shared_type, "SharedManager") < 0 || add_type(module, &turns_type, "Turns") < 0) return -1;
+  return add_type(module, &long_buffers_type, "LongBuffers");
 }
 
 static int traverse_module(PyObject *module, visitproc visit, void *arg) {
@@ -95,12 +97,24 @@ static void free_module(void *module) {
   Py_CLEAR(state->empty);
   Py_CLEAR(state->nothing);
   for (size_t i = 0; i < TYPES; i++) Py_CLEAR(state->types[i]);
+  for (size_t i = 0; i < WORDS; i++) Py_CLEAR(state->words[i]);
 }
 
 static PyMethodDef functions[] = {
     {"write", (PyCFunction)(void (*)(void))call_write, METH_FASTCALL,
      "write($module, value, default=None, /)\n--\n\n"
      "Writes JSON, the text of json.dumps(value, separators=(',', ':'), allow_nan=False, default=default) in bytes."},
+    {"write_update", (PyCFunction)(void (*)(void))call_write_update, METH_FASTCALL,
+     "write_update($module, comm_id, state, paths, /)\n--\n\n"
+     "Writes the content of a `comm_msg`: a widget's update, with buffers at these paths where they aren't None."},
+    {"read_update", (PyCFunction)(void (*)(void))call_read_update, METH_FASTCALL,
+     "read_update($module, message, targets, keys, /)\n--\n\n"
+     "Reads a frontend's update of an open widget, whose keys are all known: the comm's id, the content as JSON, a\n"
+     "copy of the state, and, where it has buffers, their paths, the key that each lies under, and the buffers. None\n"
+     "of any other message. `targets` and `keys` have comms' targets and widgets' keys by the comms' ids."},
+    {"copied", call_copied, METH_O,
+     "copied($module, value, /)\n--\n\n"
+     "A value that stays as it is, whatever is done with the lists and dicts of this one. A tuple becomes a list."},
     {NULL, NULL, 0, NULL},
 };
 

@@ -21,8 +21,9 @@ enum { LONG_WORK = 1 << 24, WORK_OF_JSON = 64 };
  * which the library writes anew each time, has a room that grows up to TEXT_ROOM, so that it's written once. */
 enum { FRAME_ROOM = 4096, TEXT_ROOM = LONG_WORK / WORK_OF_JSON };
 
-/* The numbers of sent messages' types, in module_state. */
+/* The numbers of sent messages' types, and of the keys of a frontend's, in module_state. */
 enum { TYPES = 4 };
+enum { OF_CONTENT, OF_DATA, OF_METHOD, OF_COMM_ID, OF_STATE, OF_SYNC_DATA, OF_BUFFERS, OF_PATHS, OF_KEYS, WORDS };
 
 /* What rolgunai/_types.py has, and constants. */
 typedef struct {
@@ -33,6 +34,7 @@ typedef struct {
   PyObject *error;              /* makes the exception of a status */
   PyObject *not_finite;         /* the exception for a number that JSON hasn't */
   PyObject *types[TYPES];       /* "comm_open" and the like */
+  PyObject *words[WORDS];       /* "content" and the like */
   PyObject *empty, *nothing;    /* b"{}" and () */
   PyObject *seat;               /* "seat" */
 } module_state;
@@ -144,8 +146,12 @@ void source_end(source *of);
 /* outcome.c: makes the Outcome of what was gathered, and ends that; or raises the exception of the status. */
 PyObject *made_outcome(const module_state *state, uint32_t status, gathered *from);
 
-/* json.c: write(value, default=None), which the module has. */
+/* json.c, values.c, updates.c: functions of the module. */
 PyObject *call_write(PyObject *module, PyObject *const *arguments, Py_ssize_t count);
+PyObject *call_write_update(PyObject *module, PyObject *const *arguments, Py_ssize_t count);
+PyObject *call_copied(PyObject *module, PyObject *value);
+PyObject *call_read_update(PyObject *module, PyObject *const *arguments, Py_ssize_t count);
+int make_words(PyObject **into);
 
 /* seats.c. The seat of this thread, as its threading.local has it, or NULL where there are no more: 0, or -1 with an
  * exception. With the gate held, `keep_spare` sees to it that a new thread finds one without the gate. */
@@ -163,7 +169,7 @@ PyObject *raised(const module_state *state, uint32_t status);
 void take_lock(PyThread_type_lock lock);
 
 /* The types. */
-extern PyType_Spec manager_type, shared_type, seat_type, turns_type;
+extern PyType_Spec manager_type, shared_type, seat_type, turns_type, long_buffers_type;
 
 /* module.c: the state of the module that a type is of, or NULL with an exception. */
 PyObject *module_of(PyTypeObject *type);

@@ -109,6 +109,35 @@ static PyObject *change(PyObject *object, enum call call, PyObject *const *argum
   return outcome;
 }
 
+/* A `comm_msg` of a frontend. Most are just delivered, of which there is nothing to tell. */
+static PyObject *hear(PyObject *object, PyObject *const *given, Py_ssize_t count) {
+  static const char header[] = "{\"msg_type\":\"comm_msg\"}";
+  const text type = {(const uint8_t *)header, sizeof header - 1, NULL}, no_metadata = {(const uint8_t *)"{}", 2, NULL};
+  request asked = {.call = MESSAGE, .texts = {type, no_metadata}, .text_count = 3};
+  PyObject *outcome = NULL;
+  caller who;
+  read_frames(NULL, &asked.buffers);
+  if (read_text(given[0], &asked.texts[2]) == 0 && read_frames(count > 1 ? given[1] : NULL, &asked.buffers) == 0
+      && find_caller(object, &who) == 0) {
+    uint32_t reply = 0;
+    size_t sent = 0;
+    uint32_t status = changed(&who, &asked, &reply, &sent);
+    if (status == ROLGUNAI_OK && reply == ROLGUNAI_REPLY_DELIVERED && !sent) {
+      called(&who, status);
+      caller_end(&who);
+      outcome = Py_NewRef(Py_None);
+    } else outcome = gathered_outcome(&who, status, reply, sent);
+  }
+  request_end(&asked);
+  return outcome;
+}
+
+static PyObject *call_hear(PyObject *self, PyObject *const *given, Py_ssize_t count) {
+  if (count == 1 || count == 2) return hear(self, given, count);
+  PyErr_Format(PyExc_TypeError, "hear() takes 1 or 2 positional arguments (%zd given)", count);
+  return NULL;
+}
+
 #define CHANGE(function, number)                                                                                  \
   static PyObject *function(PyObject *self, PyObject *const *arguments, Py_ssize_t count, PyObject *names) {     \
     return change(self, number, arguments, count, names);                                                        \
@@ -299,6 +328,9 @@ static void end_manager(PyObject *object) {
 static PyMethodDef methods[] = {
     {"message", WITH_NAMES(call_message),
      "message($self, header, metadata, content, buffers=())\n--\n\nAs Manager.message."},
+    {"hear", (PyCFunction)(void (*)(void))call_hear, METH_FASTCALL,
+     "hear($self, content, buffers=(), /)\n--\n\n"
+     "As message of a `comm_msg` with this content, but None where that is DELIVERED and nothing is sent."},
     {"register", WITH_NAMES(call_register), "register($self, kind, name)\n--\n\nAs Manager.register."},
     {"unregister", WITH_NAMES(call_unregister), "unregister($self, name)\n--\n\nAs Manager.unregister."},
     {"launch", WITH_NAMES(call_launch),

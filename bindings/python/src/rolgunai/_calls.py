@@ -9,15 +9,15 @@ from __future__ import annotations
 
 import collections
 import functools
-from collections.abc import Callable, Collection, Sequence
+from collections.abc import Callable, Collection, Iterable, Sequence
 from typing import Any
 
 from rolgunai import ArgumentError, Kind, Outcome, OutcomeMemoryError, Reason, Reply, SharedManager
 from rolgunai import _widgets, old_widgets
 from rolgunai._kernel import WIDGET, CommRefused, Message, Send, State
-from rolgunai._long_buffers import Kept, LongBuffers
-from rolgunai._native import Turns
-from rolgunai._update import Update
+from rolgunai._long_buffers import LongBuffers
+from rolgunai._native import Turns, copied
+from rolgunai._update import NO_PARTS, Parts, Update, roots_of
 from rolgunai._watches import Watch, Watches
 from rolgunai._wire import read
 
@@ -29,9 +29,9 @@ _HEADERS = {
 }
 # By names of their own, and not in a set: Python 3.11 runs code of its own to find an enumeration's member or its hash.
 DELIVERED, OPENED, CLOSED, NO_COMM = Reply.DELIVERED, Reply.OPENED, Reply.CLOSED, Reply.NO_COMM
-_TAKEN = (DELIVERED, OPENED)
 DONE = (DELIVERED, Reply.FOR_KERNEL, OPENED, CLOSED, Reply.COMM_INFO, Reply.STATE)
 Pack = Callable[[Any], bytes]
+Kept = Iterable[tuple[int, bytes]]  # the places and tokens of long buffers
 
 
 class Calls:
@@ -109,61 +109,60 @@ class Calls:
             target_name = content.get("target_name")
             if isinstance(target_name, str) and target_name in self._served():
                 self.know_target(target_name)
-        frames, kept = self.long.handed_in(buffers, is_lent=True) if buffers else ((), [])
+        frames, kept = self.long.lent(buffers) if buffers else ((), [])
         try:
             outcome = self._manager.message(_HEADERS[kind], metadata, text, frames)
         except Exception as error:
             outcome = self._after(error, kept)
         if outcome.reply is CLOSED:
             self._ended(content["comm_id"])
+        elif outcome.reply is OPENED:
+            self._opened(content, buffers, kept, watch)
         else:
-            if outcome.reply is OPENED:
-                self._began(content["comm_id"], content["target_name"])
-            if kept or self.long.tokens:
-                self._keep_long(kind, content, outcome, kept)
+            self.long.refused(kept)
         if outcome.sent:
             self._send_all(outcome, msg)
-        if watch is not None and outcome.reply in _TAKEN:
-            self.watches.begin(watch, _widgets.state_of(content["data"], buffers))
         return outcome
 
+    def _opened(self, content: dict[str, Any], buffers: Any, kept: Kept, watch: Watch | None) -> None:
+        """The manager took a frontend's open."""
+        comm_id = content["comm_id"]
+        self._began(comm_id, content["target_name"])
+        if watch is not None:
+            data = content["data"]
+            paths = data.get("buffer_paths") or ()
+            if kept:
+                self.long.taken(comm_id, (), roots_of(paths), kept)
+            self.watches.begin(watch, _widgets.placed(copied(data.get("state") or {}), paths, buffers))
+
     def hear_update(
-        self, watch: Watch, msg: Message, content: dict[str, Any], text: bytes, buffers: Sequence[Any]
-    ) -> Outcome:
-        """Plays an update of a widget's state by a frontend, with this content, of which `text` is the JSON. The watch
-        begins with one that the manager takes."""
-        frames, kept = self.long.handed_in(buffers, is_lent=True) if buffers else ((), [])
+        self, watch: Watch, msg: Message, text: bytes, held: State, parts: Parts | None
+    ) -> Outcome | None:
+        """Plays an update of a widget's state by a frontend, of which `text` is the content, and `held` a copy of the
+        state. None where the manager takes it: the watch begins with it then."""
+        paths, roots, buffers = parts or NO_PARTS
+        frames, kept = self.long.lent(buffers) if buffers else ((), ())
         try:
-            outcome = self._manager.message(_HEADERS["comm_msg"], NOTHING, text, frames)
+            outcome = self._manager.hear(text, frames)
         except Exception as error:
             outcome = self._after(error, kept)
-        if kept or self.long.tokens:
-            self._keep_long("comm_msg", content, outcome, kept)
-        if outcome.sent:
-            self._send_all(outcome, msg)
-        if outcome.reply is DELIVERED:
-            self.watches.begin(watch, _widgets.state_of(content["data"], buffers))
-        return outcome
+        comm_id = watch.comm_id
+        if outcome is not None and outcome.reply is not DELIVERED:
+            self.long.refused(kept)
+        elif kept or comm_id in self.long.tokens:
+            self.long.taken(comm_id, held, roots, kept)
+        if outcome is not None:
+            if outcome.sent:
+                self._send_all(outcome, msg)
+            if outcome.reply is not DELIVERED:
+                return outcome
+        self.watches.begin(watch, _widgets.placed(held, paths, buffers) if buffers else held)
+        return None
 
     def end_watch(self, watch: Watch) -> None:
         """The callbacks are through that ran while it was told."""
         self.watches.end(watch)
         self.long.settle()
-
-    def _keep_long(self, kind: str, content: dict[str, Any], outcome: Outcome, kept: Kept) -> None:
-        """Of what a frontend sent, an open's state and an update's stay with the manager."""
-        is_taken = outcome.reply is OPENED if kind == "comm_open" else outcome.reply is DELIVERED
-        data = content.get("data") if is_taken else None
-        state = data.get("state") if isinstance(data, dict) else None
-        if (
-            isinstance(data, dict)
-            and isinstance(state, dict)
-            and (kind == "comm_open" or data.get("method") == "update")
-        ):
-            roots = [path[0] for path in data.get("buffer_paths") or ()]
-            self.long.taken(content["comm_id"], state, roots, kept)
-        else:
-            self.long.refused(kept)
 
     def infos(self, target_name: str | None) -> bytes:
         """The content of the reply to a `comm_info_request` for a target, or for all. It takes no lock."""
@@ -207,7 +206,7 @@ class Calls:
         if not is_open:
             self.long.refused(kept)
         elif kept:
-            self.long.taken(comm_id, (), [path[0] for path in paths or ()], kept)
+            self.long.taken(comm_id, (), roots_of(paths or ()), kept)
         self._agree("comm_open", outcome)
 
     def push(self, comm_id: str, update: Update, parent: Any, metadata: dict[str, Any] | None = None) -> bool:
@@ -230,11 +229,7 @@ class Calls:
 
     def say(self, kind: str, comm_id: str, content: bytes, metadata: Any, buffers: Any, parent: Any) -> bool:
         """Sends what isn't the manager's; gives whether the comm is open, without which nothing goes out."""
-        try:
-            outcome = self._manager.send(comm_id, NOTHING)
-        except Exception as error:
-            outcome = self._after(error, [])
-        if outcome.reply is not DELIVERED and not self._is_open(kind, outcome):
+        if self._manager.target(comm_id) is None:
             return False
         self.send(kind, comm_id, content, metadata, buffers, parent)
         return True

@@ -25,12 +25,12 @@ class LastWord:
 
     def __init__(self, calls: Calls, turns: Turns, pack: Pack, request: Callable[[], Any], log: logging.Logger) -> None:
         self._calls, self._turns, self._pack, self._request, self._log = calls, turns, pack, request, log
-        self._end = functools.partial(turns.call, calls.end_watch)
+        self.end = functools.partial(turns.call, calls.end_watch)
 
     def watch(self, comm_id: str) -> Watch:
         """A context for callbacks to run in. Once it is begun, what the kernel says of the comm's state counts as what
         the manager has. When they are through nobody changes any more the buffers that they were handed."""
-        return Watch(comm_id, self._end)
+        return Watch(comm_id, self.end)
 
     def say(self, comm: Comm, watch: Watch, keys: Iterable[str] | None = None) -> None:
         """What the widget holds of the keys, or of all, goes to the manager and to every frontend where it isn't what

@@ -31,6 +31,7 @@ class Publisher:
     ) -> None:
         self._comms, self._calls, self._turns, self._pack = comms, calls, turns, pack
         self._last_word, self._request, self._log, self._forks = last_word, request, log, _process.forks
+        self._open_comms = calls.open_comms
 
     def publish(
         self, comm: Any, msg_type: str, data: Any = None, metadata: Any = None, buffers: Any = None, **keys: Any
@@ -43,10 +44,13 @@ class Publisher:
             return
         comm_id, parent = comm.comm_id, self._request()  # an attribute of traitlets', which is looked up but once
         if msg_type == "comm_msg" and isinstance(data, dict) and data.get("method") == "update":
-            if (self._calls.open_comms.get(comm_id) or comm.target_name) == WIDGET:
-                self._publish_update(comm, comm_id, data, metadata, buffers, parent)
+            if (self._open_comms.get(comm_id) or comm.target_name) == WIDGET:
+                paths = old_widgets.paths_of(data) if comm_id in self._calls.old else data.get("buffer_paths")
+                update = update_of(data.get("state"), paths, buffers, self._pack)
+                self._turns.call_in_turn(self._push, comm, comm_id, update, parent, metadata)
                 return
-        data, metadata, buffers = {} if data is None else data, dict(metadata or {}), list(buffers or ())
+        data, metadata = {} if data is None else data, dict(metadata) if metadata else {}
+        buffers = list(buffers) if buffers else []
         if msg_type == "comm_open":
             self._publish_open(comm, data, keys, metadata, buffers, parent)
             return
@@ -55,13 +59,6 @@ class Publisher:
             self._turns.call_soon(self._close, comm, comm_id, content, metadata, buffers, parent)
         else:
             self._turns.call_in_turn(self._say, comm, msg_type, comm_id, content, metadata, buffers, parent)
-
-    def _publish_update(
-        self, comm: Comm, comm_id: str, data: dict[str, Any], metadata: Any, buffers: Any, parent: Any
-    ) -> None:
-        paths = old_widgets.paths_of(data) if comm_id in self._calls.old else data.get("buffer_paths")
-        update = update_of(data.get("state"), paths, buffers, self._pack)
-        self._turns.call_in_turn(self._push, comm, comm_id, update, parent, metadata)
 
     def _push(self, comm: Comm, comm_id: str, update: Update, parent: Any, metadata: Any) -> None:
         is_anothers = self._comms.get(comm_id, comm) is not comm

@@ -10,7 +10,8 @@ from rolgunai import Outcome, _widgets, old_widgets
 from rolgunai._calls import DELIVERED, Calls, Pack
 from rolgunai._kernel import NOT_PLAYABLE, Comm, Message
 from rolgunai._last_word import LastWord
-from rolgunai._native import Turns
+from rolgunai._native import Turns, copied
+from rolgunai._update import Parts, roots_of
 from rolgunai._watches import Watch
 
 Data = dict[str, Any]
@@ -33,50 +34,81 @@ class WidgetMessages:
     ) -> None:
         self._calls, self._turns, self._last_word, self._pack = calls, turns, last_word, pack
         self._hearing, self._deliver, self._log = hearing, hearing.deliver, log
+        self._old, self._end = calls.old, last_word.end
 
     def hear(self, comm: Comm, msg: Message, content: Data, data: Data) -> None:
         """Hears a `comm_msg` with this content and data."""
-        said = old_widgets.from_frontend(data)
-        method = said.get("method")
-        if method == "update":
-            self._update(comm, msg, content, data, said)
-        elif method == "request_state":
+        method = data.get("method")
+        if method == "request_state":
             self._state_request(comm, msg, content)
+        elif method == "update":
+            self._hear_update(comm, msg, content, data.get("state"), data.get("buffer_paths") or ())
+        elif method == "backbone":
+            state, paths = old_widgets.update_of(data)
+            content = {**content, "data": {"method": "update", "state": state, "buffer_paths": paths}}
+            self._hear_update(comm, msg, content, state, paths)
         else:
-            played = content if said is data else {**content, "data": said}
-            if self._hearing.heard("comm_msg", msg, played, ()) is not None:
-                self._deliver(comm, msg)
+            self._hear_other(comm, msg, content, ())
 
-    def _update(self, comm: Comm, msg: Message, content: Data, data: Data, said: Data) -> None:
-        comm_id, buffers = content["comm_id"], msg.get("buffers") or ()
-        watch = self._last_word.watch(comm_id)
-        known = self._calls.watches.keys.get(comm_id)
-        if known is None or not _widgets.has_each(known, said):
-            watch.keys = known = _widgets.keys_of(comm)
-            if known is not None:
-                said, buffers = _widgets.known_part(said, buffers, known)
-        played = content if said is data else {**content, "data": said}
-        with watch:
-            if not self._is_taken(watch, msg, played, buffers):
+    def _hear_other(self, comm: Comm, msg: Message, content: Data, buffers: Any) -> None:
+        if self._hearing.heard("comm_msg", msg, content, buffers) is not None:
+            self._deliver(comm, msg)
+
+    def _hear_update(self, comm: Comm, msg: Message, content: Data, state: Any, paths: Any) -> None:
+        """Hears an update that isn't a plain one: the widget is asked for its keys."""
+        buffers = msg.get("buffers") or ()
+        if not (isinstance(state, dict) and isinstance(paths, (list, tuple))):
+            # One that has no state tells nothing, and what is none is refused.
+            self._hear_other(comm, msg, content, buffers)
+            return
+        keys = _widgets.keys_of(comm)
+        if keys is not None:
+            state, paths, buffers = _widgets.known_part(state, paths, buffers, keys)
+        comm_id = content["comm_id"]
+        try:
+            held = copied(state)
+            text = self._pack({**content, "data": {"method": "update", "state": state, "buffer_paths": paths}})
+        except NOT_PLAYABLE as error:
+            self._log.warning("comm_msg: %s", error)
+            return
+        self.update(comm, msg, comm_id, text, held, (paths, roots_of(paths), buffers), keys)
+
+    def update(
+        self,
+        comm: Comm,
+        msg: Message,
+        comm_id: str,
+        text: bytes,
+        held: Data,
+        parts: Parts | None,
+        keys: frozenset[str] | None = None,
+    ) -> None:
+        """Hears an update, of which `text` is the content and `held` a copy of its state. The widget has these keys,
+        where it was asked for them."""
+        watch = Watch(comm_id, self._end)
+        if keys is not None:
+            watch.keys = keys
+        try:
+            if not self._is_taken(watch, msg, text, held, parts):
                 return
-            told = list(watch.held)
-            if comm_id in self._calls.old:
-                heard = old_widgets.to_kernel(data)
-                msg = msg if heard is data else {**msg, "content": {**content, "data": heard}}
+            told = [*held]
+            if comm_id in self._old:
+                msg = old_widgets.for_kernel(msg)
             self._deliver(comm, msg)
             if watch.is_crossed:  # an echo of ipywidgets' may have gone out after what another thread said
                 watch.held = {}
             self._last_word.say(comm, watch, told)
+        finally:
+            self._end(watch)
 
-    def _is_taken(self, watch: Watch, msg: Message, content: Data, buffers: Any) -> bool:
-        """Plays an update with this content; gives whether the manager takes it. The watch begins with it."""
+    def _is_taken(self, watch: Watch, msg: Message, text: bytes, held: Data, parts: Parts | None) -> bool:
+        """Plays an update; gives whether the manager takes it. The watch begins with it."""
         try:
-            text = self._pack(content)
-            outcome = self._turns.call(self._calls.hear_update, watch, msg, content, text, buffers)
+            outcome = self._turns.call(self._calls.hear_update, watch, msg, text, held, parts)
         except NOT_PLAYABLE as error:
             self._log.warning("comm_msg: %s", error)
             return False
-        return outcome.reply is DELIVERED or self._hearing.is_done("comm_msg", content, outcome)
+        return outcome is None or self._hearing.is_done("comm_msg", {"comm_id": watch.comm_id}, outcome)
 
     def _state_request(self, comm: Comm, msg: Message, content: Data) -> None:
         """The widget answers, as it does in ipywidgets, and so has a say in what of it goes out. Where it says nothing

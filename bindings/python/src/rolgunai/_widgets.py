@@ -39,60 +39,29 @@ def keys_of(comm: Any) -> Keys | None:
     return shared if shared == keys else keys
 
 
-def has_each(known: Keys, update: Data) -> bool:
-    """Whether all keys of an update, which has no buffers, are among these, as nearly each's are."""
-    state = update.get("state")
-    return isinstance(state, dict) and not update.get("buffer_paths") and known.issuperset(state)
-
-
-def known_part(update: Data, buffers: Sequence[Any], known: Keys) -> tuple[Data, Sequence[Any]]:
-    """An update with those keys alone that the widget has, as ipywidgets takes it: the manager is told of no other."""
-    state, paths = update.get("state"), update.get("buffer_paths") or []
-    if not isinstance(state, dict) or not isinstance(paths, list):
-        return update, buffers
+def known_part(
+    state: Data, paths: Sequence[Any], buffers: Sequence[Any], known: Keys
+) -> tuple[Data, Sequence[Any], Sequence[Any]]:
+    """An update's state, paths and buffers with those keys alone that the widget has, as ipywidgets takes it: the
+    manager is told of no other."""
     strange = [path for path in paths if isinstance(path, list) and _is_strange(path, known)]
-    if not strange and known.issuperset(state):
-        return update, buffers
     state = {key: value for key, value in state.items() if key in known}
     buffers = [buffer for place, buffer in enumerate(buffers) if place >= len(paths) or paths[place] not in strange]
-    return {**update, "state": state, "buffer_paths": [path for path in paths if path not in strange]}, buffers
+    return state, [path for path in paths if path not in strange], buffers
 
 
 def _is_strange(path: list[Any], known: Keys) -> bool:
     return bool(path) and isinstance(path[0], str) and path[0] not in known
 
 
-def copied(value: Any) -> Any:
-    """A value that stays as it is, whatever Python does with the lists and dicts of the one that it was made of."""
-    if isinstance(value, dict):
-        return {key: item if type(item) in _PLAIN else copied(item) for key, item in value.items()}
-    if isinstance(value, (list, tuple)):
-        return [item if type(item) in _PLAIN else copied(item) for item in value]
-    return value
-
-
-def _copy_of(state: Data) -> Data:
-    return dict(state) if _PLAIN.issuperset(map(type, state.values())) else copied(state)  # type: ignore[no-any-return]
-
-
 def placed(state: Data, paths: Iterable[list[Any]], buffers: Iterable[Any]) -> Data:
-    """A copy of a state, with its buffers at their paths."""
-    state = _copy_of(state)
+    """The state itself, with its buffers at their paths."""
     for path, buffer in zip(paths, buffers):
         at: Any = state
         for step in path[:-1]:
             at = at[step]
         at[path[-1]] = buffer
     return state
-
-
-def state_of(data: Data, buffers: Iterable[Any]) -> Data:
-    """A copy of the state that the data of an open or an update have, with its buffers. The manager takes nothing of
-    data without one."""
-    state = data.get("state")
-    if state is None:
-        return {}
-    return placed(state, data.get("buffer_paths") or (), buffers) if buffers else _copy_of(state)
 
 
 def separated(value: Any, path: list[Any], paths: list[list[Any]], buffers: list[Any]) -> Any:

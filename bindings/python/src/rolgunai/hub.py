@@ -69,7 +69,7 @@ from rolgunai._callbacks import Callbacks
 from rolgunai._calls import CLOSED, DONE, NO_COMM, NOTHING, OPENED, Calls, Pack
 from rolgunai._kernel import NOT_PLAYABLE, WIDGET, Comm, CommRefused, Message, Send
 from rolgunai._last_word import LastWord
-from rolgunai._native import Turns
+from rolgunai._native import Turns, read_update
 from rolgunai._page_loads import PageLoads, asks_for_states
 from rolgunai._publisher import VERSION, Publisher
 from rolgunai._watches import Watch
@@ -118,10 +118,12 @@ class Hub:
         self._callbacks = Callbacks(self._comm_log)
         self._turns, self._pid = Turns(self._failed_later), os.getpid()
         self._calls = Calls(send, self._turns, self._pack, lambda: self.targets, is_old_browser)
+        self._open_comms, self._keys = self._calls.open_comms, self._calls.watches.keys
         self._last_word = LastWord(self._calls, self._turns, self._pack, request, self.log)
         self._page_loads = PageLoads(self._calls, self._turns, self._last_word, self._pack)
         hearing = Hearing(self._heard, self._is_done, self._callbacks.heard)
         self._widget_messages = WidgetMessages(self._calls, self._turns, self._last_word, self._pack, hearing, self.log)
+        self._hear_update = self._widget_messages.update
         # What is done, under the lock, for each kind of a frontend's messages.
         self._hearing: dict[str, Callable[..., Outcome]] = {
             "comm_open": self._hear_open,
@@ -271,13 +273,23 @@ class Hub:
                 self._last_word.say(comm, watch)
 
     def _comm_msg(self, msg: Message) -> None:
+        update = read_update(msg, self._open_comms, self._keys)
+        if update is not None:
+            comm_id, text, held, parts = update
+            comm = self.comms.get(comm_id)
+            if comm is not None:
+                self._hear_update(comm, msg, comm_id, text, held, parts)
+                return
+        self._comm_msg_of_any_kind(msg)
+
+    def _comm_msg_of_any_kind(self, msg: Message) -> None:
         content = _object(msg.get("content"))
         comm, data = self._comm_of(content), content.get("data")
         if comm is None:
             self._heard("comm_msg", msg, content, msg.get("buffers"))
             return
         comm_id = content["comm_id"]
-        if (self._calls.open_comms.get(comm_id) or self._opened_by_hand(comm)) == WIDGET:
+        if (self._open_comms.get(comm_id) or self._opened_by_hand(comm)) == WIDGET:
             if isinstance(data, dict):
                 self._widget_messages.hear(comm, msg, content, data)
             else:

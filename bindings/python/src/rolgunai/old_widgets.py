@@ -46,14 +46,18 @@ def to_kernel(data: Data) -> Data:
     return {"method": "backbone", "sync_data": data.get("state"), "buffer_keys": keys}
 
 
-def from_frontend(data: Data) -> Data:
-    """What a frontend says in version 1, in version 2."""
-    if data.get("method") != "backbone":
-        return data
-    paths = data.get("buffer_keys") or []
-    if paths and isinstance(paths, list):
-        paths = [[key] for key in paths]
-    return {"method": "update", "state": data.get("sync_data"), "buffer_paths": paths}
+def for_kernel(msg: dict[str, Any]) -> dict[str, Any]:
+    """A message of a frontend's as Python hears it in version 1."""
+    content = msg["content"]
+    data = content["data"]
+    heard = to_kernel(data)
+    return msg if heard is data else {**msg, "content": {**content, "data": heard}}
+
+
+def update_of(data: Data) -> tuple[Any, Any]:
+    """The state, and the paths of its buffers, that a frontend says in version 1."""
+    keys = data.get("buffer_keys") or ()
+    return data.get("sync_data"), [[key] for key in keys] if keys and isinstance(keys, list) else keys
 
 
 def to_frontend(content: bytes) -> bytes:
