@@ -1,9 +1,11 @@
 """JupyterLab of a tree that fetch_newer filled, on loopback, and its pages in headless chromium by selenium."""
 
+import ast
 import contextlib
 import json
 import os
 import pathlib
+import re
 import shutil
 import socket
 import subprocess
@@ -16,7 +18,8 @@ from selenium.webdriver.chrome.service import Service
 
 import browser
 
-SECONDS, WAITS = 600, 60  # a machine may be busy with proofs
+SECONDS, ANSWERS, WAITS = 600, 180, 60  # a machine may be busy with proofs
+SIZE, PICTURE = (1100, 800), (940, 690)  # of windows
 HANDLES, READOUTS = ".jp-OutputArea .noUi-handle", ".jp-OutputArea .widget-readout"
 KERNEL = "window.jupyterapp?.shell.currentWidget?.sessionContext?.session?.kernel"
 RUNS = f"""
@@ -30,10 +33,19 @@ DOES = """
     const done = arguments[1];
     window.jupyterapp.commands.execute(arguments[0]).then(() => done(""), error => done(String(error)));
 """
+NOTEBOOKS_WIDGETS = "usr/share/jupyter/nbextensions/jupyter-js-widgets/extension.js"
+STYLES = re.compile(r'/css/[\w-]+\.css"\][^\[]*\[\][^\[]*sourcesContent:\[("(?:[^"\\]|\\.)*"|\'(?:[^\'\\]|\\.)*\')')
+NEWS = {"disabledExtensions": {"@jupyterlab/apputils-extension:announcements": True}}
 
 
 def until(what, call, seconds=SECONDS):
     return browser.until(what, call, seconds)
+
+
+def styles(tree):
+    """The widgets' styles: Debian's jupyterlab_widgets is built without, and a slider that has none can't be moved."""
+    words = (pathlib.Path(tree) / NOTEBOOKS_WIDGETS).read_text()
+    return "\n".join(ast.literal_eval(found) for found in STYLES.findall(words))
 
 
 class Server:
@@ -45,8 +57,12 @@ class Server:
             free.bind(("127.0.0.1", 0))
             self.port = free.getsockname()[1]
         home = {"HOME": str(self.folder), "JUPYTER_DATA_DIR": str(self.folder / "data"), "PYTHONPATH": package}
-        environment = {**os.environ, **home, "IPYTHONDIR": str(self.folder / "ipython")}
+        home |= {"JUPYTER_CONFIG_DIR": str(self.folder / "config"), "IPYTHONDIR": str(self.folder / "ipython")}
+        environment = {**os.environ, **home}
         environment.pop("ROLGUNAI_BROWSER_PROTOCOL", None)
+        for name, words in (("custom/custom.css", styles(tree)), ("labconfig/page_config.json", json.dumps(NEWS))):
+            (self.folder / "config" / name).parent.mkdir(parents=True)
+            (self.folder / "config" / name).write_text(words)
         (self.folder / "notebooks").mkdir()
         for kernel, module in (("python3", "ipykernel"), ("rolgunai", "rolgunai.kernel")):
             words = [tree + "/python3", "-B", "-m", module, "install", "--user"]
@@ -56,6 +72,7 @@ class Server:
         settings |= {"ServerApp.root_dir": self.folder / "notebooks", "ServerApp.allow_root": True}
         settings |= {"ServerApp.open_browser": False, "IdentityProvider.token": ""}
         settings |= {"ServerApp.disable_check_xsrf": True, "LabApp.expose_app_in_browser": True}
+        settings |= {"LabApp.custom_css": True}
         words = [tree + "/python3", "-B", "-m", "jupyterlab", *(f"--{key}={value}" for key, value in settings.items())]
         self.log = open(self.folder / "log", "w")
         self.process = subprocess.Popen(words, env=environment, stdout=self.log, stderr=self.log)
@@ -95,11 +112,11 @@ class Page:
         options = webdriver.ChromeOptions()
         for word in ("--headless=new", "--no-sandbox", "--disable-gpu", "--disable-dev-shm-usage"):
             options.add_argument(word)
-        options.add_argument("--window-size=1100,800")
+        options.add_argument("--window-size={},{}".format(*SIZE))
         options.binary_location = shutil.which("chromium")
         options.set_capability("goog:loggingPrefs", {"browser": "ALL"})
         self.driver = webdriver.Chrome(service=Service(shutil.which("chromedriver")), options=options)
-        self.driver.set_script_timeout(SECONDS)
+        self.driver.set_script_timeout(ANSWERS)
         self.open(address)
 
     def script(self, words, *values):
@@ -162,12 +179,18 @@ class Page:
         return (text() or [None])[0]
 
     def errors(self):
-        """The errors of the page's scripts."""
-        return [entry["message"] for entry in self.driver.get_log("browser") if entry["level"] == "SEVERE"]
+        """The errors of the page's scripts. JupyterLab asks for a server of languages, which isn't here."""
+        told = [entry["message"] for entry in self.driver.get_log("browser") if entry["level"] == "SEVERE"]
+        return [message for message in told if "/lsp/status" not in message]
 
     def picture(self):
+        """Writes a picture of the notebook alone."""
         if self.file:
+            self.do("application:toggle-left-area")
+            self.driver.set_window_size(*PICTURE)
+            time.sleep(2)  # for the page to settle
             self.driver.save_screenshot(self.file)
+            self.driver.set_window_size(*SIZE)
 
     def close(self):
         self.driver.quit()

@@ -21,7 +21,7 @@ class Page:
     def __init__(self, kernel, **environment):
         self.front = Frontend(kernel, **environment)
         self.client = self.front.client
-        self.subshell, self.seen = None, []
+        self.subshell, self.seen, self.early = None, [], {}
         told = self.asked("kernel_info_request", self.client.shell_channel, self.client.get_shell_msg)
         if "kernel subshells" in told.get("supported_features", ()):
             made = self.asked("create_subshell_request", self.client.control_channel, self.client.get_control_msg)
@@ -37,14 +37,14 @@ class Page:
         return self.reply(message["header"]["msg_id"], get)
 
     def reply(self, message_id, get=None):
-        """The content of a reply; others that come before it are let go."""
-        while True:
+        """The content of a reply; others that come before it are kept: what runs beside it may be through earlier."""
+        while message_id not in self.early:
             try:
                 came = (get or self.client.get_shell_msg)(timeout=SECONDS)
             except queue.Empty:
                 raise Stopped("no reply came") from None
-            if came["parent_header"].get("msg_id") == message_id:
-                return came["content"]
+            self.early[came["parent_header"].get("msg_id")] = came["content"]
+        return self.early.pop(message_id)
 
     def replies(self, wanted, seconds):
         """How many of the requests are answered. No longer is waited where nothing comes for some seconds."""

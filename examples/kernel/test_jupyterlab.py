@@ -16,6 +16,7 @@ import sys
 import tempfile
 import time
 import traceback
+from typing import NamedTuple
 
 from checks import check, counted
 
@@ -29,8 +30,10 @@ display(slider, part)
 """,
     """
 # It computes until the slider was moved twice meanwhile.
-ends, seen = time.monotonic() + 60, []
-slider.observe(lambda change: seen.append((change["new"], threading.current_thread().name[:8])), "value")
+seen, ends = [], time.monotonic() + 60
+def moved(change):
+    seen.append((change["new"], threading.current_thread().name[:8]))
+slider.observe(moved, "value")
 while len(seen) < 2 and time.monotonic() < ends:
     sum(range(100_000))
 print(*seen)
@@ -38,23 +41,37 @@ print(*seen)
 )
 MANY = """
 import collections
-asked = collections.Counter()
-handler = get_ipython().kernel.shell_handlers["comm_msg"]
+asked, kernel = collections.Counter(), get_ipython().kernel
+handler, send = kernel.shell_handlers["comm_msg"], kernel.session.send
 def counts(stream, ident, message):
     data = message["content"].get("data")
     asked[data.get("method") if isinstance(data, dict) else None] += 1
     return handler(stream, ident, message)
-get_ipython().kernel.shell_handlers["comm_msg"] = counts
+def sends(stream, kind, content=None, *words, **keys):
+    asked["answers"] += kind == "comm_msg" and "update_states" in str(content)[:200]
+    return send(stream, kind, content, *words, **keys)
+kernel.shell_handlers["comm_msg"], kernel.session.send = counts, sends
 many, going = [ipywidgets.IntSlider(at) for at in range(100)], True
 def work():
     while going:
         bar = ipywidgets.IntProgress(1)
-        time.sleep(0.01)
+        time.sleep(0.02)
         bar.close(); bar.layout.close(); bar.style.close()
 worker = threading.Thread(target=work)
 worker.start()
 """
-AWAITS = 40  # JupyterLab waits 4 seconds for all states; then it asks for them one by one
+LOADS = 3
+AWAITS = 120  # JupyterLab waits 4 seconds for all states; then it asks for them one by one
+
+
+class Load(NamedTuple):
+    """In how many seconds a slider was back, or None; how often the page asked for all states, how often it was told
+    them, and for how many it asked one by one."""
+
+    seconds: float
+    asked: int
+    told: int
+    one_by_one: int
 
 
 def missing():
@@ -66,23 +83,24 @@ def missing():
 
 
 def loaded_again(page, address):
-    """Seconds from the kernel's connection until the slider is back, or None; and what the page asked for."""
+    """Loads the page, and looks from when it is connected with the kernel."""
     page.run("asked.clear()")
     page.open(address)
     began = time.monotonic()
-    while not page.handles() and time.monotonic() < began + AWAITS:
+    while not (is_back := page.handles()) and time.monotonic() < began + AWAITS:
         time.sleep(0.05)
-    took = round(time.monotonic() - began, 1) if page.handles() else None
-    return took, page.run("print(asked['request_states'], asked['request_state'])").split()
+    took = round(time.monotonic() - began, 1) if is_back else None
+    said = page.run("print(asked['request_states'], asked['answers'], asked['request_state'])")
+    return Load(took, *map(int, said.split()))
 
 
-def loads(page, address):
-    """Loads the page three times while the kernel makes widgets."""
+def loads(page, address, found):
+    """Loads the page again and again while the kernel makes widgets, and adds what is found."""
     page.do("docmanager:save")
     page.run(MANY)
-    found = [loaded_again(page, address) for _ in range(3)]
+    while len(found) < LOADS:
+        found.append(loaded_again(page, address))
     page.run("going = False; worker.join()")
-    return found
 
 
 def steps(page, server, kernel):
@@ -117,16 +135,20 @@ def steps(page, server, kernel):
 
 
 def played(server, kernel, picture):
-    """Plays the steps over a kernel, and checks each; gives the loads of the page."""
+    """Plays the steps over a kernel, and checks each; gives the loads of the page. The stock one of ipykernel 7.2 at
+    times stops answering amid this."""
     from lab import Page
+    from selenium.common.exceptions import WebDriverException
 
-    page, found = Page(server.address(kernel), picture), []
+    page, found = Page(server.address(kernel, "?reset"), picture), []  # with no tabs of another page
+    stops = () if kernel == "rolgunai" else (TimeoutError, WebDriverException)
     try:
-        page.rest()
-        for name, got, wanted in steps(page, server, kernel):
-            check(f"{kernel}: {name}", got, wanted)
-        found = loads(page, server.address(kernel))
-        check(f"{kernel}: no error on the page", page.errors(), [])
+        with contextlib.suppress(*stops):
+            page.rest()
+            for name, got, wanted in steps(page, server, kernel):
+                check(f"{kernel}: {name}", got, wanted)
+            check(f"{kernel}: no error on the page", page.errors(), [])
+            loads(page, server.address(kernel), found)
     except Exception:
         check(f"{kernel}: no error", traceback.format_exc(), None)
     page.close()
@@ -144,10 +166,12 @@ def main(*words):
     with tempfile.TemporaryDirectory(ignore_cleanup_errors=True) as folder:
         with contextlib.closing(Server(tree, folder, CELLS, os.environ["ROLGUNAI_PACKAGE"])) as server:
             stock, proved = played(server, "python3", None), played(server, "rolgunai", picture)
-    print("the slider is back, in seconds, and how often all states and one were asked for: stock", stock, "here", proved)
-    # Who isn't told all states asks for each: 306 widgets and more.
-    check("loads that ask for each state", [asks for _, (_, asks) in proved if int(asks) > 10], [])
-    check("loads that bring the slider back", [took for took, _ in proved if took is None], [])
+    for kernel, found in (("python3", stock), ("rolgunai", proved)):
+        stopped = "and the kernel stopped answering" if len(found) < LOADS else ""
+        print(f"{kernel}: the page loaded beside a thread that makes widgets:", *found, stopped)
+    check("loads that aren't told all states", [load for load in proved if not load.told >= load.asked > 0], [])
+    check("loads that bring no slider back", [load for load in proved if load.seconds is None], [])
+    check("loads", len(proved), LOADS)
     return counted()
 
 
