@@ -1,6 +1,7 @@
 """What the tests share. The last line that they write is 'N passed, M failed', and the status is 1 where one failed."""
 
 import traceback
+from concurrent.futures import ThreadPoolExecutor
 
 passed = failed = 0
 
@@ -39,3 +40,10 @@ def run(*parts):
             print(f"FAILED: {part.__name__}\n{traceback.format_exc()}")
     print(f"{passed} passed, {failed} failed")
     return failed != 0
+
+
+def run_at_once(*calls, at_once=4):
+    """The same for calls that give rows, each what `check` takes, as many calls at once. Gives the status."""
+    with ThreadPoolExecutor(at_once) as pool:
+        found = [pool.submit(lambda call=call: list(call())) for call in calls]
+        return run(*[lambda rows=rows: [check(*row) for row in rows.result()] for rows in found])

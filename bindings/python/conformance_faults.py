@@ -13,7 +13,6 @@ from rolgunai.conformance.frontend import Message
 
 ECHO = "conformance.echo"
 FAULTS = {}
-ERRORS = os.dup(2)  # as it is before ipykernel has a thread between
 BEFORE_PARSING = {"deep_hangs": b"[" * 1000, "unknown_type_hangs": b"comm_conformance"}
 
 
@@ -40,13 +39,15 @@ def named(name):
 
 
 def before_parsing(kernel, frames):
-    """The faults that a message brings about before it is read: no comm answers any more."""
+    """The faults that a message brings about before it is read: no comm answers any more, or all is slow."""
+    if kernel.fault is FAULTS["slow"]:
+        time.sleep(0.3)
     for name, part in BEFORE_PARSING.items():
         if kernel.fault is FAULTS.get(name) and any(part in frame for frame in frames):
             kernel.comms.dead = True
 
 
-for _name in (*BEFORE_PARSING, "no_status"):
+for _name in (*BEFORE_PARSING, "no_status", "slow"):
     FAULTS[_name] = lambda kernel, call, answer: answer()
 
 
@@ -362,10 +363,19 @@ def drops_some(kernel, call, answer):
 
 
 @fault
+def slow_iopub(kernel, call, answer):
+    """This, the next two and `slow` are no scenario's, but of the suite's own tests: iopub stands still for a while."""
+    kernel.count = getattr(kernel, "count", 0) + 1
+    if kernel.count == 10:
+        kernel.iopub_thread.schedule(lambda: time.sleep(2))
+    return answer()
+
+
+@fault
 def kernel_ends(kernel, call, answer):
-    """This and the next are no scenario's, but of the suite's own tests: the kernel ends, with a last word."""
+    """With a last word."""
     if call["kind"] == "comm_open":
-        os.write(ERRORS, b"Traceback\nNoMoreError: as the test wants it\n")
+        os.write(2, b"Traceback\nNoMoreError: as the test wants it\n")
         os._exit(3)
     return answer()
 

@@ -12,6 +12,7 @@ sys.path.insert(0, sys.argv.pop(1))
 
 from ipykernel.kernelapp import IPKernelApp
 from ipykernel.kernelbase import Kernel
+from tornado.ioloop import IOLoop
 
 from conformance_faults import FAULTS, before_parsing, works
 from rolgunai import Kind
@@ -95,6 +96,12 @@ class BrokenKernel(Kernel):
         before_parsing(self, [bytes(frame) for frame in msg])
         await super().dispatch_shell(msg)
 
+    async def process_control(self, msg):
+        if self.fault is FAULTS["slow"]:
+            IOLoop.current().call_later(2, super().process_control, msg)
+        else:
+            await super().process_control(msg)
+
     def _publish_status(self, status, channel, parent=None):
         kind = (parent or self.get_parent(channel)).get("header", {}).get("msg_type", "")
         if self.fault is not FAULTS["no_status"] or not kind.startswith("comm_"):
@@ -163,5 +170,14 @@ class BrokenKernel(Kernel):
         self.send_response(self.iopub_socket, "stream", {"name": "stdout", "text": text + "\n"})
 
 
+class App(IPKernelApp):
+    capture_fd_output = False
+
+    def init_io(self):
+        """What is printed doesn't go to the frontend, and so no call waits until all before it has gone."""
+        super().init_io()
+        self.reset_io()
+
+
 if __name__ == "__main__":
-    IPKernelApp.launch_instance(kernel_class=BrokenKernel)
+    App.launch_instance(kernel_class=BrokenKernel)

@@ -38,7 +38,12 @@ BAD_TEXTS = [
     ("no such channel", HEAD + "> stdin comm_msg {}\n< nothing"),
     ("no such word", HEAD + "> shell comm_msg {}\n< something"),
 ]
-
+# kernels that are slow, a scenario, and what comes of it
+SLOW = [
+    ("slow", "info_control", CHOICE, "comm_info on control: answered there (as ipykernel, and the proved manager in it "
+     "and in xeus)"),
+    ("slow_iopub", "storm", PASSED),
+]  # fmt: skip
 
 COMMANDS = {
     "broken": ["-B", str(HERE / "conformance_kernel.py"), sys.argv[1]],
@@ -66,18 +71,23 @@ def player(name, **keys):
 
 def scenarios_and_faults():
     with player("broken", anew=False) as broken:
-        play_all(broken)
+        for scenario in scenarios():
+            broken.frontend.run("fault none")
+            result = broken.play(scenario)
+            yield f"{scenario.name}: {result.reasons}", result.outcome in (PASSED, CHOICE), True
+            for fault in scenario.fault:
+                broken.frontend.run(f"fault {fault}")
+                result = broken.play(scenario)
+                yield f"{scenario.name}, with the fault {fault}", result.outcome, FAILED
 
 
-def play_all(player):
-    for scenario in scenarios():
-        player.frontend.run("fault none")
-        result = player.play(scenario)
-        checks.check(f"{scenario.name}: {result.reasons}", result.outcome in (PASSED, CHOICE), True)
-        for fault in scenario.fault:
-            player.frontend.run(f"fault {fault}")
-            result = player.play(scenario)
-            checks.check(f"{scenario.name}, with the fault {fault}", result.outcome, FAILED)
+def slow_kernels():
+    """A kernel that is slow is no kernel that fails, nor one that lets a message go."""
+    with player("broken", anew=False) as slow:
+        for fault, name, *wanted in SLOW:
+            slow.frontend.run(f"fault {fault}")
+            result = slow.play(next(scenario for scenario in scenarios() if scenario.name == name))
+            yield f"{name}, with a kernel that is {fault}", [result.outcome, *result.reasons], wanted
 
 
 def known_failures():
@@ -95,23 +105,23 @@ def stock_kernel():
             result = stock.play(scenario)
             may = {True: [FAILED], False: [FAILED, PASSED, SKIPPED], None: [PASSED, CHOICE, SKIPPED]}
             said = f"the stock kernel, {scenario.name}: {result.reasons}"
-            checks.check(said, result.outcome in may[known.get(scenario.name)], True)
+            yield said, result.outcome in may[known.get(scenario.name)], True
 
 
 def proved_kernel():
     with player("proved") as proved:
         for scenario in scenarios():
             result = proved.play(scenario)
-            checks.check(f"the proved kernel, {scenario.name}: {result.reasons}", result.outcome != FAILED, True)
+            yield f"the proved kernel, {scenario.name}: {result.reasons}", result.outcome != FAILED, True
             may_skip = scenario.name == "storm_subshell" or scenario.group == "widgets" or "control" in scenario.needs
-            checks.check(f"it skips {scenario.name}: {result.reasons}", result.outcome != SKIPPED or may_skip, True)
+            yield f"it skips {scenario.name}: {result.reasons}", result.outcome != SKIPPED or may_skip, True
 
 
 def texts():
     for what, text in BAD_TEXTS:
-        checks.check(what, type(checks.raised(lambda text=text: parse("text", text))), ScenarioError)
+        yield what, type(checks.raised(lambda text=text: parse("text", text))), ScenarioError
 
 
 if __name__ == "__main__":
-    own = [] if sys.argv[2:] == ["--kernels"] else [texts, scenarios_and_faults]
-    sys.exit(checks.run(*own, stock_kernel, proved_kernel))
+    own = [] if sys.argv[2:] == ["--kernels"] else [texts, scenarios_and_faults, slow_kernels]
+    sys.exit(checks.run_at_once(*own, stock_kernel, proved_kernel))

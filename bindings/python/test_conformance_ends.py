@@ -102,7 +102,7 @@ def left_behind(folder):
 
 
 def run(what, words, status, said):
-    """Runs a module with some words in a new folder, and checks how it ends."""
+    """Runs a module with some words in a new folder. Gives how it ends, beside how it must."""
     with tempfile.TemporaryDirectory() as folder:
         kernels(folder)
         path = os.pathsep.join(filter(None, [sys.argv[1], os.environ.get("PYTHONPATH")]))
@@ -112,33 +112,30 @@ def run(what, words, status, said):
         begin = time.monotonic()
         ran = subprocess.run(command, capture_output=True, text=True, env=environment, cwd=folder, timeout=LIMIT)
         output = ran.stdout + ran.stderr
-        checks.check(f"{what}: the status after {time.monotonic() - begin:.1f} s: {output}", ran.returncode, status)
+        yield f"{what}: the status after {time.monotonic() - begin:.1f} s: {output}", ran.returncode, status
         for line in said:
-            checks.check(f"{what}: {line} in {output}", bool(re.search(line, output, re.MULTILINE)), True)
-        checks.check(f"{what}: a traceback of its own: {output}", "\nTraceback" in f"\n{output}", False)
-        checks.check(f"{what}: a kernel is left", left_behind(folder), [])
+            yield f"{what}: {line} in {output}", bool(re.search(line, output, re.MULTILINE)), True
+        yield f"{what}: a traceback of its own: {output}", "\nTraceback" in f"\n{output}", False
+        yield f"{what}: a kernel is left", left_behind(folder), []
         if "{folder}/report.json" in words:
             rows = json.loads((Path(folder) / "report.json").read_text())["scenarios"]
             names = [row["name"] for row in rows]
-            checks.check(f"{what}: the scenarios of the report", names, ["echo", "unknown_target"])
-            checks.check(f"{what}: the page", "unknown_target" in (Path(folder) / "report.html").read_text(), True)
+            yield f"{what}: the scenarios of the report", names, ["echo", "unknown_target"]
+            yield f"{what}: the page", "unknown_target" in (Path(folder) / "report.html").read_text(), True
 
 
-def by_itself():
+def calls():
     for what, words, status, said in ROWS:
         asked = [each for word in words.split() for each in (TWO if word == "--two" else [word])]
-        run(what, ["rolgunai.conformance", *asked], status, said)
-
-
-def by_pytest():
+        yield what, ["rolgunai.conformance", *asked], status, said
     if not importlib.util.find_spec("pytest"):
         print("skipped: the conformance suite by pytest: it isn't installed")
         return
     for what, kernel, cells, status, said in PYTEST:
         options = ["-p", "rolgunai.conformance.options", "-k", "opening/echo or opening/unknown_target]"]
         options += ["--pyargs", "rolgunai.conformance", "--kernel", kernel, "--cells", f"{{folder}}/{cells}.txt"]
-        run(what, ["pytest", "-q", *options], status, said)
+        yield what, ["pytest", "-q", *options], status, said
 
 
 if __name__ == "__main__":
-    sys.exit(checks.run(by_itself, by_pytest))
+    sys.exit(checks.run_at_once(*[lambda call=call: run(*call) for call in calls()]))

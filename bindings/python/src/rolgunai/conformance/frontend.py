@@ -15,7 +15,8 @@ from jupyter_client import KernelManager
 from jupyter_client.kernelspec import KernelSpecManager, NoSuchKernel
 
 Json = Any
-QUIET = 1.0  # seconds
+QUIET = 1.0  # seconds that an answer is waited for that needn't come, or TIMES what one took that had to
+TIMES = 10
 LAST_WORDS = 5  # lines of what a kernel that ended wrote
 
 
@@ -48,6 +49,10 @@ class Came:
 def content_of(message: Message) -> dict[str, Json]:
     """A message's content; none of an object's members where it isn't one."""
     return message.content if isinstance(message.content, dict) else {}
+
+
+def is_idle(message: Message) -> bool:
+    return message.kind == "status" and content_of(message).get("execution_state") == "idle"
 
 
 class Frontend:
@@ -92,6 +97,7 @@ class Frontend:
         Raises NotAnswering where it doesn't.
         """
         self.session = self.kernel.session
+        self.kernel.context.setsockopt(zmq.RCVHWM, 0)  # where a socket is full, kernels let messages go
         self.sockets = {
             "iopub": self.kernel.connect_iopub(),
             "shell": self.kernel.connect_shell(),
@@ -183,19 +189,32 @@ class Frontend:
 
     def gather(self, sent: list[str], channel: str) -> Came:
         """What came of messages that were sent on a channel, until the kernel has answered what is sent behind them. On
-        control, where a kernel needn't take kernel_info_request, it has a second for them, and is asked on shell.
+        control, where a kernel needn't take kernel_info_request, it is asked on shell, and they have as long once more.
 
         Raises NotAnswering where it doesn't answer.
         """
-        came, replied, idle = Came(), False, False
-        quiet = time.monotonic() + (QUIET if channel == "control" else 0)
-        while time.monotonic() < quiet and sum(message.channel == channel for message in came.messages) < len(sent):
-            for message in self.receive(0.1):
-                self.take(message, sent, came)
-        probe = self.send("shell", "kernel_info_request", b"{}")
+        came = Came()
+        patience = self.settle(sent, came)
+        if channel == "control":
+            end = time.monotonic() + patience
+            while time.monotonic() < end and sum(message.channel == channel for message in came.messages) < len(sent):
+                for message in self.receive(0.1):
+                    self.take(message, sent, came)
+            self.settle(sent, came)
+        return came
+
+    def settle(self, sent: list[str], came: Came) -> float:
+        """Takes what comes until the kernel has answered on shell, with its idle. Gives how many seconds it is to have
+        for an answer that needn't come: a kernel that is slow has more.
+
+        Raises NotAnswering where it doesn't answer.
+        """
+        replied = idle = False
         last = begin = time.monotonic()
+        probe = self.send("shell", "kernel_info_request", b"{}")
         while not (replied and idle):
-            got, now = self.receive(0.1), time.monotonic()
+            now = time.monotonic()  # before the look, so that what came while this process stood still counts
+            got = self.receive(0.1)
             last = now if got else last
             silent = now > last + self.timeout or not got and not self.kernel.is_alive()
             if silent or now > begin + 4 * self.timeout:
@@ -203,10 +222,10 @@ class Frontend:
             for message in got:
                 if message.parent == probe:
                     replied = replied or message.channel != "iopub"
-                    idle = idle or message.kind == "status" and content_of(message).get("execution_state") == "idle"
+                    idle = idle or is_idle(message)
                 else:
                     self.take(message, sent, came)
-        return came
+        return max(QUIET, TIMES * (time.monotonic() - begin))
 
     def why_not(self, replied: bool, seconds: float) -> str:
         """Why it is given up on: what it wrote last where it ended, or what is missing of its answer."""

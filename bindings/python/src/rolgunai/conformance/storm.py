@@ -9,7 +9,7 @@ from collections import Counter
 from collections.abc import Iterator
 from typing import Any
 
-from rolgunai.conformance.frontend import QUIET, Frontend, NotAnswering, content_of
+from rolgunai.conformance.frontend import Came, Frontend, NotAnswering, content_of, is_idle
 
 Json = Any
 AHEAD = 20  # echoes that are asked for and haven't come
@@ -24,7 +24,7 @@ class Storm:
         self.requests: dict[str, str] = {}
         self.replies: Counter[str] = Counter()
         self.sent = 0
-        self.last: set[str] = set()  # requests behind all others
+        self.last: set[tuple[str, bool]] = set()  # requests behind all others: their replies, and the idle of shell's
         self.asked = [("shell", "comm_info_request", header), ("control", "kernel_info_request", {})]
 
     def under_way(self) -> int:
@@ -39,9 +39,10 @@ class Storm:
             self.requests[self.frontend.send(channel, kind, b"{}", **header)] = f"{kind} on {channel}"
 
     def send_last(self) -> None:
-        """Asks behind all that was sent: what hasn't come soon after these replies is lost."""
+        """Asks behind all that was sent: what hasn't come soon after this is answered is lost."""
         for channel, _, header in self.asked:
-            self.last.add(self.frontend.send(channel, "kernel_info_request", b"{}", **header))
+            sent = self.frontend.send(channel, "kernel_info_request", b"{}", **header)
+            self.last |= {(sent, False), (sent, True)} if channel == "shell" else {(sent, False)}
 
     def receive(self, seconds: float) -> bool:
         came = self.frontend.receive(seconds)
@@ -50,8 +51,8 @@ class Storm:
             data = content.get("data")
             if message.parent in self.requests and message.channel != "iopub":
                 self.replies[message.parent] += 1
-            elif message.parent in self.last and message.channel != "iopub":
-                self.last.remove(message.parent)
+            elif message.channel != "iopub" or is_idle(message):
+                self.last.discard((message.parent, message.channel == "iopub"))
             elif message.kind == "comm_msg" and content.get("comm_id") == self.comm_id:
                 self.echoes[data.get("number", -1) if isinstance(data, dict) else -1] += 1
         if not came and seconds and not self.frontend.kernel.is_alive():
@@ -85,26 +86,27 @@ def storm(frontend: Frontend, words: str, seconds: float) -> list[str]:
     opened = {"comm_id": comm_id, "target_name": "conformance.echo", "data": {}}
     frontend.send("shell", "comm_open", json.dumps(opened).encode(), **header)
     blown = Storm(frontend, comm_id, header)
+    patience = frontend.settle([], Came())
     try:
-        frontend.reply_to(frontend.send("control", "kernel_info_request", b"{}"), 3)
+        frontend.reply_to(frontend.send("control", "kernel_info_request", b"{}"), patience)
     except NotAnswering:
         del blown.asked[1:]  # it isn't among what control has to take
-    faults = list(blow(blown, seconds))
+    faults = list(blow(blown, seconds, patience))
     frontend.send("shell", "comm_close", json.dumps({"comm_id": comm_id, "data": {}}).encode(), **header)
     if header and not faults:
         frontend.reply_to(frontend.send("control", "delete_subshell_request", json.dumps(header).encode()))
     return faults
 
 
-def blow(storm: Storm, seconds: float) -> Iterator[str]:
+def blow(storm: Storm, seconds: float, patience: float) -> Iterator[str]:
     end = time.monotonic() + seconds
     while time.monotonic() < end:
         if storm.under_way() < 3 * AHEAD:
             storm.send()
         storm.receive(0 if storm.under_way() < 3 * AHEAD else 0.05)
     storm.send_last()
-    quiet = time.monotonic()
-    while storm.under_way() and time.monotonic() < quiet + (storm.frontend.timeout / 3 if storm.last else QUIET):
-        if storm.receive(0.1):
-            quiet = time.monotonic()
+    last = now = time.monotonic()
+    while (storm.last or storm.under_way()) and now < last + (storm.frontend.timeout if storm.last else patience):
+        now = time.monotonic()
+        last = now if storm.receive(0.1) else last
     yield from storm.faults()
