@@ -4,8 +4,8 @@
 bench/threads.py load_generator [--quick] [--changes N] [--repeats N] [--only 1+3,info]
 bench/threads.py --library bench_clients [--changes N] [--repeats N] [--only 0+4]
 
-With --library the program calls the library for C by clients: also readers alone, for CHANGES milliseconds, and three
-times as many threads as there are processors.
+With --library the program calls the library for C by clients: also readers alone, for half a second, and three times as
+many threads as there are processors.
 
 For each arrangement: changes and reads a second, in thousands, the middle of the repeats; and the program's over those
 of the peer that is best there, the middle of the ratios of each repeat, with the least and the greatest. `mutex again`
@@ -23,6 +23,7 @@ import build  # noqa: E402
 
 WAYS = ["mutex", "rwlock", "leftright", "arcswap", "slots"]
 KEYS = 23
+MILLISECONDS = 500  # of readers alone
 ARRANGEMENTS = [  # writers, readers, what they read, comms
     *((1, 0, "none", 50), (1, 0, "none", 1000), (1, 0, "none", 4000), (4, 0, "none", 1000)),
     *((1, 1, "state", 1000), (1, 3, "state", 50), (1, 3, "state", 1000), (1, 3, "state", 4000)),
@@ -61,7 +62,8 @@ def amiss(told, arrangement, changes):
 def played(words, arrangement, changes):
     """Thousands of changes and of reads a second, of one run."""
     writers, readers, read, comms = arrangement
-    words = [*words, *map(str, (writers, readers, changes, comms, KEYS, read))]
+    work = changes if writers else MILLISECONDS
+    words = [*words, *map(str, (writers, readers, work, comms, KEYS, read))]
     told = json.loads(subprocess.run(words, stdout=subprocess.PIPE, check=True).stdout)
     wrong = amiss(told, arrangement, changes) if list(told) in (FIELDS, FIELDS_OF_C) else ["keys"]
     if wrong:
