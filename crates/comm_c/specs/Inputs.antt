@@ -12,6 +12,7 @@ use Rattle.comm_messages.specs.Buffers.{framed, split_buffers}
 use Rattle.comm_messages.specs.Envelope.{Envelope}
 use Rattle.comm_messages.specs.Gives as message
 use Rattle.comm_messages.specs.Message.{envelope_in}
+use Rattle.comm_messages.specs.declared.raw_buffers.Frame.{Frame}
 use Rattle.comm_messages.specs.declared.raw_buffers.RawBuffers.{RawBuffers}
 use Rattle.comm_messages.specs.declared.raw_buffers.RawBuffers.TheVariants.{Joined, Frames}
 use Rattle.comm_core.specs.Machine.{Machine, Name}
@@ -49,9 +50,12 @@ buffers_tested buffers sizes =
     if sum sizes == length buffers then Ok (split_buffers buffers sizes) else Err BadSizes
 
 -- frames fail no test
+unfoldable pub frames_tested : List Frame → TestedBuffers
+frames_tested frames = Ok (framed frames)
+
 abbrev pub raw_tested : RawBuffers → TestedBuffers
 raw_tested (Joined bytes sizes) = buffers_tested bytes.now sizes.now
-raw_tested (Frames frames) = Ok (framed frames.now)
+raw_tested (Frames frames) = frames_tested frames.now
 
 abbrev pub name_tested : List ℕ → Result Name CallFault
 name_tested name = if is_utf8 name then Ok name else Err BadName

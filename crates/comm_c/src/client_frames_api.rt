@@ -1,8 +1,6 @@
 //! The calls of a client that take buffers, with each where it lies.
-ghost use Rattle.std.specs.Prelude.{Ok};
-ghost use Rattle.comm_messages.specs.Buffers.{framed};
 ghost use Rattle.comm_c.specs.ClientExports.{HasClientCalled};
-ghost use Rattle.comm_c.specs.Inputs.{launch_input, message_input, push_input, send_input};
+ghost use Rattle.comm_c.specs.Inputs.{frames_tested, launch_input, message_input, push_input, send_input};
 
 use crate::client_calls::{Entered, answer, enter, not_entered};
 use crate::client_handle::ClientHandle;
@@ -22,7 +20,7 @@ pub extern "C" fn rolgunai_client_handle_frames(
     sent: &mut usize,
 ) -> u32
     ensures { HasClientCalled (λ m numbers. message_input m numbers 0 header.now metadata.now
-        content.now (Ok (framed frames.now)))
+        content.now (frames_tested frames.now))
         client.old.value client.new.value result reply.new sent.new }
 {
     match enter(alloc, client) {
@@ -53,7 +51,7 @@ pub extern "C" fn rolgunai_client_launch_frames(
     sent: &mut usize,
 ) -> u32
     ensures { HasClientCalled (λ m numbers. launch_input numbers 0 target.now uuid.now state.now
-        paths.now (Ok (framed frames.now)))
+        paths.now (frames_tested frames.now))
         client.old.value client.new.value result reply.new sent.new }
 {
     match enter(alloc, client) {
@@ -83,7 +81,7 @@ pub extern "C" fn rolgunai_client_push_frames(
     sent: &mut usize,
 ) -> u32
     ensures { HasClientCalled (λ m numbers. push_input numbers 0 id.now state.now paths.now
-        (Ok (framed frames.now)))
+        (frames_tested frames.now))
         client.old.value client.new.value result reply.new sent.new }
 {
     match enter(alloc, client) {
@@ -112,7 +110,7 @@ pub extern "C" fn rolgunai_client_send_frames(
     sent: &mut usize,
 ) -> u32
     ensures { HasClientCalled (λ m numbers. send_input numbers 0 id.now content.now
-        (Ok (framed frames.now)))
+        (frames_tested frames.now))
         client.old.value client.new.value result reply.new sent.new }
 {
     match enter(alloc, client) {

@@ -1,9 +1,7 @@
 //! The calls that take buffers, with each where it lies, as the frames of a ZeroMQ message do.
-ghost use Rattle.std.specs.Prelude.{Ok};
-ghost use Rattle.comm_messages.specs.Buffers.{framed};
 ghost use Rattle.comm_core.specs.Ready.{machine};
 ghost use Rattle.comm_c.specs.Exports.{HasCalled};
-ghost use Rattle.comm_c.specs.Inputs.{launch_input, message_input, push_input, send_input};
+ghost use Rattle.comm_c.specs.Inputs.{frames_tested, launch_input, message_input, push_input, send_input};
 
 use crate::calls::{answer, take, without_manager};
 use crate::handle::Handle;
@@ -24,7 +22,7 @@ pub extern "C" fn rolgunai_handle_frames(
     sent: &mut usize,
 ) -> u32
     ensures { HasCalled (λ d. message_input (machine d.core) d.numbers client
-        header.now metadata.now content.now (Ok (framed frames.now)))
+        header.now metadata.now content.now (frames_tested frames.now))
         handle.old.value handle.new.value result reply.new sent.new }
 {
     match take(handle, alloc) {
@@ -52,7 +50,7 @@ pub extern "C" fn rolgunai_launch_frames(
     sent: &mut usize,
 ) -> u32
     ensures { HasCalled (λ d. launch_input d.numbers client target.now uuid.now state.now paths.now
-        (Ok (framed frames.now)))
+        (frames_tested frames.now))
         handle.old.value handle.new.value result reply.new sent.new }
 {
     match take(handle, alloc) {
@@ -79,7 +77,7 @@ pub extern "C" fn rolgunai_push_frames(
     sent: &mut usize,
 ) -> u32
     ensures { HasCalled (λ d. push_input d.numbers client id.now state.now paths.now
-        (Ok (framed frames.now)))
+        (frames_tested frames.now))
         handle.old.value handle.new.value result reply.new sent.new }
 {
     match take(handle, alloc) {
@@ -105,7 +103,7 @@ pub extern "C" fn rolgunai_send_frames(
     sent: &mut usize,
 ) -> u32
     ensures { HasCalled (λ d. send_input d.numbers client id.now content.now
-        (Ok (framed frames.now)))
+        (frames_tested frames.now))
         handle.old.value handle.new.value result reply.new sent.new }
 {
     match take(handle, alloc) {

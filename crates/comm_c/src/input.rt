@@ -69,7 +69,7 @@ fn add_up(sizes: &[usize], whole: usize) -> bool
 }
 
 /// Tests whether buffers that stand one after another are, in these sizes, all of their bytes. Err: BadSizes.
-#[tactic(auto, using(crate::proofs::Tests::sizes_add_up, crate::proofs::Tests::sizes_do_not))]
+#[tactic(auto, using(crate::proofs::Tests::sizes_add_up, crate::proofs::Tests::sizes_do_not), unfolding(crate::specs::Inputs::frames_tested))]
 pub fn test_buffers(buffers: RawBuffers<'_>) -> Result<(), CallFault>
     ensures { Gives (λ _. raw_buffers buffers.entry) result (raw_tested buffers.entry) }
 {

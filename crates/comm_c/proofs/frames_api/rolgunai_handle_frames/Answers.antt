@@ -1,0 +1,10 @@
+use Rattle.std.proofs.Common.{rules}
+use Rattle.comm_core.specs.Ready.{machine}
+use Rattle.comm_c.specs.Inputs.{frames_tested, message_input}
+use Rattle.comm_c.proofs.frames_api.rolgunai_handle_frames.Goals as goal
+
+pub returns-in-Some : goal.returns-in-Some
+returns-in-Some c = c.answer.ensures (λ d. message_input (machine d.core) d.numbers c.args.client c.args.header.now c.args.metadata.now c.args.content.now (frames_tested c.args.frames.now)) c.args.handle.now.value (search rules) (search rules)
+
+pub returns-in-None : goal.returns-in-None
+returns-in-None c = c.without_manager.ensures (λ d. message_input (machine d.core) d.numbers c.args.client c.args.header.now c.args.metadata.now c.args.content.now (frames_tested c.args.frames.now)) c.args.handle.now.value c.take.new.handle.value (search rules) (search rules)
