@@ -3,7 +3,8 @@ wrong, nor where the GIL changes hands every microsecond; how many do over the s
 
 test_races.py [--long] [RACE..], where each RACE is a function of races.py; all of them where none is named, but with
 --long alone the storm. A race is tried for two seconds with each kernel; after half a minute with the proved one alone.
-With --long sliders are moved 10,000 times, and threads storm for a minute. The last line is 'N passed, M failed'.
+With --long it is tried for a minute at most, and one that is named to its end, as 10,000 moves of a slider; a storm
+goes on for a minute. The last line is 'N passed, M failed'.
 
 ipykernel 7.2 at times stops answering, whatever its comms are: its shell's thread sends on the socket that a stream of
 it polls, whose events are told once. So the stream is woken now and then; and where a kernel of that version stops
@@ -23,7 +24,7 @@ from frontend import NAME
 from page import Page, Stopped
 from races import PRELUDE, RACES
 
-SECONDS, ALL = 2, 30
+SECONDS, ALL, LONG = 2, 30, 60
 USUAL, HASTE = 0.005, 1e-6  # seconds after which CPython has the GIL change hands
 MOST_STOPS, SHARE = 3, 20  # a kernel that stops is started again, once more for each twentieth time
 OURS = re.compile(r"/rolgunai/\w+\.py")
@@ -89,7 +90,7 @@ class Kernels:
         return wrong, done, stops
 
 
-def play(race, stock, ours, is_long, where, ends):
+def play(race, stock, ours, is_long, is_named, where, ends):
     """Tries a race with the stock kernel, with the proved one, and with that in haste; the proved one alone where time is
     up."""
     began, told = time.monotonic(), []
@@ -97,9 +98,10 @@ def play(race, stock, ours, is_long, where, ends):
         if name != "here" and not is_long and time.monotonic() > ends:
             told.append(f"{name} not tried for want of time")
             continue
-        times, seconds, least = race.short, SECONDS, race.least
+        times, seconds, least = race.short or race.long, SECONDS, race.least
         if is_long and name != "in haste":
-            times, seconds, least = race.long, race.seconds, race.least if race.seconds else race.long
+            times, seconds = race.long, race.seconds or (0 if is_named else LONG)
+            least = race.least if seconds else race.long
         wrong, done, stops = kernels.tried(race, times, seconds, least, interval)
         told.append(f"{name} {wrong} of {done}" + (f" ({stops} kernels stopped)" if stops else ""))
         if name != "stock":
@@ -119,7 +121,7 @@ def main():
         for race in RACES:
             is_asked = race.run.__name__ in named if named else is_long or race.short
             if is_asked and race.widgets <= ours.page.widgets:
-                play(race, stock, ours, is_long, where, ends)
+                play(race, stock, ours, is_long, bool(named), where, ends)
     finally:
         stock.end()
         ours.end()
