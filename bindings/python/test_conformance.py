@@ -8,8 +8,11 @@ on the same kernel unbroken; on this package's kernel nothing fails, on the stoc
 import contextlib
 import json
 import os
+import signal
+import subprocess
 import sys
 import tempfile
+import time
 from pathlib import Path
 
 sys.path.insert(0, sys.argv[1])
@@ -17,6 +20,7 @@ sys.path.insert(0, sys.argv[1])
 import checks
 import ipykernel
 from rolgunai.conformance.cells import cells_for
+from rolgunai.conformance.clock import Clock
 from rolgunai.conformance.frontend import Frontend
 from rolgunai.conformance.play import CHOICE, FAILED, PASSED, SKIPPED, Player
 from rolgunai.conformance.scenario import ScenarioError, parse, scenarios
@@ -44,6 +48,15 @@ SLOW = [
      "and in xeus)"),
     ("slow_iopub", "storm", PASSED),
 ]  # fmt: skip
+# processes, and which part of the time that passes they have at least and at most; another one works on the same
+# processor as those that are pinned
+PINNED = ["taskset", "-c", str(min(os.sched_getaffinity(0))), "nice"]
+WORK = [sys.executable, "-c", "while True: pass"]
+CLOCKS = [
+    ("sleeps", ["sleep", "60"], 0.7, 1),
+    ("waits for a processor", [*PINNED, *WORK], 0, 0.6),
+    ("has a child that waits for one", ["sh", "-c", '"$@"; true', "sh", *PINNED, *WORK], 0, 0.6),
+]
 
 COMMANDS = {
     "broken": ["-B", str(HERE / "conformance_kernel.py"), sys.argv[1]],
@@ -90,6 +103,27 @@ def slow_kernels():
             yield f"{name}, with a kernel that is {fault}", [result.outcome, *result.reasons], wanted
 
 
+@contextlib.contextmanager
+def process(words):
+    """The id of a process, which is ended with its children."""
+    started = subprocess.Popen(words, start_new_session=True)
+    try:
+        yield started.pid
+    finally:
+        os.killpg(started.pid, signal.SIGKILL)
+        started.wait()
+
+
+def clocks():
+    with process([*PINNED, "-n", "0", *WORK]):
+        for what, words, least, most in CLOCKS:
+            with process(words) as one:
+                begin, clock = time.monotonic(), Clock(one)
+                time.sleep(2)
+                part = clock.now() / (time.monotonic() - begin)
+            yield f"the time of a process that {what}: {part:.2f}", least <= part <= most, True
+
+
 def known_failures():
     """Of the stock kernel that is here: whether each is always seen, by the scenarios' names."""
     stock = "ipykernel-" + ".".join(map(str, ipykernel.version_info[:2]))
@@ -123,5 +157,5 @@ def texts():
 
 
 if __name__ == "__main__":
-    own = [] if sys.argv[2:] == ["--kernels"] else [texts, scenarios_and_faults, slow_kernels]
+    own = [] if sys.argv[2:] == ["--kernels"] else [texts, scenarios_and_faults, slow_kernels, clocks]
     sys.exit(checks.run_at_once(*own, stock_kernel, proved_kernel))

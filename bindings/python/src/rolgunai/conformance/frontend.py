@@ -14,6 +14,8 @@ import zmq
 from jupyter_client import KernelManager
 from jupyter_client.kernelspec import KernelSpecManager, NoSuchKernel
 
+from rolgunai.conformance.clock import Clock
+
 Json = Any
 QUIET = 1.0  # seconds that an answer is waited for that needn't come, or TIMES what one took that had to
 TIMES = 10
@@ -81,6 +83,7 @@ class Frontend:
         self.words = tempfile.TemporaryFile()
         try:
             self.kernel.start_kernel(stdout=self.words, stderr=self.words)
+            self.clock = Clock(getattr(getattr(self.kernel, "provisioner", None), "pid", None))
             self.connect()
         except NotAnswering:
             self.close()
@@ -106,23 +109,27 @@ class Frontend:
         self.poller = zmq.Poller()
         for socket in self.sockets.values():
             self.poller.register(socket, zmq.POLLIN)
-        end = time.monotonic() + 4 * self.timeout
-        while (heard := self.heard(1)) != {"iopub", "shell"}:
-            if time.monotonic() > end or not self.kernel.is_alive():
+        end = self.clock.now() + 4 * self.timeout
+        probes: set[str] = set()
+        heard: set[str] = set()
+        while heard != {"iopub", "shell"}:
+            if self.clock.now() > end or not self.kernel.is_alive():
                 raise NotAnswering(self.why_not("shell" in heard, 4 * self.timeout))
+            probes.add(self.send("shell", "kernel_info_request", b"{}"))
+            heard |= self.heard(probes)
         self.info = self.reply_to(self.send("shell", "kernel_info_request", b"{}"))
 
     def language(self) -> str:
         """The name of the kernel's language, as it says it."""
         return str((self.info.get("language_info") or {}).get("name", ""))
 
-    def heard(self, seconds: float) -> set[str]:
-        """The channels that the kernel is heard on: what is subscribed to late is lost."""
-        probe = self.send("shell", "kernel_info_request", b"{}")
+    def heard(self, probes: set[str]) -> set[str]:
+        """The channels that a kernel is heard on within a second, which answers one of these: what is published before
+        iopub is subscribed to is lost, and a slow kernel answers an earlier one."""
         channels: set[str] = set()
-        end = time.monotonic() + seconds
+        end = time.monotonic() + 1
         while time.monotonic() < end and channels != {"iopub", "shell"} and self.kernel.is_alive():
-            channels |= {message.channel for message in self.receive(0.1) if message.parent == probe}
+            channels |= {message.channel for message in self.receive(0.1) if message.parent in probes}
         return channels
 
     def restart(self) -> None:
@@ -180,8 +187,8 @@ class Frontend:
 
         Raises NotAnswering where none comes in time.
         """
-        end = time.monotonic() + (seconds or self.timeout)
-        while time.monotonic() < end:
+        end = self.clock.now() + (seconds or self.timeout)
+        while self.clock.now() < end:
             for got in self.receive(0.1):
                 if got.parent == sent and got.channel != "iopub":
                     return got.content
@@ -196,8 +203,8 @@ class Frontend:
         came = Came()
         patience = self.settle(sent, came)
         if channel == "control":
-            end = time.monotonic() + patience
-            while time.monotonic() < end and sum(message.channel == channel for message in came.messages) < len(sent):
+            end = self.clock.now() + patience
+            while self.clock.now() < end and sum(message.channel == channel for message in came.messages) < len(sent):
                 for message in self.receive(0.1):
                     self.take(message, sent, came)
             self.settle(sent, came)
@@ -210,10 +217,10 @@ class Frontend:
         Raises NotAnswering where it doesn't answer.
         """
         replied = idle = False
-        last = begin = time.monotonic()
+        last = begin = self.clock.now()
         probe = self.send("shell", "kernel_info_request", b"{}")
         while not (replied and idle):
-            now = time.monotonic()  # before the look, so that what came while this process stood still counts
+            now = self.clock.now()  # before the look, so that what came while this process stood still counts
             got = self.receive(0.1)
             last = now if got else last
             silent = now > last + self.timeout or not got and not self.kernel.is_alive()
@@ -225,7 +232,7 @@ class Frontend:
                     idle = idle or is_idle(message)
                 else:
                     self.take(message, sent, came)
-        return max(QUIET, TIMES * (time.monotonic() - begin))
+        return max(QUIET, TIMES * (self.clock.now() - begin))
 
     def why_not(self, replied: bool, seconds: float) -> str:
         """Why it is given up on: what it wrote last where it ended, or what is missing of its answer."""

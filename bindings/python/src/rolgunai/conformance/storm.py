@@ -105,8 +105,9 @@ def blow(storm: Storm, seconds: float, patience: float) -> Iterator[str]:
             storm.send()
         storm.receive(0 if storm.under_way() < 3 * AHEAD else 0.05)
     storm.send_last()
-    last = now = time.monotonic()
+    clock = storm.frontend.clock
+    last = now = clock.now()
     while (storm.last or storm.under_way()) and now < last + (storm.frontend.timeout if storm.last else patience):
-        now = time.monotonic()
+        now = clock.now()
         last = now if storm.receive(0.1) else last
     yield from storm.faults()
