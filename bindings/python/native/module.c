@@ -112,6 +112,10 @@ static PyMethodDef functions[] = {
      "Reads a frontend's update of an open widget, whose keys are all known: the comm's id, the content as JSON, a\n"
      "copy of the state, and, where it has buffers, their paths, the key that each lies under, and the buffers. None\n"
      "of any other message. `targets` and `keys` have comms' targets and widgets' keys by the comms' ids."},
+    {"write_said", (PyCFunction)(void (*)(void))call_write_said, METH_FASTCALL,
+     "write_said($module, data, is_old, buffers, /)\n--\n\n"
+     "Writes an update of the kernel's, in version 1 of the protocol where `is_old`: the state and its buffers' paths\n"
+     "as JSON, the state's keys, the key that each buffer lies under, and the buffers. None of what isn't plain JSON."},
     {"copied", call_copied, METH_O,
      "copied($module, value, /)\n--\n\n"
      "A value that stays as it is, whatever is done with the lists and dicts of this one. A tuple becomes a list."},

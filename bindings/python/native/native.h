@@ -151,6 +151,7 @@ PyObject *call_write(PyObject *module, PyObject *const *arguments, Py_ssize_t co
 PyObject *call_write_update(PyObject *module, PyObject *const *arguments, Py_ssize_t count);
 PyObject *call_copied(PyObject *module, PyObject *value);
 PyObject *call_read_update(PyObject *module, PyObject *const *arguments, Py_ssize_t count);
+PyObject *call_write_said(PyObject *module, PyObject *const *arguments, Py_ssize_t count);
 int make_words(PyObject **into);
 
 /* seats.c. The seat of this thread, as its threading.local has it, or NULL where there are no more: 0, or -1 with an

@@ -1,4 +1,5 @@
-/* A frontend's update of a widget's state, as it comes off the socket: what nearly each message is. */
+/* Updates of widgets' states, which nearly each message is: a frontend's, as it comes off the socket, and the kernel's.
+ * These are the plain ones; Python reads what is otherwise. */
 #include "native.h"
 
 typedef struct {
@@ -47,7 +48,8 @@ static int add_path(update *to, PyObject *root, PyObject *path) {
   return status;
 }
 
-/* Reads the paths of buffers: lists, or in version 1 of the protocol keys. Whether each begins with a known key. */
+/* Reads the paths of buffers: lists, or in version 1 of the protocol keys. Whether each begins with a known key, where
+ * `known` isn't NULL. */
 static int read_paths(update *into, PyObject *listed, int is_old, PyObject *known) {
   if (!listed || listed == Py_None) return 1;
   if (!PyList_CheckExact(listed)) return 0;
@@ -59,7 +61,7 @@ static int read_paths(update *into, PyObject *listed, int is_old, PyObject *know
     PyObject *path = PyList_GetItem(listed, i);
     int is_path = !is_old && PyList_CheckExact(path) && PyList_Size(path) > 0;
     PyObject *root = is_old ? path : is_path ? PyList_GetItem(path, 0) : NULL;
-    if (!root || !PyUnicode_CheckExact(root) || PySet_Contains(known, root) != 1) return 0;
+    if (!root || !PyUnicode_CheckExact(root) || (known && PySet_Contains(known, root) != 1)) return 0;
     if (add_path(into, root, is_old ? NULL : path) < 0) return 0;
   }
   return into->paths && into->roots;
@@ -108,6 +110,15 @@ static PyObject *made(PyObject *module, const update *of) {
   return update;
 }
 
+static PyObject *ended(update *of, PyObject *made) {
+  Py_XDECREF(of->paths);
+  Py_XDECREF(of->roots);
+  if (made) return made;
+  if (PyErr_Occurred() && !PyErr_ExceptionMatches(PyExc_Exception)) return NULL;
+  PyErr_Clear();
+  return Py_NewRef(Py_None);
+}
+
 PyObject *call_read_update(PyObject *module, PyObject *const *given, Py_ssize_t count) {
   if (count != 3) {
     PyErr_Format(PyExc_TypeError, "read_update() takes 3 positional arguments (%zd given)", count);
@@ -115,11 +126,43 @@ PyObject *call_read_update(PyObject *module, PyObject *const *given, Py_ssize_t 
   }
   const module_state *state = PyModule_GetState(module);
   update read = {NULL, NULL, NULL, NULL, NULL};
-  PyObject *update = read_message(state->words, given, &read) ? made(module, &read) : NULL;
-  Py_XDECREF(read.paths);
-  Py_XDECREF(read.roots);
-  if (update) return update;
-  if (PyErr_Occurred() && !PyErr_ExceptionMatches(PyExc_Exception)) return NULL;
-  PyErr_Clear();
-  return Py_NewRef(Py_None);
+  int is_plain = read_message(state->words, given, &read);
+  return ended(&read, is_plain ? made(module, &read) : NULL);
+}
+
+/* ---- What the kernel says. */
+
+static int read_said(PyObject *const *named, PyObject *data, int is_old, update *into) {
+  if (!PyDict_CheckExact(data)) return 0;
+  into->state = item(data, named[OF_STATE], &PyDict_Type);
+  PyObject *listed = PyDict_GetItemWithError(data, named[is_old ? OF_BUFFERS : OF_PATHS]);
+  return into->state && read_paths(into, listed, is_old, NULL);
+}
+
+/* The state and the paths as JSON, the state's keys, the key that each buffer lies under, and the buffers. */
+static PyObject *made_said(PyObject *module, const update *of) {
+  PyObject *none = PyTuple_New(0), *said = NULL;
+  PyObject *text = none ? call_write(module, &of->state, 1) : NULL, *keys = text ? PyDict_Keys(of->state) : NULL;
+  int has_buffers = keys && of->buffers != Py_None ? PyObject_IsTrue(of->buffers) : 0;
+  PyObject *paths = keys && of->paths ? call_write(module, &of->paths, 1) : PyBytes_FromStringAndSize("[]", 2);
+  PyObject *buffers = has_buffers > 0 ? PySequence_List(of->buffers) : Py_XNewRef(none);
+  if (keys && paths && buffers && has_buffers >= 0)
+    said = PyTuple_Pack(5, text, paths, keys, of->roots ? of->roots : none, buffers);
+  Py_XDECREF(buffers);
+  Py_XDECREF(paths);
+  Py_XDECREF(keys);
+  Py_XDECREF(text);
+  Py_XDECREF(none);
+  return said;
+}
+
+PyObject *call_write_said(PyObject *module, PyObject *const *given, Py_ssize_t count) {
+  if (count != 3) {
+    PyErr_Format(PyExc_TypeError, "write_said() takes 3 positional arguments (%zd given)", count);
+    return NULL;
+  }
+  const module_state *state = PyModule_GetState(module);
+  update read = {NULL, NULL, NULL, NULL, given[2]};
+  int is_plain = read_said(state->words, given[0], given[1] == Py_True, &read);
+  return ended(&read, is_plain ? made_said(module, &read) : NULL);
 }

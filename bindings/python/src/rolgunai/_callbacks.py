@@ -3,16 +3,18 @@
 from __future__ import annotations
 
 import logging
+from collections.abc import Callable
 from typing import Any
 
 from rolgunai._kernel import Comm, Message
 
 
 class Callbacks:
-    """`log` is where ipykernel and `comm` tell errors in callbacks."""
+    """`log` is where ipykernel and `comm` tell errors in callbacks. `handle(comm, msg)` has a comm handle a message,
+    where that is more than its own `handle_msg`."""
 
-    def __init__(self, log: logging.Logger) -> None:
-        self._log = log
+    def __init__(self, log: logging.Logger, handle: Callable[[Any, Message], object] | None = None) -> None:
+        self._log, self._handle = log, handle
 
     def opened(self, f: Any, comm: Comm, msg: Message) -> bool:
         """Calls a target's callback for a comm; gives whether it took it. Else, as where there is none, the comm is
@@ -33,7 +35,10 @@ class Callbacks:
     def heard(self, comm: Comm, msg: Message) -> None:
         """Calls a comm's callback for a message."""
         try:
-            comm.handle_msg(msg)
+            if self._handle is None:
+                comm.handle_msg(msg)
+            else:
+                self._handle(comm, msg)
         except Exception:
             self._log.error("Exception in comm_msg for %s", comm.comm_id, exc_info=True)
 

@@ -224,7 +224,7 @@ class Calls:
             self.long.taken(comm_id, keys, roots, kept)
         if comm_id in self.watches.by_comm:
             self.watches.told(comm_id, _widgets.placed(read(state), read(paths), buffers))
-        self._send_all(outcome, parent, metadata)
+        self._send_all(outcome, parent, metadata, paths, roots)
         return True
 
     def say(self, kind: str, comm_id: str, content: bytes, metadata: Any, buffers: Any, parent: Any) -> bool:
@@ -290,8 +290,15 @@ class Calls:
             "ipywidgets.Widget.close_all() for all widgets"
         )
 
-    def _send_all(self, outcome: Outcome, parent: Any, metadata: dict[str, Any] | None = None) -> None:
-        """Sends what a call gives."""
+    def _send_all(
+        self,
+        outcome: Outcome,
+        parent: Any,
+        metadata: dict[str, Any] | None = None,
+        paths: bytes = b"",
+        roots: Sequence[str] = (),
+    ) -> None:
+        """Sends what a call gives. The paths of buffers may be these, of JSON, which these keys begin."""
         for kind, comm_id, content, known, frames in outcome.sent:
             told, buffers = {} if known == NOTHING else read(known), []
             if metadata:
@@ -299,5 +306,5 @@ class Calls:
             if frames:
                 buffers = self.long.given_out(frames)
                 if comm_id in self.old and self._is_old_browser and kind == "comm_msg":
-                    content = old_widgets.to_frontend(content)
+                    content = old_widgets.to_frontend(content, paths, roots)
             self.send(kind, comm_id, content, told, buffers, parent)

@@ -15,13 +15,14 @@ from ipykernel.comm import comm as stock
 from ipykernel.comm import manager as stock_manager
 
 from rolgunai._calls import Pack
-from rolgunai._kernel import Send
+from rolgunai._kernel import Message, Send
 from rolgunai.hub import Hub
 
 IS_OF_COMM = hasattr(stock, "BaseComm")
 Comm = stock.BaseComm if IS_OF_COMM else stock.Comm
 PUBLISH = "publish_msg" if IS_OF_COMM else "_publish_msg"
 _stock_publish = getattr(Comm, PUBLISH)
+_stock_handle = stock.Comm.handle_msg
 _MANAGER = "_rolgunai_manager"  # of a comm: what it was registered with
 
 
@@ -39,7 +40,8 @@ class CommManager(Hub, stock_manager.CommManager):
     ) -> None:
         stock_manager.CommManager.__init__(self, **kwargs)
         log = logging.getLogger("Comm") if IS_OF_COMM else self.log
-        Hub.__init__(self, send, request, self._made, pack=pack, is_old_browser=is_old_browser, comm_log=log)
+        keys: dict[str, Any] = {"is_old_browser": is_old_browser, "handle": None if IS_OF_COMM else handle_msg}
+        Hub.__init__(self, send, request, self._made, pack=pack, comm_log=log, **keys)
 
     def _made(self, comm_id: str, **keys: Any) -> Any:
         """A comm that a frontend opens."""
@@ -48,12 +50,15 @@ class CommManager(Hub, stock_manager.CommManager):
 
     def register_comm(self, comm: Any) -> str:
         """Takes a comm in, for the kernel that the manager is of; Hub.register_comm says more."""
-        if not IS_OF_COMM or (isinstance(comm, Comm) and comm.kernel is None):
-            comm.kernel = self.kernel
-        other = self._other_of(comm)
-        if other is not None:
-            return other.register_comm(comm)
-        if isinstance(comm, Comm) and comm.kernel is self.kernel:
+        kernel, is_stock = self.kernel, isinstance(comm, Comm)
+        if not IS_OF_COMM or (is_stock and comm.kernel is None):
+            comm.kernel = kernel
+        its_kernel = getattr(comm, "kernel", None)
+        if its_kernel is not kernel or kernel.comm_manager is not self:
+            other = self._other_of(comm)
+            if other is not None:
+                return other.register_comm(comm)
+        if is_stock and its_kernel is kernel:
             comm.__dict__[_MANAGER] = self
         return super().register_comm(comm)
 
@@ -72,6 +77,34 @@ class CommManager(Hub, stock_manager.CommManager):
         return other if is_its_own else None
 
 
+def handle_msg(comm: Any, msg: Message) -> None:
+    """Does what a comm of ipykernel's does with a message before 6.18, but for its line at debug where no handler of
+    logs takes it: the kernel's logger makes a record of each, which takes longer than all that the manager does."""
+    if getattr(comm.handle_msg, "__func__", None) is not _stock_handle or _hears_debug(comm.log):
+        comm.handle_msg(msg)
+        return
+    callback = comm._msg_callback
+    if callback:
+        shell = comm.kernel.shell
+        if shell:
+            shell.events.trigger("pre_execute")
+        callback(msg)
+        if shell:
+            shell.events.trigger("post_execute")
+
+
+def _hears_debug(log: Any) -> bool:
+    """Whether somebody may take a line at debug."""
+    while isinstance(log, logging.Logger):
+        if log.filters:
+            return True
+        for handler in log.handlers:
+            if handler.level <= logging.DEBUG:
+                return True
+        log = log.parent if log.propagate else None
+    return log is not None
+
+
 def _manager_of(comm: Any) -> Any:
     """The manager that a comm goes by which was registered with none, or None where it is ipykernel's own."""
     kernel = comm.kernel
@@ -87,7 +120,9 @@ def publish(comm: Any, msg_type: str, data: Any = None, metadata: Any = None, bu
     """In the place of ipykernel's own: has the manager of the comm's kernel play it. Where that is another's, as of a
     second kernel in the process, it is ipykernel's own."""
     manager = comm.__dict__.get(_MANAGER) or _manager_of(comm)
-    if manager is not None:
+    if manager is None:
+        _stock_publish(comm, msg_type, data, metadata, buffers, **keys)
+    elif keys:
         manager.publish(comm, msg_type, data, metadata, buffers, **keys)
     else:
-        _stock_publish(comm, msg_type, data, metadata, buffers, **keys)
+        manager.publish(comm, msg_type, data, metadata, buffers)

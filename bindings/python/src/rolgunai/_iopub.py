@@ -17,6 +17,7 @@ class Sender:
         self._takes_json = False
         self._parent: Any = None  # of the last message, and what a session is handed for it
         self._handed: Any = None
+        self._topic = "", b"comm-"  # of the last message, with its comm's id
 
     def send(
         self, msg_type: str, comm_id: str, content: bytes, metadata: dict[str, Any], buffers: list[Any], parent: Any, /
@@ -31,6 +32,10 @@ class Sender:
             self._parent = self._handed = parent
         elif self._handed is parent and parent and self._takes_json:
             self._handed = _with_plain_header(parent, session)
+        known, topic = self._topic
+        if known is not comm_id:
+            topic = f"comm-{comm_id}".encode()
+            self._topic = comm_id, topic
         # By the names that ipykernel's comms have it by: someone may have put another `send` in its place.
         session.send(
             kernel.iopub_socket,
@@ -38,7 +43,7 @@ class Sender:
             said,
             metadata=metadata,
             parent=self._handed,
-            ident=f"comm-{comm_id}".encode(),
+            ident=topic,
             buffers=buffers,
         )
 

@@ -1,4 +1,4 @@
-from collections.abc import Callable, Iterable
+from collections.abc import Callable, Iterable, Sequence
 from types import TracebackType
 from typing import Any, SupportsIndex, TypeVar
 
@@ -17,6 +17,9 @@ def write_update(comm_id: str, state: Any, paths: Any, /) -> bytes: ...
 def read_update(
     message: Any, targets: dict[str, str], keys: dict[str, frozenset[str]], /
 ) -> tuple[str, bytes, dict[str, Any], tuple[list[Any], list[str], list[Any]] | None] | None: ...
+def write_said(
+    data: Any, is_old: bool, buffers: Iterable[Any] | None, /
+) -> tuple[bytes, bytes, list[str], Sequence[str], Sequence[Any]] | None: ...
 def copied(value: _Value, /) -> _Value: ...
 
 class Manager:

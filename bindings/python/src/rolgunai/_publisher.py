@@ -10,7 +10,7 @@ from rolgunai import _process, old_widgets
 from rolgunai._calls import Calls, Pack
 from rolgunai._kernel import WIDGET, Comm
 from rolgunai._last_word import LastWord
-from rolgunai._native import Turns
+from rolgunai._native import Turns, write_said
 from rolgunai._update import Update, update_of
 
 VERSION = {"version": "2.1.0"}
@@ -31,7 +31,7 @@ class Publisher:
     ) -> None:
         self._comms, self._calls, self._turns, self._pack = comms, calls, turns, pack
         self._last_word, self._request, self._log, self._forks = last_word, request, log, _process.forks
-        self._open_comms = calls.open_comms
+        self._open_comms, self._old = calls.open_comms, calls.old
 
     def publish(
         self, comm: Any, msg_type: str, data: Any = None, metadata: Any = None, buffers: Any = None, **keys: Any
@@ -45,20 +45,24 @@ class Publisher:
         comm_id, parent = comm.comm_id, self._request()  # an attribute of traitlets', which is looked up but once
         if msg_type == "comm_msg" and isinstance(data, dict) and data.get("method") == "update":
             if (self._open_comms.get(comm_id) or comm.target_name) == WIDGET:
-                paths = old_widgets.paths_of(data) if comm_id in self._calls.old else data.get("buffer_paths")
-                update = update_of(data.get("state"), paths, buffers, self._pack)
+                is_old = comm_id in self._old
+                update = write_said(data, is_old, buffers) or self._update_of(data, is_old, buffers)
                 self._turns.call_in_turn(self._push, comm, comm_id, update, parent, metadata)
                 return
         data, metadata = {} if data is None else data, dict(metadata) if metadata else {}
         buffers = list(buffers) if buffers else []
         if msg_type == "comm_open":
-            self._publish_open(comm, data, keys, metadata, buffers, parent)
+            self._publish_open(comm, comm_id, data, keys, metadata, buffers, parent)
             return
         content = self._pack({"comm_id": comm_id, "data": data, **keys})
         if msg_type == "comm_close":
             self._turns.call_soon(self._close, comm, comm_id, content, metadata, buffers, parent)
         else:
             self._turns.call_in_turn(self._say, comm, msg_type, comm_id, content, metadata, buffers, parent)
+
+    def _update_of(self, data: dict[str, Any], is_old: bool, buffers: Any) -> Update:
+        paths = old_widgets.paths_of(data) if is_old else data.get("buffer_paths")
+        return update_of(data.get("state"), paths, buffers, self._pack)
 
     def _push(self, comm: Comm, comm_id: str, update: Update, parent: Any, metadata: Any) -> None:
         is_anothers = self._comms.get(comm_id, comm) is not comm
@@ -84,48 +88,49 @@ class Publisher:
         words = "%s on the comm %s, which isn't open, goes nowhere"
         self._turns.call_unlocked(self._log.debug, words, kind, comm_id)
 
-    def _publish_open(self, comm: Comm, data: Any, keys: Any, metadata: Any, buffers: Any, parent: Any) -> None:
-        named, paths, is_old = {"comm_id": comm.comm_id, "target_name": comm.target_name}, None, False
-        if comm.target_name == WIDGET:
+    def _publish_open(
+        self, comm: Comm, comm_id: str, data: Any, keys: Any, metadata: Any, buffers: Any, parent: Any
+    ) -> None:
+        target_name, paths, is_old = comm.target_name, None, False
+        named = {"comm_id": comm_id, "target_name": target_name}
+        if target_name == WIDGET:
             metadata, is_old = {**VERSION, **metadata}, old_widgets.is_old_open(data)
-            played = old_widgets.open_of(data) if is_old else data
-            said = data if self._calls.speaks_old(is_old) else played
-            paths = played.get("buffer_paths") if isinstance(played, dict) else None
-            content = self._pack({**keys, **named, "data": said})
-            text = content if said is played else self._pack({**named, "data": played})
+            content, text = self._open_texts(data, {**keys, **named}, named, is_old)
+            paths = data.get("buffer_paths") if isinstance(data, dict) and not is_old else None
         else:
-            content, text = self._pack({"comm_id": comm.comm_id, "data": data, **keys}), self._pack(named)
-        parts = comm, is_old, content, text, paths, metadata, buffers, parent
+            content, text = self._pack({"comm_id": comm_id, "data": data, **keys}), self._pack(named)
+        parts = comm, comm_id, target_name, is_old, content, text, paths, metadata, buffers, parent
         job: Callable[..., object] = self._open
         tell: Callable[..., object] = self._tell_open
         if self._turns.is_amid():
             job, tell = self._open_later, self._tell_open_later
         self._turns.call_in_turn(job, tell, *parts)
 
-    def _open(
-        self,
-        tell: Callable[..., object],
-        comm: Comm,
-        is_old: bool,
-        content: bytes,
-        text: bytes,
-        paths: Any,
-        *frame: Any,
-    ) -> None:
+    def _open_texts(self, data: Any, keys: Any, named: Any, is_old: bool) -> tuple[bytes, bytes]:
+        """The contents of a widget's open for the frontends and for the manager."""
+        if not is_old:
+            content = self._pack({**keys, "data": data})
+            return content, content
+        state = self._pack(data)
+        played = old_widgets.open_of(state)
+        said = state if self._calls.speaks_old(is_old) else played
+        return _with_data(self._pack(keys), said), _with_data(self._pack(named), played)
+
+    def _open(self, tell: Callable[..., object], comm: Comm, comm_id: str, target_name: str, *parts: Any) -> None:
         """Opens a comm, and tells the frontends; where one of these fails, neither is done."""
-        metadata, buffers, parent = frame
+        is_old, content, text, paths, metadata, buffers, parent = parts
         try:
-            self._calls.open(comm.comm_id, comm.target_name, text, buffers, paths)
+            self._calls.open(comm_id, target_name, text, buffers, paths)
             if is_old:
-                self._calls.old.add(comm.comm_id)
-            self._turns.send(tell, comm, content, metadata, buffers, parent)
+                self._calls.old.add(comm_id)
+            self._turns.send(tell, comm, comm_id, content, metadata, buffers, parent)
         except BaseException as error:
             self._undo_open(comm, error)
             raise
 
     def _tell_open(self, comm: Comm, *parts: Any) -> None:
         try:
-            self._calls.send_now("comm_open", comm.comm_id, *parts)
+            self._calls.send_now("comm_open", *parts)
         except BaseException as error:
             self._turns.call(self._undo_open, comm, error)
             raise
@@ -155,3 +160,8 @@ class Publisher:
     def _give_up(self, comm: Comm) -> None:
         self._comms.pop(comm.comm_id, None)
         comm._closed = True
+
+
+def _with_data(content: bytes, data: bytes) -> bytes:
+    """A content that has this data besides; both are JSON."""
+    return content[:-1] + b',"data":' + data + b"}"

@@ -204,6 +204,8 @@ def _of_kernel(kernel: Any, stock: Any, manager: Any) -> Iterator[Patch]:
 
 def _current_manager() -> Any:
     """The manager of the kernel that runs, or else the one that was installed last."""
+    if len(_installed) == 1:
+        return _installed[0].manager
     kernel = _running_kernel()
     for installation in reversed(_installed):
         if installation.kernel is kernel:

@@ -58,13 +58,12 @@ from __future__ import annotations
 
 import contextlib
 import logging
-import os
 import pkgutil
 import weakref
 from collections.abc import Callable
 from typing import Any
 
-from rolgunai import Outcome, Reason, old_widgets
+from rolgunai import Outcome, Reason, _process, old_widgets
 from rolgunai._callbacks import Callbacks
 from rolgunai._calls import CLOSED, DONE, NO_COMM, NOTHING, OPENED, Calls, Pack
 from rolgunai._kernel import NOT_PLAYABLE, WIDGET, Comm, CommRefused, Message, Send
@@ -91,6 +90,7 @@ class Hub:
     primary=)` makes a comm that a frontend opens, and `pack` writes JSON. `is_old_browser` says whether the browser
     side of widgets that speak version 1 of the protocol in Python speaks that too. `comm_log` is where it is told what
     ipykernel and `comm` tell: errors in callbacks, and messages to no comm; `log` has what the manager refuses.
+    `handle(comm, msg)` has a comm handle a message, in the place of its `handle_msg`.
 
     `publish(comm, msg_type, data, metadata, buffers, **keys)` is what the kernel's code says on a comm: help() of it
     says more.
@@ -109,14 +109,15 @@ class Hub:
         pack: Pack | None = None,
         is_old_browser: bool = True,
         comm_log: logging.Logger | None = None,
+        handle: Callable[[Any, Message], object] | None = None,
     ) -> None:
         if not hasattr(self, "log"):
             self.log = logging.getLogger("rolgunai")
         self.comms, self.targets = {}, {}
         self._request, self._make, self._pack = request, make, pack or packer()
         self._comm_log = comm_log or self.log
-        self._callbacks = Callbacks(self._comm_log)
-        self._turns, self._pid = Turns(self._failed_later), os.getpid()
+        self._callbacks = Callbacks(self._comm_log, handle)
+        self._turns, self._forks = Turns(self._failed_later), _process.forks
         self._calls = Calls(send, self._turns, self._pack, lambda: self.targets, is_old_browser)
         self._open_comms, self._keys = self._calls.open_comms, self._calls.watches.keys
         self._last_word = LastWord(self._calls, self._turns, self._pack, request, self.log)
@@ -160,21 +161,22 @@ class Hub:
         if self._is_forked():
             self.comms[comm_id] = comm
         else:
-            self._turns.call(self._register, comm)
+            self._turns.call(self._register, comm, comm_id)
         return comm_id
 
     def _is_forked(self) -> bool:
         """Whether this is a child of the kernel's process. It has no frontends, and a thread that it doesn't have may
         have held a lock when it was forked."""
-        return os.getpid() != self._pid
+        return _process.forks != self._forks
 
-    def _register(self, comm: Comm) -> None:
-        other = self.comms.get(comm.comm_id)
-        self.comms[comm.comm_id] = comm
+    def _register(self, comm: Comm, comm_id: str) -> None:
+        other = self.comms.get(comm_id)
+        self.comms[comm_id] = comm
         if other is not None and other is not comm:
             other._closed = True
-            self._calls.drop(comm.comm_id)
-        self._open_by_hand(comm)
+            self._calls.drop(comm_id)
+        if comm_id not in self._open_comms:
+            self._open_by_hand(comm)
 
     def _open_by_hand(self, comm: Comm) -> None:
         """Has the manager know a comm that is open and that it doesn't know, as one that was registered by hand."""

@@ -8,6 +8,7 @@ package knows of it. Here `kernel` is the side of Python, `frontend` that of the
 from __future__ import annotations
 
 import json
+from collections.abc import Sequence
 from typing import Any
 
 from rolgunai._native import write
@@ -27,9 +28,9 @@ def is_old_ask(data: Any) -> bool:
     return isinstance(data, dict) and "widget_class" in data and "state" not in data
 
 
-def open_of(data: Data) -> Data:
-    """The data of an open by the kernel in version 1, in version 2."""
-    return {"state": data, "buffer_paths": []}
+def open_of(state: bytes) -> bytes:
+    """The data of an open by the kernel in version 1, in version 2; both are JSON."""
+    return b'{"state":' + state + b',"buffer_paths":[]}'
 
 
 def paths_of(data: Data) -> list[list[Any]]:
@@ -60,11 +61,13 @@ def update_of(data: Data) -> tuple[Any, Any]:
     return data.get("sync_data"), [[key] for key in keys] if keys and isinstance(keys, list) else keys
 
 
-def to_frontend(content: bytes) -> bytes:
+def to_frontend(content: bytes, said: bytes = b"", keys: Sequence[str] = ()) -> bytes:
     """The content of a `comm_msg` with buffers of the manager's in version 2, as a frontend reads it in version 1. One
-    without buffers is the same in both."""
+    without buffers is the same in both. The paths may be those that were said, which these keys begin."""
     before, _, rest = content.partition(_PATHS)  # the manager writes the keys in their order: the paths come first
+    if said and rest.startswith(said):
+        return before + b'"data":{"buffers":' + write(keys) + rest[len(said) :]
     after = rest.decode()
     paths, end = _decoder.raw_decode(after)
-    keys = write([path[0] for path in paths])
-    return b'%s"data":{"buffers":%s%s' % (before, keys, after[end:].encode())
+    told = write([path[0] for path in paths])
+    return b'%s"data":{"buffers":%s%s' % (before, told, after[end:].encode())
