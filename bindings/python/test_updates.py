@@ -185,8 +185,14 @@ def copies():
     deep = []
     for _ in range(10**5):
         deep = [deep]
-    for value in (endless, {"a": endless}, deep):
-        check("without an end, or too deep", type(raised(lambda: copied(value))), RecursionError)
+    circular = {}
+    circular |= {"a": circular, "b": circular}
+    limit = sys.getrecursionlimit()
+    for levels in (limit, 10**6):
+        sys.setrecursionlimit(levels)
+        for value in (endless, {"a": endless}, circular, deep):
+            check(f"without an end, or too deep, of {levels}", type(raised(lambda: copied(value))), RecursionError)
+    sys.setrecursionlimit(limit)
     while deep:
         deep = deep.pop()
 

@@ -3,9 +3,6 @@
 
 #include "native.h"
 
-/* Containers may stand this deep in one another, whatever sys.setrecursionlimit says: C's stack doesn't grow by it. */
-enum { MOST_LEVELS = 1000 };
-
 /* Of a text up to this length the UTF-8 is asked for that CPython keeps with the str; of a longer one a copy. */
 enum { SHORT_TEXT = 4096 };
 

@@ -21,6 +21,10 @@ enum { LONG_WORK = 1 << 24, WORK_OF_JSON = 64 };
  * which the library writes anew each time, has a room that grows up to TEXT_ROOM, so that it's written once. */
 enum { FRAME_ROOM = 4096, TEXT_ROOM = LONG_WORK / WORK_OF_JSON };
 
+/* How many lists and dicts may stand in one another, whatever sys.setrecursionlimit says: C's stack doesn't grow by
+ * it. */
+enum { MOST_LEVELS = 1000 };
+
 /* The numbers of sent messages' types, and of the keys of a frontend's, in module_state. */
 enum { TYPES = 4 };
 enum { OF_CONTENT, OF_DATA, OF_METHOD, OF_COMM_ID, OF_STATE, OF_SYNC_DATA, OF_BUFFERS, OF_PATHS, OF_KEYS, WORDS };
