@@ -72,10 +72,7 @@ c = make(target_name="t"); c.open({"again": 1}); print(c._closed, c.comm_id in M
 c.send({"n": 1}); c.close()
 """,
     ),
-    (
-        "open after close",
-        "c = make(target_name='t'); c.close(); c.open({'again': 1}); print(c._closed); c.send({'n': 1}); c.close()",
-    ),
+    ("open after close", "c = make(target_name='t'); c.close(); c.open({}); print(c._closed); c.send(1); c.close()"),
     (
         "an id of one's own, twice",
         """
@@ -96,14 +93,8 @@ b.send({"n": 3}); print(M.comms["x"] is b); b.close()
         "w = W.FloatText(float('nan')); print(w.value); w.value = 2.0; w.value = float('inf'); print(w.value)",
     ),
     ("a FloatProgress to inf", "print(W.FloatProgress(max=float('inf')).max)"),
-    (
-        "circular data",
-        "c = make(target_name='t'); a = []; a.append(a); print(attempt(lambda: c.send({'x': a}))); c.close()",
-    ),
-    (
-        "two keys of one text",
-        "c = make(target_name='t'); print(attempt(lambda: c.send({(1,): 1, '(1,)': 2}))); c.close()",
-    ),
+    ("circular data", "c, a = make(target_name='t'), []; a.append(a); print(attempt(lambda: c.send(a))); c.close()"),
+    ("two keys of one text", "c = make(target_name='t'); print(attempt(lambda: c.send({(): 1, '()': 2}))); c.close()"),
     (
         "what isn't JSON",
         "c = make(target_name='t'); print(attempt(lambda: c.send({'x': object()})).split('(')[0]); c.close()",
@@ -198,6 +189,39 @@ class My(ipykernel.comm.Comm):
     def publish_msg(self, kind, *parts, **keys): said.append(kind)
     _publish_msg = publish_msg
 c = My(target_name="t"); c.send({}); c.close(); print(said, c.comm_id in M.comms)
+""",
+    ),
+    (
+        "what runs around a message",
+        """
+import logging
+seen, events = [], get_ipython().events
+class My(ipykernel.comm.Comm):
+    def handle_msg(self, message): seen.append("mine"); super().handle_msg(message)
+runs = {kind: (lambda kind=kind: seen.append(kind)) for kind in ("pre_execute", "post_execute")}
+for kind, f in runs.items(): events.register(kind, f)
+logging.disable()  # which tells each error
+for c in (make(target_name="t"), My(target_name="t")):
+    for heard in (lambda message: seen.append("heard"), lambda message: 1 / 0, None):
+        c.on_msg(heard); hear("comm_msg", c.comm_id, data={}); seen.append("then")
+c.handle_msg = lambda message: seen.append("its own"); hear("comm_msg", c.comm_id, data={}); c.close()
+logging.disable(logging.NOTSET)
+for kind, f in runs.items(): events.unregister(kind, f)
+print(seen)
+""",
+    ),
+    (
+        "the line at debug of a message",
+        """
+import logging
+class Lines(logging.Handler):
+    def emit(self, record): print(record.levelname, record.getMessage()[:30])
+c = make(target_name="t", comm_id="z"); c.on_msg(lambda message: print("heard"))
+log, lines = getattr(c, "log", None) or logging.getLogger("Comm"), Lines(logging.DEBUG)
+for where in (log, logging.getLogger()):
+    level = log.level; log.setLevel(logging.DEBUG); where.addHandler(lines); hear("comm_msg", "z", data={})
+    where.removeHandler(lines); log.setLevel(level)
+hear("comm_msg", "z", data={}); c.close()
 """,
     ),
     ("the manager", "print(isinstance(M, ipykernel.comm.CommManager), M in get_ipython().configurables)"),
