@@ -16,6 +16,22 @@ struct MessagesByParts {
     at_once: bool,
 }
 
+fn parts_of<'a>(
+    client: u32,
+    header: &'a str,
+    metadata: &'a str,
+    content: &'a str,
+    buffers: RawBuffers<'a>,
+) -> IncomingParts<'a> {
+    IncomingParts {
+        client,
+        header: header.as_bytes(),
+        metadata: metadata.as_bytes(),
+        content: content.as_bytes(),
+        buffers,
+    }
+}
+
 impl Subject for MessagesByParts {
     fn answer(&self, alloc: Global, line: &str, text: &mut Vec<u8>) -> Result<(), TestFault> {
         let (client, line) = split_word(line);
@@ -33,16 +49,11 @@ impl Subject for MessagesByParts {
                 sizes.push(word.len())?;
             }
         }
-        let parts = IncomingParts {
-            client,
-            header: header.as_bytes(),
-            metadata: metadata.as_bytes(),
-            content: content.as_bytes(),
-            buffers: RawBuffers::Joined {
-                bytes: &buffers,
-                sizes: &sizes,
-            },
+        let joined = RawBuffers::Joined {
+            bytes: &buffers,
+            sizes: &sizes,
         };
+        let parts = parts_of(client, header, metadata, content, joined);
         let mut scratch = PartsScratch::new(alloc);
         if self.at_once {
             let lists = Bump::new(alloc);
