@@ -156,7 +156,7 @@ rolgunai.comms.install(); rolgunai.comms.uninstall(); rolgunai.comms.install()
 
 def newer_kernels():
     with contextlib.closing(Frontend("python3", PYTHONPATH=PATHS)) as front:
-        words = "rolgunai was tried with ipykernel up to 6.29; this is 99.1.0"
+        words = "rolgunai was tried with ipykernel up to 7.2; this is 99.1.0"
         check("a newer ipykernel is told of once", front.run(NEWER)[0].count(words), 1)
         check("and none else", front.run("import rolgunai.comms; rolgunai.comms.install()")[0].count("tried with"), 0)
 

@@ -54,9 +54,10 @@ kernel.shell_handlers["comm_msg"], kernel.session.send = counts, sends
 many, going = [ipywidgets.IntSlider(at) for at in range(100)], True
 def work():
     while going:
+        began = time.monotonic()
         bar = ipywidgets.IntProgress(1)
-        time.sleep(0.02)
         bar.close(); bar.layout.close(); bar.style.close()
+        time.sleep(0.02 + 5 * (time.monotonic() - began))  # so that a busy page keeps up
 worker = threading.Thread(target=work)
 worker.start()
 """

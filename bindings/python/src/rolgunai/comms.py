@@ -64,7 +64,7 @@ __all__ = ["Comm", "CommManager", "CommRefused", "install", "uninstall"]
 # What a frontend sends on shell or control, and the kernel has the manager handle.
 _HANDLED = ("comm_open", "comm_msg", "comm_close")
 # The newest ipykernel that this was tried with; README.md has a table of what it was tried with.
-_NEWEST = (6, 29)
+_NEWEST = (7, 2)
 
 
 class _Installation(NamedTuple):
