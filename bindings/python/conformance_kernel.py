@@ -82,7 +82,7 @@ class BrokenKernel(Kernel):
 
     def __init__(self, **keys):
         super().__init__(**keys)
-        self.comms, self.fault = Comms(), works
+        self.comms, self.fault, self.aborts = Comms(), works, False
         for kind in COMM_TYPES:
             self.shell_handlers[kind] = self.control_handlers[kind] = self.hears
         for kind in ("create_subshell_request", "delete_subshell_request"):
@@ -94,7 +94,12 @@ class BrokenKernel(Kernel):
 
     async def dispatch_shell(self, msg):
         before_parsing(self, [bytes(frame) for frame in msg])
-        await super().dispatch_shell(msg)
+        if not self.aborts:
+            return await super().dispatch_shell(msg)
+        self.aborts = False
+        ident, parts = self.session.feed_identities(msg, copy=False)
+        parent = self.session.deserialize(parts, copy=False)
+        self.session.send(self.shell_stream, "kernel_reply", {"status": "aborted"}, parent, ident)
 
     async def process_control(self, msg):
         if self.fault is FAULTS["slow"]:
@@ -135,6 +140,9 @@ class BrokenKernel(Kernel):
         word, _, rest = code.partition(" ")
         parent = self.get_parent("shell")
         call = {"kind": word, "content": {}, "metadata": {}, "buffers": [], "channel": "cell", "header": {}}
+        if word == "fails":  # and what waits behind it is aborted, as IRkernel does
+            self.aborts = True
+            return {"status": "error", "ename": "CellError", "evalue": "as the test wants it", "traceback": []}
         if word == "fault":
             self.comms, self.fault = Comms(), FAULTS[rest]
         else:

@@ -41,6 +41,7 @@ CELLS = {
     "good": "language: conformance\n\n[echo]\necho\n",
     "ending": "language: conformance\n\n[echo]\nfault kernel_ends\n",
     "hanging": "language: conformance\n\n[echo]\nfault kernel_hangs\n",
+    "failing": "language: conformance\n\n[echo]\nfails\n",
     "empty": "language: conformance\n",
     "like": "language: conformance\nlike: nothing\n\n[before]\n1\n",
 }
@@ -57,6 +58,9 @@ ROWS = [
       "^passed +opening/unknown_target", "^1 passed, 0 choice, 1 failed"]),
     ("a kernel that hangs", "works --cells {folder}/hanging.txt --timeout 15 --two", 1,
      ["^failed +opening/echo", "^ +the kernel doesn't answer kernel_info_request within 15 s",
+      "^passed +opening/unknown_target", "^1 passed, 0 choice, 1 failed"]),
+    ("a cell that fails, and what waits behind it is aborted", "works --cells {folder}/failing.txt --two", 1,
+     ["^failed +opening/echo", "^ +the cell .echo. ended in CellError: as the test wants it",
       "^passed +opening/unknown_target", "^1 passed, 0 choice, 1 failed"]),
     ("a kernel that starts once", "once --cells {folder}/ending.txt --two", 1,
      ["^failed +opening/echo", "^ +and after it the kernel didn't start anew: the kernel ended; .*no second time",

@@ -227,7 +227,9 @@ class Frontend:
             if silent or now > begin + 4 * self.timeout:
                 raise NotAnswering(self.why_not(replied, self.timeout if silent else 4 * self.timeout))
             for message in got:
-                if message.parent == probe:
+                if message.parent == probe and content_of(message).get("status") == "aborted":
+                    probe = self.send("shell", "kernel_info_request", b"{}")  # as all that waits behind a cell's error
+                elif message.parent == probe:
                     replied = replied or message.channel != "iopub"
                     idle = idle or is_idle(message)
                 else:
