@@ -21,9 +21,11 @@ import checks
 
 HERE = Path(__file__).resolve().parent
 KERNEL = [sys.executable, "-Xfrozen_modules=off", "-B", str(HERE / "conformance_kernel.py"), sys.argv[1]]
-ONCE = """import os, runpy, sys
-if os.path.exists(sys.argv[1]): sys.exit('no second time')
-open(sys.argv.pop(1), 'w').close()
+STARTS = """import os, runpy, sys
+path = sys.argv.pop(1)
+time = 'second' if os.path.exists(path) else 'first'
+open(path, 'w').close()
+if time != sys.argv.pop(1): sys.exit(f'no {time} time')
 sys.argv[0] = sys.argv.pop(1)
 sys.path.insert(0, os.path.dirname(sys.argv[0]))
 runpy.run_path(sys.argv[0], run_name='__main__')"""
@@ -34,8 +36,10 @@ KERNELS = {
     "absent": ["/nowhere/kernel", "{connection_file}"],
     "ends": [sys.executable, "-c", "raise ValueError('no kernel here')", "{connection_file}"],
     "silent": [sys.executable, "-c", "import time; time.sleep(3600)", "{connection_file}"],
-    "once": [sys.executable, "-Xfrozen_modules=off", "-B", "-c", ONCE, "{folder}/marker", *KERNEL[-2:], "-f",
+    "once": [sys.executable, "-Xfrozen_modules=off", "-B", "-c", STARTS, "{folder}/marker", "first", *KERNEL[-2:], "-f",
              "{connection_file}"],
+    "second": [sys.executable, "-Xfrozen_modules=off", "-B", "-c", STARTS, "{folder}/marker", "second", *KERNEL[-2:],
+               "-f", "{connection_file}"],
 }  # fmt: skip
 CELLS = {
     "good": "language: conformance\n\n[echo]\necho\n",
@@ -66,6 +70,7 @@ ROWS = [
      ["^failed +opening/echo", "^ +and after it the kernel didn't start anew: the kernel ended; .*no second time",
       "^failed +opening/unknown_target", "^ +not played, since the kernel didn't start anew: the kernel ended",
       "^0 passed, 0 choice, 2 failed"]),
+    ("a kernel that starts at the second time", "second --cells {folder}/good.txt --two", 0, ["^2 passed, 0 choice"]),
     ("no such scenario", "works --only nothing", 2, ["there is no scenario or group nothing; the groups are opening"]),
     ("a report in no folder", "works --report {folder}/none/report.html", 2, ["there is no folder for the report"]),
     ("no time", "works --timeout 0", 2, ["--storm and --timeout are more than 0 seconds"]),

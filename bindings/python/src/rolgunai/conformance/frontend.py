@@ -68,17 +68,26 @@ class Frontend:
         self.name = name
         self.specs = KernelSpecManager(kernel_dirs=[kernels]) if kernels else KernelSpecManager()
         self.timeout = timeout
-        self.starts = 0
         self.info: Json = {}
         self.sockets: dict[str, zmq.Socket[bytes]] = {}
         self.start()
 
     def start(self) -> None:
+        """Starts the kernel; where it doesn't come up, once more, since meanwhile another program may have one of the
+        ports that were free for it.
+
+        Raises NotAnswering where it doesn't come up then.
+        """
+        try:
+            self.start_once()
+        except NotAnswering:
+            self.start_once()
+
+    def start_once(self) -> None:
         """Starts the kernel, and connects to it. What it writes is kept for what is said where it ends.
 
         Raises NotAnswering where it doesn't come up.
         """
-        self.starts += 1
         self.kernel = KernelManager(kernel_name=self.name, kernel_spec_manager=self.specs)
         self.words = tempfile.TemporaryFile()
         try:
@@ -237,14 +246,14 @@ class Frontend:
         return max(QUIET, TIMES * (self.clock.now() - begin))
 
     def why_not(self, replied: bool, seconds: float) -> str:
-        """Why it is given up on: what it wrote last where it ended, or what is missing of its answer."""
-        if self.kernel.is_alive():
-            missing = "says no busy and idle on iopub after" if replied else "doesn't answer"
-            return f"the kernel {missing} kernel_info_request within {seconds:g} s"
+        """Why it is given up on: that it ended, or what is missing of its answer; and what it wrote last."""
+        missing = "says no busy and idle on iopub after" if replied else "doesn't answer"
+        said = f"the kernel {missing} kernel_info_request within {seconds:g} s"
         size = os.fstat(self.words.fileno()).st_size
         written = os.pread(self.words.fileno(), 4000, max(0, size - 4000)).decode(errors="replace")
         lines = [line.strip() for line in written.splitlines() if line.strip()][-LAST_WORDS:]
-        return "the kernel ended" + (f"; the last that it wrote: {' | '.join(lines)}" if lines else "")
+        said = said if self.kernel.is_alive() else "the kernel ended"
+        return said + (f"; the last that it wrote: {' | '.join(lines)}" if lines else "")
 
     def take(self, message: Message, sent: list[str], came: Came) -> None:
         """Puts one message where it belongs in what came."""
