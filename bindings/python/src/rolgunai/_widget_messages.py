@@ -34,7 +34,7 @@ class WidgetMessages:
     ) -> None:
         self._calls, self._turns, self._last_word, self._pack = calls, turns, last_word, pack
         self._hearing, self._deliver, self._log = hearing, hearing.deliver, log
-        self._old, self._end = calls.old, last_word.end
+        self._old, self._end, self._play_update = calls.old, last_word.end, calls.hear_update
 
     def hear(self, comm: Comm, msg: Message, content: Data, data: Data) -> None:
         """Hears a `comm_msg` with this content and data."""
@@ -89,7 +89,12 @@ class WidgetMessages:
         if keys is not None:
             watch.keys = keys
         try:
-            if not self._is_taken(watch, msg, text, held, parts):
+            try:
+                refused = self._turns.call(self._play_update, watch, msg, text, held, parts)
+            except NOT_PLAYABLE as error:
+                self._log.warning("comm_msg: %s", error)
+                return
+            if refused is not None and not self._hearing.is_done("comm_msg", {"comm_id": comm_id}, refused):
                 return
             told = [*held]
             if comm_id in self._old:
@@ -100,15 +105,6 @@ class WidgetMessages:
             self._last_word.say(comm, watch, told)
         finally:
             self._end(watch)
-
-    def _is_taken(self, watch: Watch, msg: Message, text: bytes, held: Data, parts: Parts | None) -> bool:
-        """Plays an update; gives whether the manager takes it. The watch begins with it."""
-        try:
-            outcome = self._turns.call(self._calls.hear_update, watch, msg, text, held, parts)
-        except NOT_PLAYABLE as error:
-            self._log.warning("comm_msg: %s", error)
-            return False
-        return outcome is None or self._hearing.is_done("comm_msg", {"comm_id": watch.comm_id}, outcome)
 
     def _state_request(self, comm: Comm, msg: Message, content: Data) -> None:
         """The widget answers, as it does in ipywidgets, and so has a say in what of it goes out. Where it says nothing

@@ -58,8 +58,9 @@ def placed(state: Data, paths: Iterable[list[Any]], buffers: Iterable[Any]) -> D
     """The state itself, with its buffers at their paths."""
     for path, buffer in zip(paths, buffers):
         at: Any = state
-        for step in path[:-1]:
-            at = at[step]
+        if len(path) > 1:
+            for step in path[:-1]:
+                at = at[step]
         at[path[-1]] = buffer
     return state
 
