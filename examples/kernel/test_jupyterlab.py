@@ -56,12 +56,14 @@ def work():
     while going:
         began = time.monotonic()
         bar = ipywidgets.IntProgress(1)
+        took = time.monotonic() - began
+        time.sleep(0.01)
         bar.close(); bar.layout.close(); bar.style.close()
-        time.sleep(0.02 + 5 * (time.monotonic() - began))  # so that a busy page keeps up
+        time.sleep(2 * took)  # so that a busy page keeps up
 worker = threading.Thread(target=work)
 worker.start()
 """
-LOADS = 3
+LOADS = 5
 AWAITS = 120  # JupyterLab waits 4 seconds for all states; then it asks for them one by one
 
 
