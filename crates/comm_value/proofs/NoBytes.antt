@@ -1,5 +1,5 @@
 -- Values in which no bytes stand.
-use Rattle.std.proofs.Common.{◌≡◌, ℕ, ℤ, List, [], ◌∷◌, map, Bool, true, false, cond, Ordering, Less, Equal, Greater, refl, sym, ap, ◌∙◌}
+use Rattle.std.proofs.Common.{◌≡◌, ℕ, suc, ℤ, List, [], ◌∷◌, ◌++◌, map, Bool, true, false, cond, Ordering, Less, Equal, Greater, refl, sym, ap, ◌∙◌}
 use Rattle.std.specs.Prelude.{◌||◌, Option, Some, None, option_map, option_and_then}
 use Rattle.std.specs.Ordering.{is_eq, match_ordering}
 use Rattle.json.specs.Json as json
@@ -13,7 +13,7 @@ use Rattle.comm_value.specs.Order.{key_cmp}
 use Rattle.comm_value.specs.Put.{insert}
 use Rattle.comm_value.specs.FromJson.{tree_of, items_of, members_of, number_of, other_number}
 use Rattle.comm_value.specs.Paths.{items_from, step_tree, path_tree, paths_tree}
-use Rattle.comm_value.specs.Places.{has_bytes, items_have_bytes, members_have_bytes, plain, plain_item, plain_items, plain_members, is_buffer}
+use Rattle.comm_value.specs.Places.{has_bytes, items_have_bytes, members_have_bytes, plain, plain_item, plain_items, plain_members, is_buffer, paths, item_paths, member_paths, buffers, item_buffers, member_buffers}
 use Rattle.comm_value.proofs.BytesLemmas.{neither}
 use Rattle.comm_value.proofs.PlainLemmas.{item_plain, member_kept, member_gone}
 
@@ -116,6 +116,54 @@ mutual
   pub plain_members_free : (ms : Members) → members_have_bytes (plain_members ms) ≡ false
   plain_members_free no_members = refl
   plain_members_free (member k t ms) = member_case k t ms (is_buffer t) refl (λ h. plain_free t h) (plain_members_free ms)
+
+-- ---- without places
+
+mutual
+  free_paths : (t : Tree) → has_bytes t ≡ false → paths t ≡ []
+  free_paths null h = refl
+  free_paths (boolean b) h = refl
+  free_paths (whole z) h = refl
+  free_paths (decimal s) h = refl
+  free_paths (text s) h = refl
+  free_paths (bytes b) h = cc
+  free_paths (list ts) h = free_item_paths 0 ts h
+  free_paths (dict ms) h = no_paths ms h
+
+  free_item_paths : (n : ℕ) (ts : Items) → items_have_bytes ts ≡ false → item_paths n ts ≡ []
+  free_item_paths n no_items h = refl
+  free_item_paths n (item t ts) h =
+      let p = neither (has_bytes t) (items_have_bytes ts) h in
+      ap (λ l. map (λ q. Index n ∷ q) l ++ item_paths (suc n) ts) (free_paths t p.0) ∙ free_item_paths (suc n) ts p.1
+
+  pub no_paths : (ms : Members) → members_have_bytes ms ≡ false → member_paths ms ≡ []
+  no_paths no_members h = refl
+  no_paths (member k t ms) h =
+      let p = neither (has_bytes t) (members_have_bytes ms) h in
+      ap (λ l. map (λ q. Key k ∷ q) l ++ member_paths ms) (free_paths t p.0) ∙ no_paths ms p.1
+
+mutual
+  free_buffers : (t : Tree) → has_bytes t ≡ false → buffers t ≡ []
+  free_buffers null h = refl
+  free_buffers (boolean b) h = refl
+  free_buffers (whole z) h = refl
+  free_buffers (decimal s) h = refl
+  free_buffers (text s) h = refl
+  free_buffers (bytes b) h = cc
+  free_buffers (list ts) h = free_item_buffers ts h
+  free_buffers (dict ms) h = no_buffers ms h
+
+  free_item_buffers : (ts : Items) → items_have_bytes ts ≡ false → item_buffers ts ≡ []
+  free_item_buffers no_items h = refl
+  free_item_buffers (item t ts) h =
+      let p = neither (has_bytes t) (items_have_bytes ts) h in
+      ap (λ l. l ++ item_buffers ts) (free_buffers t p.0) ∙ free_item_buffers ts p.1
+
+  pub no_buffers : (ms : Members) → members_have_bytes ms ≡ false → member_buffers ms ≡ []
+  no_buffers no_members h = refl
+  no_buffers (member k t ms) h =
+      let p = neither (has_bytes t) (members_have_bytes ms) h in
+      ap (λ l. l ++ member_buffers ms) (free_buffers t p.0) ∙ no_buffers ms p.1
 
 -- ---- lists of paths
 

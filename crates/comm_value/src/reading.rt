@@ -6,9 +6,9 @@ ghost use Rattle.comm_value.specs.FromJson.{taken_as};
 ghost use Rattle.comm_value.specs.Order.{is_ordered, members_ordered};
 ghost use Rattle.comm_value.specs.Put.{insert};
 ghost use Rattle.comm_value.specs.Reading.{Reads, ReadsItems, ReadsMember, ReadsMembers, ReadsMore};
-ghost use Rattle.comm_value.specs.View.{tree, members_of};
+ghost use Rattle.comm_value.specs.View.{tree, members_of, flat, AllFilled};
 
-use crate::chunks::put_member;
+use crate::chunks::{Chunk, chunks_from, put, put_member};
 use crate::from_json::{Numbers, number_from};
 use crate::known_texts::KnownTexts;
 use crate::search::key_order;
@@ -20,8 +20,8 @@ use std::cmp::Ordering;
 
 impl Dict {
     /// Reads the members of an object that has begun, in which values nest at most so deep; short texts are shared with
-    /// those that were met before. None: the text is no JSON, a number of it is no value, it is large, or memory ran
-    /// out. [`Dict::from_ref`] says which, and reads what is large.
+    /// those that were met before. None: the text is no JSON, a number of it is no value, or memory ran out, and
+    /// [`Dict::from_ref`] says which. O(n log n) in its members where each key is near those before it.
     pub fn read(
         alloc: Global,
         numbers: Numbers,
@@ -101,18 +101,7 @@ fn read_items(
         if reader.take_end_array() {
             return Items::new(alloc, found).ok();
         }
-        if is_many(found.len()) {
-            return None;
-        }
     }
-}
-
-// Whether so many items of a list, or members of an object, are the most that are read one by one.
-#[inline(always)]
-fn is_many(count: usize) -> bool
-    ensures { result ≡ nat_le 64 count }
-{
-    64 <= count
 }
 
 // With room to spare the item is pushed where this is called.
@@ -213,9 +202,54 @@ fn read_rest(
     let mut found = before;
     while let Some(member) = read_member(alloc, numbers, texts, reader, depth)? {
         if is_many(found.len()) {
-            return None;
+            let chunks = chunks_from(alloc, found).ok()?;
+            let more = put(alloc, chunks, member).ok()?;
+            return read_many(alloc, numbers, texts, reader, depth, more);
         }
-        found = put_member(found, member).ok()?;
+        found = put_among_few(found, member).ok()?;
     }
     Dict::from_members(alloc, found).ok()
+}
+
+// Whether so many members are the most that stand in one list, in which a new one moves those behind it.
+#[inline(always)]
+fn is_many(count: usize) -> bool
+    ensures { result ≡ nat_le 64 count }
+{
+    64 <= count
+}
+
+// Puts a member at its place among less than 64.
+#[inline(always)]
+fn put_among_few(members: Vec<Member>, member: Member) -> Result<Vec<Member>, AllocError>
+    requires few { length members.items < 64 }
+    requires ordered { members_ordered (members_of members.items) ≡ true }
+    ensures { IfOk result (λ all. members_of all.items
+        ≡ insert member.key (tree member.value) (members_of members.items)) }
+{
+    put_member(members, member)
+}
+
+// The dict of the members in these chunks and of those that follow them, each of which goes to the chunk of its key.
+#[cycle(read)]
+#[inline(never)]
+fn read_many(
+    alloc: Global,
+    numbers: Numbers,
+    texts: &mut KnownTexts,
+    reader: &mut Reader<'_>,
+    depth: usize,
+    before: Vec<Chunk>,
+) -> Option<Dict>
+    requires ordered { members_ordered (members_of (flat before.items)) ≡ true }
+    requires filled { AllFilled before.items }
+    ensures reads { IfSome result
+        (λ d. ReadsMore numbers depth reader.old (members_of (flat before.items)) d reader.new) }
+    ensures shorter { OnSome result (length reader.new < length reader.old) }
+{
+    let mut found = before;
+    while let Some(member) = read_member(alloc, numbers, texts, reader, depth)? {
+        found = put(alloc, found, member).ok()?;
+    }
+    Dict::from_chunks(alloc, found).ok()
 }

@@ -8,7 +8,7 @@ use Rattle.comm_value.specs.Tree.{no_members, text, list, dict}
 use Rattle.comm_value.specs.Order.{items_ordered, members_ordered}
 use Rattle.comm_value.specs.Put.{insert}
 use Rattle.comm_value.specs.Reading.{ReadsItems, ReadsMembers}
-use Rattle.comm_value.specs.View.{tree, items_of as items_view, members_of as members_view}
+use Rattle.comm_value.specs.View.{tree, flat, AllFilled, items_of as items_view, members_of as members_view}
 use Rattle.comm_value.proofs.FromJsonLemmas.{items_ordered_push}
 use Rattle.comm_value.proofs.Keys.{whole, ordered_insert}
 use Rattle.comm_value.proofs.ReadingLemmas.{no_item, one_item_more, all_items, no_member_yet, one_member_more, all_members, more_members, HasMembers, whole_object, some_of_ok, as_member, as_end, ordered_inside, if_some, number_read}
@@ -138,3 +138,50 @@ read_val-returns-in_ok-dict-in-BeginObject-clause-reads t c =
     let opened = ap (value c.args.depth) (first ∙ ap (λ k. token_of k ∷ c.next.new.self) c.in-BeginObject.is) ∙ value-begin_object c.args.depth c.next.new.self (omega arith) in
     let r = c.in_ok-dict-in-BeginObject.ensures.reads in
     (object r.0, opened ∙ ap (parse_map object) r.1, r.2, ap (option_map dict) r.3)
+
+pub read_many-loop-member-init : goal.read_many-loop-member-init
+read_many-loop-member-init t c = (no_member_yet c.args.numbers c.args.depth c.args.reader.now (members_view (flat c.args.before.items)), c.requires.ordered, c.requires.filled)
+
+pub read_many-loop-member-preserved : goal.read_many-loop-member-preserved
+read_many-loop-member-preserved t c =
+    let m = c.in-Some.member in
+    let one = as_member c.args.numbers c.args.depth c.loop-member.reader c.read_member.new.reader c.in_ok-member.field-0 m c.in-Some.is c.in_ok-member.ensures.reads in
+    let ordered = ordered_inside c.in_ok-member.field-0 m c.in-Some.is c.in_ok-member.ensures.ordered in
+    let put : members_view (flat c.in_ok-found.found.items) ≡ insert m.key (tree m.value) (members_view (flat c.loop-member.found.items)) = search rules in
+    let filled : AllFilled c.in_ok-found.found.items = search rules in (
+      subst (λ d. HasMembers c.args.numbers c.args.depth c.args.reader.now (members_view (flat c.args.before.items)) d c.read_member.new.reader) (sym put)
+          (one_member_more c.args.numbers c.args.depth _ _ _ _ _ m.key (tree m.value) c.loop-member.invariant.0 one c.in_ok-member.ensures.shorter),
+      ap members_ordered put ∙ ordered_insert m.key (tree m.value) (members_view (flat c.loop-member.found.items)) ordered c.loop-member.invariant.1,
+      filled,
+    )
+
+pub read_many-returns-clause-reads : goal.read_many-returns-clause-reads
+read_many-returns-clause-reads t c =
+    let end = as_end c.args.numbers c.args.depth c.loop-member.reader c.read_member.new.reader c.in_ok-member.field-0 c.in_default.is c.in_ok-member.ensures.reads in
+    some_of_ok c.from_chunks.result c.ok-2.result (members_view (flat c.loop-member.found.items)) _ c.ok-2.ensures.value c.from_chunks.ensures (all_members c.args.numbers c.args.depth _ _ _ _ _ c.loop-member.invariant.0 end)
+
+pub read_rest-put-requires-clause-ordered : goal.read_rest-put-requires-clause-ordered
+read_rest-put-requires-clause-ordered t c =
+    let same : flat c.in_ok-chunks.chunks.items ≡ c.loop-found.found.items = search rules in
+    ap (λ all. members_ordered (members_view all)) same ∙ c.loop-found.invariant.1
+
+pub read_rest-read_many-requires : goal.read_rest-read_many-requires
+read_rest-read_many-requires t c =
+    let m = c.in-Some.member in
+    let ordered = ordered_inside c.in_ok-member.field-0 m c.in-Some.is c.in_ok-member.ensures.ordered in
+    let same : flat c.in_ok-chunks.chunks.items ≡ c.loop-found.found.items = search rules in
+    let put : members_view (flat c.in_ok-more.more.items) ≡ insert m.key (tree m.value) (members_view (flat c.in_ok-chunks.chunks.items)) = search rules in
+    let all = put ∙ ap (λ ms. insert m.key (tree m.value) (members_view ms)) same in
+    let filled : AllFilled c.in_ok-more.more.items = search rules in
+    (omega arith, (ap members_ordered all ∙ ordered_insert m.key (tree m.value) (members_view c.loop-found.found.items) ordered c.loop-found.invariant.1, filled))
+
+pub read_rest-returns-then-is_many-clause-reads : goal.read_rest-returns-then-is_many-clause-reads
+read_rest-returns-then-is_many-clause-reads t c =
+    let m = c.in-Some.member in
+    let one = as_member c.args.numbers c.args.depth c.loop-found.reader c.read_member.new.reader c.in_ok-member.field-0 m c.in-Some.is c.in_ok-member.ensures.reads in
+    let same : flat c.in_ok-chunks.chunks.items ≡ c.loop-found.found.items = search rules in
+    let put : members_view (flat c.in_ok-more.more.items) ≡ insert m.key (tree m.value) (members_view (flat c.in_ok-chunks.chunks.items)) = search rules in
+    let all = put ∙ ap (λ ms. insert m.key (tree m.value) (members_view ms)) same in
+    let has = one_member_more c.args.numbers c.args.depth c.args.reader.now (members_view c.args.before.items) _ _ _ m.key (tree m.value) c.loop-found.invariant.0 one c.in_ok-member.ensures.shorter in
+    if_some c.read_many.result _ _ (λ d r. more_members c.args.numbers c.args.depth c.args.reader.now (members_view c.args.before.items) _ d _ _
+    (subst (λ e. HasMembers c.args.numbers c.args.depth c.args.reader.now (members_view c.args.before.items) e c.read_member.new.reader) (sym all) has) r) c.read_many.ensures.reads
