@@ -32,8 +32,7 @@ fn leave(reader: &mut Reader<'_>) -> Option<()>
 }
 
 /// Reads a line as the kernel's update of a widget without buffers, with these numbers as values: the comm's id, and
-/// the update. None: its members aren't `call`, `id` and `state` in this order, an object or a list in the state has
-/// more than 64 members, or memory ran out.
+/// the update. None: its members aren't `call`, `id` and `state` in this order, or memory ran out.
 pub fn push_at_once<'a>(
     alloc: Global,
     line: &'a [u8],

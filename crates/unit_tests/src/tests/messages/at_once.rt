@@ -111,7 +111,7 @@ impl Subject for AtOnce {
     }
 }
 
-const ROWS: [Case; 7] = [
+const ROWS: [Case; 8] = [
     Case {
         name: "a message is read, in whatever order its members stand",
         lines: r#"line {"header":{"msg_type":"comm_open"},"content":{"comm_id":"a","target_name":"t","data":{"x":1}},"metadata":{"version":"2.1.0"},"client":3,"buffers":["AQI="]}
@@ -161,9 +161,15 @@ line {"header":{"msg_type":"comm_msg"},"content":{"comm_id":"a"},"metadata":{"ve
         want: "none\nnone\nnone\nnone\nnone\nnone\n",
     },
     Case {
-        name: "at most 64 items or members are read so",
-        lines: "items 64\nitems 65\nmembers 64\nmembers 65",
-        want: "read\nnone\nread\nnone\n",
+        name: "any number of items or members is read so",
+        lines: "items 64\nitems 1000\nmembers 64\nmembers 65\nmembers 1000",
+        want: "read\nread\nread\nread\nread\n",
+    },
+    Case {
+        name: "many members in falling order, the first key once more at the end",
+        lines: r#"line {"header":{"msg_type":"comm_msg"},"content":{"comm_id":"a","data":{"zi":0,"zh":1,"zg":2,"zf":3,"ze":4,"zd":5,"zc":6,"zb":7,"za":8,"yi":9,"yh":10,"yg":11,"yf":12,"ye":13,"yd":14,"yc":15,"yb":16,"ya":17,"xi":18,"xh":19,"xg":20,"xf":21,"xe":22,"xd":23,"xc":24,"xb":25,"xa":26,"wi":27,"wh":28,"wg":29,"wf":30,"we":31,"wd":32,"wc":33,"wb":34,"wa":35,"vi":36,"vh":37,"vg":38,"vf":39,"ve":40,"vd":41,"vc":42,"vb":43,"va":44,"ui":45,"uh":46,"ug":47,"uf":48,"ue":49,"ud":50,"uc":51,"ub":52,"ua":53,"ti":54,"th":55,"tg":56,"tf":57,"te":58,"td":59,"tc":60,"tb":61,"ta":62,"si":63,"sh":64,"sg":65,"sf":66,"se":67,"sd":68,"sc":69,"sb":70,"sa":71,"zi":"last"}}}"#,
+        want: r#"0 msg a {"sa":71,"sb":70,"sc":69,"sd":68,"se":67,"sf":66,"sg":65,"sh":64,"si":63,"ta":62,"tb":61,"tc":60,"td":59,"te":58,"tf":57,"tg":56,"th":55,"ti":54,"ua":53,"ub":52,"uc":51,"ud":50,"ue":49,"uf":48,"ug":47,"uh":46,"ui":45,"va":44,"vb":43,"vc":42,"vd":41,"ve":40,"vf":39,"vg":38,"vh":37,"vi":36,"wa":35,"wb":34,"wc":33,"wd":32,"we":31,"wf":30,"wg":29,"wh":28,"wi":27,"xa":26,"xb":25,"xc":24,"xd":23,"xe":22,"xf":21,"xg":20,"xh":19,"xi":18,"ya":17,"yb":16,"yc":15,"yd":14,"ye":13,"yf":12,"yg":11,"yh":10,"yi":9,"za":8,"zb":7,"zc":6,"zd":5,"ze":4,"zf":3,"zg":2,"zh":1,"zi":"last"}
+"#,
     },
     Case {
         name: "a push without buffers is read, whatever its state holds",
