@@ -11,12 +11,17 @@ PROTOCOL = {"version": "2.1.0"}
 WIDGET = {"target_name": "jupyter.widget"}
 
 
-def execute(front, *commands):
-    """Begins a cell."""
-    posted = front.post("execute_request", {"code": cell(*commands), "silent": False, "stop_on_error": False})
+def until_busy(front, posted):
+    """Waits until the kernel is busy with a message."""
     while front.client.get_iopub_msg(timeout=60)["parent_header"].get("msg_id") != posted:
         pass
     time.sleep(0.1)  # the kernel has said that it is busy, and is about to run it
+
+
+def execute(front, *commands):
+    """Begins a cell."""
+    posted = front.post("execute_request", {"code": cell(*commands), "silent": False, "stop_on_error": False})
+    until_busy(front, posted)
     return posted
 
 
@@ -56,7 +61,7 @@ def without_a_cell(front):
     opened = front.post("comm_open", {"comm_id": "e", "target_name": "listens", "data": {}}, "control")
     front.gather(opened)
     slow = on_control(front, "e", run=cell(["sleep", 0.5], ["print", "slow"]))
-    time.sleep(0.2)
+    until_busy(front, slow)
     running = front.post("execute_request", {"code": cell(["heard"]), "silent": False, "stop_on_error": False})
     came, ended = front.gather(slow, running)
     check("the cell waits", ended, [slow, running])
@@ -78,19 +83,27 @@ def answered_beside_a_storm(front, seconds):
     """A cell opens, uses and ends comms, while control asks what the manager answers alone."""
     widget(front)
     running = execute(front, ["storm", 20, seconds, 0.001], ["print", "done"])
-    rounds, wrong, end = 0, [], time.monotonic() + 0.8 * seconds
-    while time.monotonic() < end:
+    wrong, order, of_cell, end = [], [], [], time.monotonic() + 0.8 * seconds
+    while time.monotonic() < end and running not in order:
         info = front.post("comm_info_request", {}, "control")
         asked = on_control(front, "w", method="request_state")
         comms = front.reply(info, "control")["comms"]
-        came, ended = front.gather(info, asked, seconds=10)
-        if (comms.get("w"), said(came[asked]), len(ended)) != (WIDGET, [("comm_msg", update(value=1))], 2):
+        came, ended = front.gather(info, asked, beside=[running], seconds=10)
+        answers = (comms.get("w"), said(came[asked]), {info, asked} <= set(ended))
+        if answers != (WIDGET, [("comm_msg", update(value=1))], True):
             wrong.append((comms, came, ended))
-        rounds += 1
+        order += ended
+        of_cell += came[running]
+    if running not in order:
+        came, ended = front.gather(running)
+        order += ended
+        of_cell += came[running]
     check("each is answered", wrong[:2], [])
-    came, ended = front.gather(running)
-    check("before the cell ends", (said(came[running])[-1:] != [], ended), (True, [running]))
-    print(f"{2 * rounds} requests on control were answered beside a cell's storm")
+    # On a busy machine the cell may end amid the last round.
+    answered = order.index(running) if running in order else 0
+    check("before the cell ends", (answered > 0, len(order) - 1 - answered <= 2), (True, True))
+    check("the cell prints", [got.content["text"] for got in of_cell if got.kind == "stream"], ["done"])
+    print(f"{answered} requests on control were answered beside a cell's storm")
 
 
 def left_to_the_shell(front, seconds):

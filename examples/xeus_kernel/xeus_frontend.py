@@ -44,11 +44,11 @@ class XeusFrontend(Frontend):
         self.client.session.send(getattr(self.client, f"{channel}_channel").socket, sent, buffers=buffers)
         return sent["header"]["msg_id"]
 
-    def gather(self, *posted, seconds=frontend.SECONDS):
+    def gather(self, *posted, beside=(), seconds=frontend.SECONDS):
         """What comes of messages on iopub until the kernel is idle after each, by their ids, or until it is too late;
-        with the order in which they ended."""
-        came, ended, end = {each: [] for each in posted}, [], time.monotonic() + seconds
-        while len(ended) < len(posted) and time.monotonic() < end:
+        with the order in which they ended. What comes of those `beside` meanwhile is given too, and not waited for."""
+        came, ended, end = {each: [] for each in (*posted, *beside)}, [], time.monotonic() + seconds
+        while not set(posted) <= set(ended) and time.monotonic() < end:
             try:
                 got = self.client.get_iopub_msg(timeout=0.2)
             except queue.Empty:
