@@ -4,8 +4,8 @@
 bench/threads.py load_generator [--quick] [--changes N] [--repeats N] [--only 1+3,info]
 bench/threads.py --library bench_clients [--changes N] [--repeats N] [--only 0+4]
 
-With --library the program calls the library for C by clients: also readers alone, for half a second, and three times as
-many threads as there are processors.
+With --library the program calls the library for C by clients, and the peers take and give states as JSON texts, as it
+has to: also readers alone, for half a second, and three times as many threads as there are processors.
 
 For each arrangement: changes and reads a second, in thousands, the middle of the repeats; and the program's over those
 of the peer that is best there, the middle of the ratios of each repeat, with the least and the greatest. `mutex again`
@@ -41,14 +41,21 @@ FIELDS = ["changes", "reads", "history", "taken", "untaken", "sum", "ns"]
 FIELDS_OF_C = ["changes", "reads", "ns"]
 
 
-def amiss(told, arrangement, changes):
+def info_text(comms):
+    """What a peer says of its comms."""
+    told = {f"c{comm:04}": {"target_name": "jupyter.widget"} for comm in range(comms)}
+    return json.dumps({"comms": told}, separators=(",", ":"))
+
+
+def amiss(told, arrangement, changes, with_texts):
     """Which counts of a run don't add up."""
     writers, readers, read, comms = arrangement
     made = changes // writers * writers if writers else 0
     if list(told) == FIELDS_OF_C:  # the library's history is in proofs alone
         holds = {"changes": told["changes"] == made, "reads": (told["reads"] > 0) == (readers > 0)}
         return [what for what, is_so in holds.items() if not is_so]
-    sums = {"info": told["sum"] == 5 * comms * told["reads"], "state": told["sum"] >= told["reads"]}
+    of_info = len(info_text(comms)) if with_texts else 5 * comms
+    sums = {"info": told["sum"] == of_info * told["reads"], "state": told["sum"] >= told["reads"]}
     holds = {
         "changes": told["changes"] == made,
         "history": told["history"] - made - comms - 1 in (0, 1),  # a register and the opens; the end is an entry
@@ -59,13 +66,14 @@ def amiss(told, arrangement, changes):
     return [what for what, is_so in holds.items() if not is_so]
 
 
-def played(words, arrangement, changes):
-    """Thousands of changes and of reads a second, of one run."""
+def played(player, arrangement, changes):
+    """Thousands of changes and of reads a second, of one run. A player's words stand before and behind the numbers."""
+    words, behind = player
     writers, readers, read, comms = arrangement
     work = changes if writers else MILLISECONDS
-    words = [*words, *map(str, (writers, readers, work, comms, KEYS, read))]
+    words = [*words, *map(str, (writers, readers, work, comms, KEYS, read)), *behind]
     told = json.loads(subprocess.run(words, stdout=subprocess.PIPE, check=True).stdout)
-    wrong = amiss(told, arrangement, changes) if list(told) in (FIELDS, FIELDS_OF_C) else ["keys"]
+    wrong = amiss(told, arrangement, changes, bool(behind)) if list(told) in (FIELDS, FIELDS_OF_C) else ["keys"]
     if wrong:
         raise SystemExit(f"{' '.join(words)}: wrong {', '.join(wrong)} in {told}")
     return {what: told[what] / told["ns"] * 1e6 for what in ("changes", "reads")}
@@ -118,7 +126,9 @@ def main():
     repeats = asked.repeats or (3 if asked.quick else 9)
     wanted = set(asked.only.split(",")) if asked.only else set()
     peer = str(build.program("thread_peer"))
-    players = {"program": [asked.program], **{way: [peer, way] for way in WAYS}, "mutex again": [peer, "mutex"]}
+    behind = ["texts"] if asked.library else []
+    peers = {way: ([peer, way], behind) for way in WAYS}
+    players = {"program": ([asked.program], []), **peers, "mutex again": peers["mutex"]}
     print(f"{changes:,} changes a run, {KEYS} keys a state, {repeats} repeats; thousands a second\n")
     head = ["writers + readers", "read", "comms", "", "program", *WAYS, "program ÷ best", "mutex again ÷ mutex"]
     print(f"| {' | '.join(head)} |\n|{'---|' * len(head)}")

@@ -1,12 +1,14 @@
 //! The peer of `load_generator`: a shared comm manager in plain Rust. Usage:
-//!   thread_peer WAY WRITERS READERS CHANGES COMMS KEYS READ
+//!   thread_peer WAY WRITERS READERS CHANGES COMMS KEYS READ [texts]
 //! WAY is how reads and changes meet: mutex, rwlock, leftright, arcswap or slots. With no writer, READERS read for
-//! CHANGES milliseconds. bench/README.md tells the rest.
+//! CHANGES milliseconds. With `texts` states come and go as JSON, as those of the library for C. bench/README.md tells
+//! the rest.
 #![allow(dead_code)] // the history keeps much that nothing here reads
 mod core;
 mod manager;
 mod rows;
 mod sorted;
+mod texts;
 
 use crate::core::{Reply, Widget};
 use manager::{Client, Limits, Manager, Unavailable};
@@ -34,10 +36,17 @@ struct Load {
     comms: usize,
     keys: usize,
     read: Read,
+    /// Whether states come and go as JSON.
+    texts: bool,
 }
 
 fn load(args: &[String]) -> Option<Load> {
-    let [writers, readers, changes, comms, keys, read] = args else { return None };
+    let [writers, readers, changes, comms, keys, read, as_what @ ..] = args else { return None };
+    let texts = match as_what {
+        [] => false,
+        [word] if word == "texts" => true,
+        _ => return None,
+    };
     let (writers, readers) = (writers.parse().ok()?, readers.parse().ok()?);
     let (comms, keys) = (comms.parse().ok()?, keys.parse().ok()?);
     let changes: u64 = changes.parse().ok()?;
@@ -52,7 +61,7 @@ fn load(args: &[String]) -> Option<Load> {
         && (1..=4096).contains(&comms)
         && (1..=999).contains(&keys)
         && (read == Read::None) == (readers == 0);
-    fits.then(|| Load { writers, readers, each: changes / writers.max(1) as u64, comms, keys, read })
+    fits.then(|| Load { writers, readers, each: changes / writers.max(1) as u64, comms, keys, read, texts })
 }
 
 fn texts(letter: char, count: usize, digits: usize) -> Vec<Arc<str>> {
@@ -70,11 +79,18 @@ fn tried(mut change: impl FnMut() -> Result<manager::Answered, Unavailable>) -> 
     }
 }
 
+/// The state that a change gives: one key with a number.
+fn new_state(texts: bool, key: &Arc<str>, number: u64) -> Dict {
+    if texts {
+        return texts::state_of(&format!("{{\"{key}\":{number}}}"));
+    }
+    Dict::new(Arc::new([key.clone()]), Arc::new([Val::Unsigned(number)]))
+}
+
 fn write<R: Rows>(m: &Manager<R>, client: &mut Client, l: &Load, first: usize, own: &Names) {
     let mut i = first;
     for n in 0..l.each {
-        let key = || Arc::new([own.keys[i % l.keys].clone()]);
-        let new = || Dict::new(key(), Arc::new([Val::Unsigned(1_000 + n)]));
+        let new = || new_state(l.texts, &own.keys[i % l.keys], 1_000 + n);
         let reply = tried(|| m.push(client, own.ids[i].clone(), new()));
         assert_eq!(reply, Reply::Delivered);
         i = (i + 1) % l.comms;
@@ -94,11 +110,15 @@ fn read<R: Rows>(m: &Manager<R>, client: &mut Client, l: &Load, first: usize, ow
         match l.read {
             Read::State => {
                 let row = m.state(client, &own.ids[i]).expect("it stands");
+                if l.texts {
+                    sum = sum.wrapping_add(texts::text_of(&row.state).len() as u64);
+                }
                 match row.state.get(&own.keys[i % l.keys]) {
                     Some(Val::Unsigned(n)) => sum = sum.wrapping_add(*n),
                     _ => panic!("a number stands there"),
                 }
             }
+            _ if l.texts => sum += texts::infos_of(&m.comm_info(client)).len() as u64,
             _ => sum += m.comm_info(client).iter().map(|(id, _)| id.len() as u64).sum::<u64>(),
         }
         reads += 1;
