@@ -275,7 +275,7 @@ fn message_of(alloc: Global, texts: &mut KnownTexts, line: Line<'_>) -> Option<(
 /// Reads a line as a message of one of `clients` clients, with these numbers as values, whose object has no member
 /// `absent`. Short texts are shared with those that were met before; what is parsed beside the message lies in the
 /// scratch and in the arena. None: there is no such message, it has null for an object, no content, or a version that
-/// is no string, or memory ran out.
+/// is no string, an object of its data has thousands of members, or memory ran out.
 #[inline(always)]
 pub fn message_at_once<'a>(
     alloc: Global,

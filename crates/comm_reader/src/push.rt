@@ -32,7 +32,8 @@ fn leave(reader: &mut Reader<'_>) -> Option<()>
 }
 
 /// Reads a line as the kernel's update of a widget without buffers, with these numbers as values: the comm's id, and
-/// the update. None: its members aren't `call`, `id` and `state` in this order, or memory ran out.
+/// the update. None: its members aren't `call`, `id` and `state` in this order, an object in the state has thousands of
+/// members, or memory ran out.
 pub fn push_at_once<'a>(
     alloc: Global,
     line: &'a [u8],

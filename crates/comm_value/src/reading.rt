@@ -20,8 +20,8 @@ use std::cmp::Ordering;
 
 impl Dict {
     /// Reads the members of an object that has begun, in which values nest at most so deep; short texts are shared with
-    /// those that were met before. None: the text is no JSON, a number of it is no value, or memory ran out, and
-    /// [`Dict::from_ref`] says which. O(n log n) in its members where each key is near those before it.
+    /// those that were met before. None: the text is no JSON, a number of it is no value, an object has thousands of
+    /// members, or memory ran out. [`Dict::from_ref`] says which, and reads what is large.
     pub fn read(
         alloc: Global,
         numbers: Numbers,
@@ -211,7 +211,7 @@ fn read_rest(
     Dict::from_members(alloc, found).ok()
 }
 
-// Whether so many members are the most that stand in one list, in which a new one moves those behind it.
+// Whether so many members, or chunks, are the most that stand in one list, in which a new one moves those behind it.
 #[inline(always)]
 fn is_many(count: usize) -> bool
     ensures { result ≡ nat_le 64 count }
@@ -249,6 +249,9 @@ fn read_many(
 {
     let mut found = before;
     while let Some(member) = read_member(alloc, numbers, texts, reader, depth)? {
+        if is_many(found.len()) {
+            return None;
+        }
         found = put(alloc, found, member).ok()?;
     }
     Dict::from_chunks(alloc, found).ok()

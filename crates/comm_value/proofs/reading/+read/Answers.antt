@@ -139,26 +139,26 @@ read_val-returns-in_ok-dict-in-BeginObject-clause-reads t c =
     let r = c.in_ok-dict-in-BeginObject.ensures.reads in
     (object r.0, opened ∙ ap (parse_map object) r.1, r.2, ap (option_map dict) r.3)
 
-pub read_many-loop-member-init : goal.read_many-loop-member-init
-read_many-loop-member-init t c = (no_member_yet c.args.numbers c.args.depth c.args.reader.now (members_view (flat c.args.before.items)), c.requires.ordered, c.requires.filled)
+pub read_many-loop-found-init : goal.read_many-loop-found-init
+read_many-loop-found-init t c = (no_member_yet c.args.numbers c.args.depth c.args.reader.now (members_view (flat c.args.before.items)), c.requires.ordered, c.requires.filled)
 
-pub read_many-loop-member-preserved : goal.read_many-loop-member-preserved
-read_many-loop-member-preserved t c =
+pub read_many-loop-found-preserved : goal.read_many-loop-found-preserved
+read_many-loop-found-preserved t c =
     let m = c.in-Some.member in
-    let one = as_member c.args.numbers c.args.depth c.loop-member.reader c.read_member.new.reader c.in_ok-member.field-0 m c.in-Some.is c.in_ok-member.ensures.reads in
+    let one = as_member c.args.numbers c.args.depth c.loop-found.reader c.read_member.new.reader c.in_ok-member.field-0 m c.in-Some.is c.in_ok-member.ensures.reads in
     let ordered = ordered_inside c.in_ok-member.field-0 m c.in-Some.is c.in_ok-member.ensures.ordered in
-    let put : members_view (flat c.in_ok-found.found.items) ≡ insert m.key (tree m.value) (members_view (flat c.loop-member.found.items)) = search rules in
+    let put : members_view (flat c.in_ok-found.found.items) ≡ insert m.key (tree m.value) (members_view (flat c.loop-found.found.items)) = search rules in
     let filled : AllFilled c.in_ok-found.found.items = search rules in (
       subst (λ d. HasMembers c.args.numbers c.args.depth c.args.reader.now (members_view (flat c.args.before.items)) d c.read_member.new.reader) (sym put)
-          (one_member_more c.args.numbers c.args.depth _ _ _ _ _ m.key (tree m.value) c.loop-member.invariant.0 one c.in_ok-member.ensures.shorter),
-      ap members_ordered put ∙ ordered_insert m.key (tree m.value) (members_view (flat c.loop-member.found.items)) ordered c.loop-member.invariant.1,
+          (one_member_more c.args.numbers c.args.depth _ _ _ _ _ m.key (tree m.value) c.loop-found.invariant.0 one c.in_ok-member.ensures.shorter),
+      ap members_ordered put ∙ ordered_insert m.key (tree m.value) (members_view (flat c.loop-found.found.items)) ordered c.loop-found.invariant.1,
       filled,
     )
 
 pub read_many-returns-clause-reads : goal.read_many-returns-clause-reads
 read_many-returns-clause-reads t c =
-    let end = as_end c.args.numbers c.args.depth c.loop-member.reader c.read_member.new.reader c.in_ok-member.field-0 c.in_default.is c.in_ok-member.ensures.reads in
-    some_of_ok c.from_chunks.result c.ok-2.result (members_view (flat c.loop-member.found.items)) _ c.ok-2.ensures.value c.from_chunks.ensures (all_members c.args.numbers c.args.depth _ _ _ _ _ c.loop-member.invariant.0 end)
+    let end = as_end c.args.numbers c.args.depth c.loop-found.reader c.read_member.new.reader c.in_ok-member.field-0 c.in_default.is c.in_ok-member.ensures.reads in
+    some_of_ok c.from_chunks.result c.ok-2.result (members_view (flat c.loop-found.found.items)) _ c.ok-2.ensures.value c.from_chunks.ensures (all_members c.args.numbers c.args.depth _ _ _ _ _ c.loop-found.invariant.0 end)
 
 pub read_rest-put-requires-clause-ordered : goal.read_rest-put-requires-clause-ordered
 read_rest-put-requires-clause-ordered t c =

@@ -37,9 +37,9 @@ decreases-read_rest-loop-found l = length l.reader
 abbrev pub decreases-read_many : goal.decreases-read_many
 decreases-read_many l = 5 * l.depth + 2
 
-abbrev pub invariant-read_many-loop-member : goal.invariant-read_many-loop-member
-invariant-read_many-loop-member l =
+abbrev pub invariant-read_many-loop-found : goal.invariant-read_many-loop-found
+invariant-read_many-loop-found l =
     HasMembers l.numbers l.depth l.initial.reader (members_view (flat l.initial.found.items)) (members_view (flat l.found.items)) l.reader × (members_ordered (members_view (flat l.found.items)) ≡ true) × AllFilled l.found.items
 
-abbrev pub decreases-read_many-loop-member : goal.decreases-read_many-loop-member
-decreases-read_many-loop-member l = length l.reader
+abbrev pub decreases-read_many-loop-found : goal.decreases-read_many-loop-found
+decreases-read_many-loop-found l = length l.reader

@@ -161,9 +161,9 @@ line {"header":{"msg_type":"comm_msg"},"content":{"comm_id":"a"},"metadata":{"ve
         want: "none\nnone\nnone\nnone\nnone\nnone\n",
     },
     Case {
-        name: "any number of items or members is read so",
-        lines: "items 64\nitems 1000\nmembers 64\nmembers 65\nmembers 1000",
-        want: "read\nread\nread\nread\nread\n",
+        name: "any number of items is read so, and of members up to some thousand",
+        lines: "items 64\nitems 10000\nmembers 64\nmembers 65\nmembers 1000\nmembers 5000",
+        want: "read\nread\nread\nread\nread\nnone\n",
     },
     Case {
         name: "many members in falling order, the first key once more at the end",
