@@ -33,13 +33,9 @@ UNKNOWN = re.compile(r"has no function `([^`]+)`")
 NOT_SURE = re.compile(r": NOT REFUSED: |: the kept work of a library could not be used")
 
 
-def version():
-    return subprocess.run(["rt", "version"], stdout=subprocess.PIPE, text=True, check=True).stdout.split("\n")[0]
-
-
 def name():
     """The kit's name, as rattle-kit-13f."""
-    return version().split(" ")[0]
+    return subprocess.run(["rt", "version"], stdout=subprocess.PIPE, text=True, check=True).stdout.split()[0]
 
 
 @functools.lru_cache(maxsize=None)
@@ -94,9 +90,6 @@ class Kit:
 
     def processors(self):
         return self.rt.processors()
-
-    def below(self, name):
-        return [it.name for it in self.crates[name].below()]
 
     def is_built(self, name):
         return self.crates[name].is_built()

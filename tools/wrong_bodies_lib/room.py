@@ -4,7 +4,7 @@ import shutil
 import subprocess
 from pathlib import Path
 
-PARTS = ("src", "specs", "proofs", "wrong-bodies", "must-fail")
+PARTS = ("src", "specs", "proofs")
 
 
 def copied(source, target):
@@ -49,6 +49,13 @@ class Room:
         kept = self.root / "crates" / name / "out/incremental"
         if kept.is_dir() and not self.kept(name).exists():
             linked(kept, self.kept(name))
+
+    def written(self, edit):
+        """A file of this wrong body alone, for the kit to read."""
+        path = self.at / "edits" / f"{edit}.edit"
+        path.parent.mkdir(parents=True, exist_ok=True)
+        path.write_text(edit.text)
+        return path
 
     def kept(self, name):
         return self.top / "crates" / name / "out/incremental"

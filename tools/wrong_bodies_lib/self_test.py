@@ -14,23 +14,25 @@ from .sums_test import Room, edit
 from .trying import Run, Wish
 
 CRATE = "test_support"
-PLACE = "file: src/writer.rt\nold:             calls: 0,\nnew: "
-BESIDE = "file: src/reader.rt\nold: self.calls.saturating_add(1)\nnew: "
-APART = "file: src/writer.rt\nold: let count = buf.len().min(self.step.max(1));\nnew: "
+PLACE = "old:             calls: 0,\nnew: "
+BESIDE = "old: self.calls.saturating_add(1)\nnew: "
+APART = "old: let count = buf.len().min(self.step.max(1));\nnew: "
 # No commits are counted in the copy: of those that the record has as they are, the first share has
 # 'harmless_but_recorded', and not 'stands_by_the_record'.
 EDITS = {
-    "refused": PLACE + "            calls: 1,\n",
-    "stands_by_the_record": PLACE + "            calls: 2,\n",
-    "recorded_wrongly": PLACE + "            calls: 3,\n",
-    "harmless_but_recorded": PLACE + "            calls: 0 + 0,\n",
-    "changes_nothing": PLACE + "            calls: 0 + 0,\n",
-    "does_not_parse": PLACE + "            calls: 0 0,\n",
-    "has_another_type": PLACE + '            calls: "none",\n',
-    "does_not_fit": PLACE.replace("calls", "no_such_field") + "            calls: 1,\n",
-    "changes_a_definition": PLACE.replace("src/", "specs/") + "            calls: 1,\n",
-    "refused_beside_others": BESIDE + "self.calls.saturating_add(2)\n",
-    "changes_nothing_beside_others": APART + "let count = buf.len().min(self.step.max(1)).max(0);\n",
+    "writer": {
+        "refused": PLACE + "            calls: 1,\n",
+        "stands_by_the_record": PLACE + "            calls: 2,\n",
+        "recorded_wrongly": PLACE + "            calls: 3,\n",
+        "harmless_but_recorded": PLACE + "            calls: 0 + 0,\n",
+        "changes_nothing": PLACE + "            calls: 0 + 0,\n",
+        "does_not_parse": PLACE + "            calls: 0 0,\n",
+        "has_another_type": PLACE + '            calls: "none",\n',
+        "does_not_fit": PLACE.replace("calls", "no_such_field") + "            calls: 1,\n",
+        "changes_a_definition": "file: specs/writer.rt\n" + PLACE + "            calls: 1,\n",
+        "changes_nothing_beside_others": APART + "let count = buf.len().min(self.step.max(1)).max(0);\n",
+    },
+    "reader": {"refused_beside_others": BESIDE + "self.calls.saturating_add(2)\n"},
 }
 WANTED = {
     "refused": "proof",
@@ -52,11 +54,32 @@ GB = 1_000_000_000
 class Edits(Room):
     def test_which_there_are(self):
         self.write("crates/low/must-fail/two.edit", "file: src/lib.rt\n")
+        self.write("crates/low/wrong-bodies/a/b.edits", "file: src/a/b.rt\n\nname: c\nold: d\nfile: src/e.rt\nnew:\n")
         self.assertEqual(
             [str(it) for it in edits.edits_below(self.root, ("wrong-bodies",))],
-            [f"high/wrong-bodies/{it}" for it in ("of_bare", "of_size", "of_turn")] + ["low/wrong-bodies/of_area"],
+            [f"high/wrong-bodies/{it}" for it in ("of_bare", "of_size", "of_turn")]
+            + [f"low/wrong-bodies/{it}" for it in ("c", "of_area")],
         )
-        self.assertEqual([it.name for it in edits.edits_below(self.root, edits.FOLDERS, ("low",))], ["two", "of_area"])
+        found = {it.name: it.text for it in edits.edits_below(self.root, edits.FOLDERS, ("low",))}
+        self.assertEqual([*found], ["two", "c", "of_area"])
+        self.assertEqual(found["two"], "file: src/lib.rt\n")
+        self.assertEqual(found["c"], "file: src/a/b.rt\nold: d\nfile: src/e.rt\nnew:\n")
+        self.assertEqual(found["of_area"], "file: src/lib.rt\nold: helper(shape)\nnew: helper(shape) + 1\n")
+
+    def test_what_is_told_of_a_file(self):
+        for path, text, why in (
+            ("a.edit", "file: src/a.rt\nold: a\nnew: b\n", "a file .edits for each source"),
+            ("a.edits", "file: src/b.rt\n\nname: c\nold: a\nnew: b\n", "'file: src/a.rt'"),
+            ("a.edits", "name: c\nold: a\nnew: b\n", "'file: src/a.rt'"),
+            ("a.edits", "file: src/a.rt\nold: a\nnew: b\n", "and then a name"),
+            ("a.edits", "file: src/a.rt\n\nname: c\nodl: a\nnew: b\n", "isn't read: odl: a"),
+            ("a.edits", "file: src/a.rt\n\nname: of_area\nold: a\nnew: b\n", "two wrong bodies .* named of_area"),
+            ("a.edits", "file: src/a.rt\n\nname: c\nold: a\nnew: b\nname: c\n", "two wrong bodies .* named c"),
+        ):
+            self.write(f"crates/low/wrong-bodies/{path}", text)
+            with self.assertRaisesRegex(SystemExit, why):
+                edits.edits_below(self.root, edits.FOLDERS)
+            (self.root / "crates/low/wrong-bodies" / path).unlink()
 
     def test_only_bodies(self):
         self.assertIsNone(edits.body_fault("file: src/lib.rt\nold: a\nnew: b\n"))
@@ -293,8 +316,9 @@ def small_copy(root, at):
     (small / "tools").mkdir()
     folder = small / "crates" / CRATE / "wrong-bodies"
     folder.mkdir()
-    for name, text in EDITS.items():
-        (folder / f"{name}.edit").write_text(text)
+    for source, texts in EDITS.items():
+        own = "\n".join(f"name: {name}\n{text}" for name, text in texts.items())
+        (folder / f"{source}.edits").write_text(f"file: src/{source}.rt\n\n{own}")
     return small
 
 

@@ -182,8 +182,7 @@ class Sums:
         """The function whose body an edit changes. None where it changes another thing, more than one, or a function
         without a contract, which proves nothing by itself."""
         files = self.kept("files", edit.crate, self.files)
-        places = [*places_of(edit.path(self.root).read_text())]
-        functions = {function_at(file, files.get(file, ""), old) for file, old in places}
+        functions = {function_at(file, files.get(file, ""), old) for file, old in places_of(edit.text)}
         return functions.pop() if len(functions) == 1 else None
 
     def proved(self, crate, function):
@@ -204,9 +203,8 @@ class Sums:
         and the type whose function is changed on."""
         found = Reached()
         found.words |= {owner} - {None}
-        new = edit.path(self.root).read_text()
-        for file in {file for file, _old in places_of(new)}:
-            found.body(f"{edit.crate}/{file}", new)
+        for file in {file for file, _old in places_of(edit.text)}:
+            found.body(f"{edit.crate}/{file}", edit.text)
         for file, text in texts:
             found.body(f"{edit.crate}/{file}", plain(text, Path(file).suffix))
         return sorted({(it.unit.file, it.text) for it in found.all_of(self.kept("index", names, self.index))})
@@ -218,7 +216,7 @@ class Sums:
         texts = self.proved(edit.crate, function) if function else self.kept("whole", edit.crate, self.whole)
         parts = [
             FORM,
-            edit.path(self.root).read_text(),
+            edit.text,
             [(file, said(text, Path(file).suffix)) for file, text in texts],
             self.reached(edit, texts, owner, names),
             [(name, self.rows[name]) for name in names],

@@ -5,7 +5,7 @@ from pathlib import Path
 
 from . import definitions, reach, sums
 from . import seen as seen_from
-from .edits import Edit
+from .edits import FOLDERS, Edit, edits_below
 
 LOW = """\
 //! What is below.
@@ -254,6 +254,22 @@ fn bare() -> u8 {
     4
 }
 """
+HIGH_EDITS = """\
+file: src/lib.rt
+
+name: of_size
+old: area(shape, limit())
+new: area(shape, 1)
+
+# what a rule makes
+name: of_turn
+old: self.last()
+new: remade(made_by_rule!(1))
+
+name: of_bare
+old:     4
+new:     5
+"""
 FILES = {
     "crates.txt": "# the crates\nlow: json\nhigh: low\n",
     "crates/low/src/lib.rt": LOW,
@@ -273,10 +289,14 @@ FILES = {
     "crates/high/proofs/other/Answers.antt": "answer = h\n",
     "crates/high/proofs/Held/+turns/Answers.antt": "answer = h\n",
     "crates/high/proofs/Held/+others/Answers.antt": "answer = h\n",
-    "crates/high/wrong-bodies/of_size.edit": "file: src/lib.rt\nold: area(shape, limit())\nnew: area(shape, 1)\n",
-    "crates/high/wrong-bodies/of_turn.edit": "file: src/lib.rt\nold: self.last()\nnew: remade(made_by_rule!(1))\n",
-    "crates/high/wrong-bodies/of_bare.edit": "file: src/lib.rt\nold:     4\nnew:     5\n",
-    "crates/low/wrong-bodies/of_area.edit": "file: src/lib.rt\nold: helper(shape)\nnew: helper(shape) + 1\n",
+    "crates/high/wrong-bodies/lib.edits": HIGH_EDITS,
+    "crates/low/wrong-bodies/lib.edits": """\
+file: src/lib.rt
+
+name: of_area
+old: helper(shape)
+new: helper(shape) + 1
+""",
 }
 # What is changed, where, from what to what, and whose sum changes with it: of the body of `size`, of `turn` and of
 # `bare`, which has no contract, above, and of `area` below.
@@ -296,8 +316,9 @@ CHANGES = (
     ("a lemma of its crate that it doesn't name", "high/proofs/Lemmas.antt", "six", "seven", "bare"),
     ("a definition that such a lemma names", "high/specs/Own.antt", "one", "two", "size bare"),
     ("what a word of such a lemma means", "high/proofs/Lemmas.antt", "specs.Own", "specs.More", "size bare"),
-    ("the edit", "high/wrong-bodies/of_size.edit", "1", "2", "size"),
-    ("another edit", "high/wrong-bodies/of_bare.edit", "5", "6", "bare"),
+    ("the edit", "high/wrong-bodies/lib.edits", "shape, 1", "shape, 2", "size"),
+    ("another edit", "high/wrong-bodies/lib.edits", "5", "6", "bare"),
+    ("a comment beside it", "high/wrong-bodies/lib.edits", "a rule", "rules", ""),
     ("a definition below that it names", "low/specs/Sized.antt", "sized zero = deep", "sized zero = n", "size bare"),
     ("how such a definition is seen", "low/specs/Sized.antt", "abbrev pub sized", "pub sized", "size bare"),
     ("another equation of it", "low/specs/Sized.antt", "all.through n", "n", "size bare"),
@@ -406,13 +427,8 @@ class Room(unittest.TestCase):
 
 class Sums(Room):
     def sums(self):
-        made = sums.Sums(self.root)
-        return {
-            "size": made.of(edit("of_size", "high")),
-            "turn": made.of(edit("of_turn", "high")),
-            "bare": made.of(edit("of_bare", "high")),
-            "area": made.of(edit("of_area")),
-        }
+        made, named = sums.Sums(self.root), {it.name: it for it in edits_below(self.root, FOLDERS)}
+        return {name: made.of(named[f"of_{name}"]) for name in ("size", "turn", "bare", "area")}
 
     def test_what_changes_a_sum(self):
         before = self.sums()

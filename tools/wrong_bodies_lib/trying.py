@@ -110,7 +110,7 @@ class Run:
         sums = Sums(wish.root)
         self.sums = {it: sums.of(it) for it in edits}
         for edit in edits:
-            why = body_fault(edit.path(wish.root).read_text())
+            why = body_fault(edit.text)
             if why:
                 self.told.failed[edit] = why
         sound = [it for it in edits if it not in self.told.failed]
@@ -184,7 +184,7 @@ class Run:
     def of_part(self, name, edits):
         """Each wrong body that lies in one function is tried by a check of that function, a few together; the others,
         and those not refused so, over a check of the whole crate."""
-        texts = {it: self.kit.texts_of(it, it.path(self.room.top)) for it in edits}
+        texts = {it: self.kit.texts_of(it, self.room.written(it)) for it in edits}
         functions = {it: function_of(before, after) for it, (after, before) in texts.items()}
         alone = [it for it in edits if functions[it] and functions[it].path()]
         groups = grouped(alone, functions)
@@ -254,7 +254,7 @@ class Run:
         began, number = time.monotonic(), self.next_number()
         kept = self.room.lane(edit.crate, number)
         try:
-            how, text = self.kit.tried(edit, edit.path(self.room.top), kept)
+            how, text = self.kit.tried(edit, self.room.written(edit), kept)
         finally:
             self.room.leave(number)
         with self.lock:
