@@ -1,0 +1,1 @@
+"""Where tools/numbers finds numbers."""
