@@ -10,7 +10,7 @@ from .choice import Mode
 from .edits import Edit
 from .record import Record
 from .room import copied
-from .sums_test import Room, edit
+from .sums_room import HIGH, Room, edit
 from .trying import Run, Wish
 
 CRATE = "test_support"
@@ -92,7 +92,7 @@ class Edits(Room):
 
     def test_the_function_at_a_place(self):
         for line, wanted in (("area(shape, limit())", "size"), ("    4", None), ("fn size", None), ("    } ", None)):
-            found = sums.function_at("src/lib.rt", sums_test.HIGH, line)
+            found = sums.function_at("src/lib.rt", HIGH, line)
             self.assertEqual(found and found.name, wanted)
 
 
