@@ -25,8 +25,9 @@ class Recorded:
         return self.rows.get(str(edit), ("", ""))[0] == sum
 
     def is_anothers(self, edit, sum):
-        """Whether another kit refused it as it is, or before sums left out the kit."""
-        return any(it in (sum, ANY) for it, _how in self.others.get(str(edit), ()))
+        """Whether another kit refused it as it is, or any before sums left out the kit."""
+        others = [row[0] for row in self.others.get(str(edit), ())]
+        return sum in others or ANY in (*others, self.rows.get(str(edit), ("",))[0])
 
 
 def shares(edits, most):
@@ -44,7 +45,7 @@ def shares(edits, most):
 
 def chosen(edits, sums, recorded, mode, commits, most=SHARE):
     """Two lists: what must be tried, and what is tried again as far as time allows; the others stand by the record.
-    What only another kit refused comes first of those; each share has its turn once in as many commits in a row as
+    What only another kit refused, or one by a sum that isn't known, comes first of those; each share has its turn once in as many commits in a row as
     there are shares."""
     mine = {it for it in edits if recorded.is_refused(it, sums[it])}
     anothers = {it for it in edits if it not in mine and recorded.is_anothers(it, sums[it])}

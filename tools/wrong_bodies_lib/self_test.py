@@ -150,6 +150,13 @@ class Choice(unittest.TestCase):
             self.assertEqual(again[:1] == [one], not is_must, sum)
             self.assertEqual(self.chosen(choice.Mode.CHANGED, others={str(one): [(sum, "proof")]})[0], [one, other])
 
+    def test_what_was_refused_by_a_sum_that_is_not_known_may_wait(self):
+        one, other, *_ = self.edits
+        self.rows[str(one)] = choice.ANY, "proof"
+        must, again = self.chosen(choice.Mode.PART)
+        self.assertEqual((must, again[:1]), ([other], [one]))
+        self.assertEqual(self.chosen(choice.Mode.CHANGED)[0], [one, other])
+
     def test_each_has_its_turn_once(self):
         made = choice.shares(self.edits, choice.SHARE)
         turns = [self.chosen(choice.Mode.PART, commits)[1] for commits in range(7, 7 + len(made))]
