@@ -5,6 +5,7 @@ on the same kernel unbroken; on this package's kernel nothing fails, on the stoc
     test_conformance.py PACKAGE --kernels    # this package's kernel and the stock one alone
 """
 
+import ast
 import contextlib
 import json
 import os
@@ -154,6 +155,9 @@ def proved_kernel():
 def texts():
     for what, text in BAD_TEXTS:
         yield what, type(checks.raised(lambda text=text: parse("text", text))), ScenarioError
+    for cell, code in cells_for("python").items():
+        # xeus-python --raw runs no cell of comments alone
+        yield f"[{cell}] has a statement", bool(ast.parse(code).body), True
 
 
 if __name__ == "__main__":
