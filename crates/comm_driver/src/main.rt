@@ -1,7 +1,7 @@
 // Plays a script of comm messages and commands, over a manager of one thread or over one that threads share.
 #![tactic(auto)]
 
-ghost use Rattle.std.specs.Prelude.{◌≡◌, ◌≢◌, None, Some, OnOk, IfErr, IfSome, IsSome, drop, map, string_bytes};
+ghost use Rattle.std.specs.Prelude.{◌≡◌, ◌≢◌, [], None, Some, OnOk, IfErr, IfSome, IsSome, drop, map, string_bytes};
 ghost use Rattle.std.specs.Vec.Iter.{into_iter_items};
 ghost use Rattle.std.specs.Io.KnownBytes.{Appends};
 ghost use Rattle.comm_script.specs.Played.{played};
@@ -49,6 +49,8 @@ fn play<R: Read, W: Write, H: Wait>(
         → OnOk result (IfSome (R.remaining reader.old) (λ input.
         Appends (W.contents writer.old) (W.contents writer.new)
         (played Numbers.Whole program_limits program_stock input))) }
+    ensures whole { OnOk result (IfSome (R.remaining reader.old) (λ _.
+        R.remaining reader.new ≡ Some [])) }
     ensures limits { IfErr result (λ e. e ≢ RunFault.BadLimits) }
 {
     let mut stock = Vec::new(alloc);
@@ -106,6 +108,8 @@ fn run<R: Read, W: Write, H: Wait>(
     ensures none { asked ≡ None → (result ≡ None)
         × (reader.new ≡ reader.old) × (writer.new ≡ writer.old) }
     ensures some { IsSome asked → IsSome result }
+    ensures whole { IfSome result (λ end. OnOk end (IfSome (R.remaining reader.old) (λ _.
+        R.remaining reader.new ≡ Some []))) }
     ensures one_thread { asked ≡ Some Over.OneThread → IfSome result (λ end.
         OnOk end (IfSome (R.remaining reader.old) (λ input.
         Appends (W.contents writer.old) (W.contents writer.new)

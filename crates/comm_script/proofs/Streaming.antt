@@ -234,3 +234,43 @@ appends_kept (Some a) (Some b) (Some c) xs p q = q ∙ p
 
 pub writes_kept : (before now new : Option (List ℕ)) (text rest : List ℕ) → Writes before now text rest → Keeps now new → Writes before new text rest
 writes_kept before now new text rest h kept = record { part = h.part; appends = appends_kept before now new h.part h.appends kept; is = h.is }
+
+-- ---- whatever is played: what a reader lost, and how a writer grew
+
+abbrev pub Loses : Option (List ℕ) → Option (List ℕ) → Type 0
+Loses had left = (taken : List ℕ) × Consumes had left taken
+
+abbrev pub Grows : Option (List ℕ) → Option (List ℕ) → Type 0
+Grows before now = (said : List ℕ) × Appends before now said
+
+pub loses_none : (had : Option (List ℕ)) → Loses had had
+loses_none None = ([], tt)
+loses_none (Some xs) = ([], refl)
+
+pub loses_more : (had left new : Option (List ℕ)) (piece : List ℕ) → Loses had left → Consumes left new piece → Loses had new
+loses_more None left new piece h read = ([], tt)
+loses_more (Some a) None new piece h read = absurd h.1
+loses_more (Some a) (Some b) None piece h read = absurd read
+loses_more (Some a) (Some b) (Some c) piece h read = (h.0 ++ piece, h.1 ∙ ap (λ l. h.0 ++ l) read ∙ sym (append_assoc h.0 piece c))
+
+pub loses_kept : (had left new : Option (List ℕ)) → Loses had left → Keeps left new → Loses had new
+loses_kept None left new h kept = ([], tt)
+loses_kept (Some a) None new h kept = absurd h.1
+loses_kept (Some a) (Some b) None h kept = absurd kept
+loses_kept (Some a) (Some b) (Some c) h kept = (h.0, h.1 ∙ ap (λ l. h.0 ++ l) (sym kept))
+
+-- a read of no byte says that nothing is left
+pub loses_all : (had left new : Option (List ℕ)) (n : ℕ) (buf : List ℕ) → Loses had left → Consumes left new (take n buf) → (n ≡ 0 → 0 < length buf → IsAtEnd new) → n ≡ 0 → 0 < length buf → IfSome had (λ _. new ≡ Some [])
+loses_all None left new n buf h read end zero some = tt
+loses_all (Some a) None new n buf h read end zero some = absurd h.1
+loses_all (Some a) (Some b) None n buf h read end zero some = absurd read
+loses_all (Some a) (Some b) (Some c) n buf h read end zero some = ap Some (end zero some)
+
+pub grows_none : (before : Option (List ℕ)) → Grows before before
+grows_none before = ([], appends_none before)
+
+pub grows_more : (before now then : Option (List ℕ)) (text : List ℕ) → Grows before now → Appends now then text → Grows before then
+grows_more before now then text h sent = (h.0 ++ text, appends_more before now then h.0 text h.1 sent)
+
+pub grows_begun : (before now then : Option (List ℕ)) (text : List ℕ) → Grows before now → Begins now then text → Grows before then
+grows_begun before now then text h begun = grows_more before now then begun.part h begun.appends

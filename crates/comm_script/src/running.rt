@@ -1,5 +1,5 @@
 //! A whole script over a manager of one thread, from its opening to its end.
-ghost use Rattle.std.specs.Prelude.{◌≡◌, ◌↔◌, ◌<◌, ◌^◌, map, ◌≢◌, OnOk, IfErr, IfSome, IsErrOf};
+ghost use Rattle.std.specs.Prelude.{◌≡◌, ◌↔◌, ◌<◌, ◌^◌, map, ◌≢◌, ℕ, List, [], Some, OnOk, IfErr, IfSome, IsErrOf};
 ghost use Rattle.std.specs.Io.KnownBytes.{Appends};
 ghost use Rattle.comm_core.specs.Limits.{AreAllowed};
 ghost use Rattle.comm_script.specs.Command.{HandsNothing};
@@ -48,7 +48,13 @@ pub fn run_with<R: Read, W: Write, T: Target>(
     ensures memory { IsErrOf result RunFault.Memory → IfSome (R.remaining reader.old) (λ input.
         Pauses numbers limits (shelved (map T.means stock.items)) input
         (R.remaining reader.new) (W.contents writer.old) (W.contents writer.new)) }
+    ensures whole { OnOk result (IfSome (R.remaining reader.old) (λ _.
+        R.remaining reader.new ≡ Some [])) }
+    ensures grown { (said : List ℕ)
+        × Appends (W.contents writer.old) (W.contents writer.new) said }
     ensures bad_limits { IsErrOf result RunFault.BadLimits ↔ ¬ (AreAllowed limits) }
+    ensures unplayed { IsErrOf result RunFault.BadLimits
+        → (reader.new ≡ reader.old) × (writer.new ≡ writer.old) }
     ensures fault { IfErr result (λ e. e ≢ RunFault.NoReader) }
 {
     match Session::new(alloc, limits, stock) {
@@ -95,7 +101,13 @@ pub fn run<R: Read, W: Write>(
     ensures memory { IsErrOf result RunFault.Memory → IfSome (R.remaining reader.old) (λ input.
         Pauses Numbers.Whole limits (shelved (map (λ b. means b) stock.items)) input
         (R.remaining reader.new) (W.contents writer.old) (W.contents writer.new)) }
+    ensures whole { OnOk result (IfSome (R.remaining reader.old) (λ _.
+        R.remaining reader.new ≡ Some [])) }
+    ensures grown { (said : List ℕ)
+        × Appends (W.contents writer.old) (W.contents writer.new) said }
     ensures bad_limits { IsErrOf result RunFault.BadLimits ↔ ¬ (AreAllowed limits) }
+    ensures unplayed { IsErrOf result RunFault.BadLimits
+        → (reader.new ≡ reader.old) × (writer.new ≡ writer.old) }
     ensures fault { IfErr result (λ e. e ≢ RunFault.NoReader) }
 {
     run_with(alloc, reader, writer, limits, Numbers::Whole, stock)

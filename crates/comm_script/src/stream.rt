@@ -1,5 +1,5 @@
 //! A script that comes in chunks, played over any backend.
-ghost use Rattle.std.specs.Prelude.{◌≡◌, ◌+◌, ◌^◌, ◌<◌, ◌≤◌, ◌++◌, ◌≢◌, ℕ, List, [], OnOk, IfErr, IfSome, IsErrOf};
+ghost use Rattle.std.specs.Prelude.{◌≡◌, ◌+◌, ◌^◌, ◌<◌, ◌≤◌, ◌++◌, ◌≢◌, ℕ, List, [], Some, OnOk, IfErr, IfSome, IsErrOf};
 ghost use Rattle.std.specs.Prelude.{length, false};
 ghost use Rattle.std.specs.Io.KnownBytes.{Appends};
 ghost use Rattle.comm_core.specs.declared.limits.Limits.{Limits};
@@ -200,6 +200,10 @@ pub fn play_script<
         → IfSome (R.remaining reader.old) (λ input.
         Pauses numbers limits stock input (R.remaining reader.new)
         (W.contents writer.old) (W.contents writer.new)) }
+    ensures whole { OnOk result (IfSome (R.remaining reader.old) (λ _.
+        R.remaining reader.new ≡ Some [])) }
+    ensures grown { (said : List ℕ)
+        × Appends (W.contents writer.old) (W.contents writer.new) said }
     ensures kept { B.is_sound clients backend.new }
     ensures fault { IfErr result (λ e. e ≢ RunFault.BadLimits) }
     ensures stops { IfErr result (IsScriptFault B.stops_by) }

@@ -1,5 +1,6 @@
 //! A whole script over the manager that threads share, from its opening to its end.
-ghost use Rattle.std.specs.Prelude.{◌≡◌, ◌↔◌, ◌≢◌, ◌<◌, ◌≤◌, map, vec_len, IfErr, IsErrOf};
+ghost use Rattle.std.specs.Prelude.{◌≡◌, ◌↔◌, ◌≢◌, ◌<◌, ◌≤◌, map, vec_len, ℕ, List, [], Some, OnOk, IfErr, IfSome, IsErrOf};
+ghost use Rattle.std.specs.Io.KnownBytes.{Appends};
 ghost use Rattle.comm_core.specs.Limits.{AreAllowed};
 ghost use Rattle.comm_manager.specs.Names.{Named};
 ghost use Rattle.comm_script.specs.Command.{HandsNothing};
@@ -37,7 +38,13 @@ pub fn run_shared_with<I: Read, O: Write, T: Target, R: Wait>(
     stock: Vec<T>,
 ) -> Result<(), RunFault>
     requires idle { AreIdle (map T.means stock.items) }
+    ensures whole { OnOk result (IfSome (I.remaining reader.old) (λ _.
+        I.remaining reader.new ≡ Some [])) }
+    ensures grown { (said : List ℕ)
+        × Appends (O.contents writer.old) (O.contents writer.new) said }
     ensures bad_limits { IsErrOf result RunFault.BadLimits ↔ ¬ (AreAllowed limits) }
+    ensures unplayed { IsErrOf result RunFault.BadLimits
+        → (reader.new ≡ reader.old) × (writer.new ≡ writer.old) }
 {
     match ManagerBuilder::new(alloc, limits) {
         Ok(builder) => run_named::<Brand, I, O, T, R>(
@@ -59,7 +66,13 @@ pub fn run_shared<I: Read, O: Write, R: Wait>(
     stock: Vec<Box<dyn Target>>,
 ) -> Result<(), RunFault>
     requires idle { AreIdle (map (λ b. means b) stock.items) }
+    ensures whole { OnOk result (IfSome (I.remaining reader.old) (λ _.
+        I.remaining reader.new ≡ Some [])) }
+    ensures grown { (said : List ℕ)
+        × Appends (O.contents writer.old) (O.contents writer.new) said }
     ensures bad_limits { IsErrOf result RunFault.BadLimits ↔ ¬ (AreAllowed limits) }
+    ensures unplayed { IsErrOf result RunFault.BadLimits
+        → (reader.new ≡ reader.old) × (writer.new ≡ writer.old) }
 {
     run_shared_with(rt, alloc, reader, writer, limits, Numbers::Whole, stock)
 }
@@ -77,6 +90,10 @@ fn run_named<M: ManagerId, I: Read, O: Write, T: Target, R: Wait>(
     requires named { Named builder M.book M.ledgers M.queue M.limits }
     requires allowed { AreAllowed builder.limits }
     requires idle { AreIdle (map T.means stock.items) }
+    ensures whole { OnOk result (IfSome (I.remaining reader.old) (λ _.
+        I.remaining reader.new ≡ Some [])) }
+    ensures grown { (said : List ℕ)
+        × Appends (O.contents writer.old) (O.contents writer.new) said }
     ensures fault { IfErr result (λ e. e ≢ RunFault.BadLimits) }
 {
     match Manager::<M, T, CountedHistory>::open(rt, alloc, builder) {
@@ -111,6 +128,10 @@ fn play_over<M: ManagerId, I: Read, O: Write, T: Target, R: Wait>(
     writer: &mut O,
 ) -> Result<(), RunFault>
     requires clients { (0 < vec_len session.old.clients) × (vec_len session.old.clients ≤ 4) }
+    ensures whole { OnOk result (IfSome (I.remaining reader.old) (λ _.
+        I.remaining reader.new ≡ Some [])) }
+    ensures grown { (said : List ℕ)
+        × Appends (O.contents writer.old) (O.contents writer.new) said }
     ensures fault { IfErr result (λ e. e ≢ RunFault.BadLimits) }
 {
     let clients = session.clients.len() as u8;
