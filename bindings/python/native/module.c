@@ -67,7 +67,8 @@ static int make_module(PyObject *module) {
   state->seat_type = PyType_FromModuleAndSpec(module, &seat_type, NULL);
   if (!state->seat_type || add_type(module, &manager_type, "Manager") < 0) return -1;
   if (add_type(module, &shared_type, "SharedManager") < 0 || add_type(module, &turns_type, "Turns") < 0) return -1;
-  return add_type(module, &long_buffers_type, "LongBuffers");
+  if (add_type(module, &long_buffers_type, "LongBuffers") < 0) return -1;
+  return add_type(module, &event_pipe_type, "EventPipe");
 }
 
 static int traverse_module(PyObject *module, visitproc visit, void *arg) {

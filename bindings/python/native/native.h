@@ -174,7 +174,7 @@ PyObject *raised(const module_state *state, uint32_t status);
 void take_lock(PyThread_type_lock lock);
 
 /* The types. */
-extern PyType_Spec manager_type, shared_type, seat_type, turns_type, long_buffers_type;
+extern PyType_Spec manager_type, shared_type, seat_type, turns_type, long_buffers_type, event_pipe_type;
 
 /* module.c: the state of the module that a type is of, or NULL with an exception. */
 PyObject *module_of(PyTypeObject *type);

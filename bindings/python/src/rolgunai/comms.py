@@ -196,6 +196,7 @@ def _of_kernel(kernel: Any, stock: Any, manager: Any) -> Iterator[Patch]:
         yield Patch(kernel.shell_handlers, kind, getattr(manager, kind))
     for handlers in (kernel.shell_handlers, kernel.control_handlers):
         yield Patch(handlers, "comm_info_request", _info_handler(kernel, manager))
+    yield from importlib.import_module("rolgunai._wakes").patches_of(kernel)
     shell = getattr(kernel, "shell", None)
     if shell is not None:
         configurables = [manager if each is stock else each for each in shell.configurables]
