@@ -65,7 +65,10 @@ static int make_module(PyObject *module) {
   Py_XDECREF(types);
   if (status < 0) return -1;
   state->seat_type = PyType_FromModuleAndSpec(module, &seat_type, NULL);
-  if (!state->seat_type || add_type(module, &manager_type, "Manager") < 0) return -1;
+  state->watch_type = PyType_FromModuleAndSpec(module, &watch_type, NULL);
+  if (!state->seat_type || !state->watch_type || add_type(module, &manager_type, "Manager") < 0) return -1;
+  if (PyModule_AddObjectRef(module, "Watch", state->watch_type) < 0) return -1;
+  if (add_type(module, &watches_type, "Watches") < 0) return -1;
   if (add_type(module, &shared_type, "SharedManager") < 0 || add_type(module, &turns_type, "Turns") < 0) return -1;
   if (add_type(module, &long_buffers_type, "LongBuffers") < 0) return -1;
   return add_type(module, &event_pipe_type, "EventPipe");
@@ -75,6 +78,7 @@ static int traverse_module(PyObject *module, visitproc visit, void *arg) {
   module_state *state = PyModule_GetState(module);
   Py_VISIT(state->thread_local);
   Py_VISIT(state->seat_type);
+  Py_VISIT(state->watch_type);
   Py_VISIT(state->outcome);
   Py_VISIT(state->sent);
   Py_VISIT(state->error);
@@ -88,6 +92,7 @@ static void free_module(void *module) {
   module_state *state = PyModule_GetState(module);
   Py_CLEAR(state->thread_local);
   Py_CLEAR(state->seat_type);
+  Py_CLEAR(state->watch_type);
   Py_CLEAR(state->seat);
   Py_CLEAR(state->outcome);
   Py_CLEAR(state->sent);
@@ -120,6 +125,8 @@ static PyMethodDef functions[] = {
     {"copied", call_copied, METH_O,
      "copied($module, value, /)\n--\n\n"
      "A value that stays as it is, whatever is done with the lists and dicts of this one. A tuple becomes a list."},
+    {"placed", (PyCFunction)(void (*)(void))call_placed, METH_FASTCALL,
+     "placed($module, state, paths, buffers, /)\n--\n\nThe state itself, with its buffers at their paths."},
     {NULL, NULL, 0, NULL},
 };
 

@@ -34,6 +34,7 @@ typedef struct {
   PyObject *outcome, *sent;     /* classes */
   PyObject *thread_local;       /* the class threading.local */
   PyObject *seat_type;          /* rolgunai._native._Seat */
+  PyObject *watch_type;         /* rolgunai._native.Watch */
   PyObject *replies, *reasons;  /* tuples: the members of Reply and Reason by their numbers */
   PyObject *error;              /* makes the exception of a status */
   PyObject *not_finite;         /* the exception for a number that JSON hasn't */
@@ -154,6 +155,7 @@ PyObject *made_outcome(const module_state *state, uint32_t status, gathered *fro
 PyObject *call_write(PyObject *module, PyObject *const *arguments, Py_ssize_t count);
 PyObject *call_write_update(PyObject *module, PyObject *const *arguments, Py_ssize_t count);
 PyObject *call_copied(PyObject *module, PyObject *value);
+PyObject *call_placed(PyObject *module, PyObject *const *arguments, Py_ssize_t count);
 PyObject *call_read_update(PyObject *module, PyObject *const *arguments, Py_ssize_t count);
 PyObject *call_write_said(PyObject *module, PyObject *const *arguments, Py_ssize_t count);
 int make_words(PyObject **into);
@@ -174,7 +176,8 @@ PyObject *raised(const module_state *state, uint32_t status);
 void take_lock(PyThread_type_lock lock);
 
 /* The types. */
-extern PyType_Spec manager_type, shared_type, seat_type, turns_type, long_buffers_type, event_pipe_type;
+extern PyType_Spec manager_type, shared_type, seat_type, turns_type, long_buffers_type, event_pipe_type, watch_type,
+    watches_type;
 
 /* module.c: the state of the module that a type is of, or NULL with an exception. */
 PyObject *module_of(PyTypeObject *type);

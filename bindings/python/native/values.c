@@ -48,3 +48,38 @@ PyObject *call_copied(PyObject *module, PyObject *value) {
   (void)module;
   return copied(value, 0);
 }
+
+/* ---- Buffers at their places in a state. */
+
+/* Puts a buffer at its path: the list or dict that its last step is of is found by those before. */
+static int place(PyObject *state, PyObject *path, PyObject *buffer) {
+  Py_ssize_t last = PySequence_Size(path) - 1;
+  PyObject *at = Py_NewRef(state);
+  for (Py_ssize_t i = 0; at && i < last; i++) {
+    PyObject *step = PySequence_GetItem(path, i), *within = step ? PyObject_GetItem(at, step) : NULL;
+    Py_XDECREF(step);
+    Py_DECREF(at);
+    at = within;
+  }
+  PyObject *step = at ? PySequence_GetItem(path, last < 0 ? 0 : last) : NULL;
+  int status = step ? PyObject_SetItem(at, step, buffer) : -1;
+  Py_XDECREF(step);
+  Py_XDECREF(at);
+  return status;
+}
+
+PyObject *call_placed(PyObject *module, PyObject *const *given, Py_ssize_t count) {
+  enum { STATE_OF, PATHS, BUFFERS, MOST };
+  (void)module;
+  if (count != MOST) {
+    PyErr_Format(PyExc_TypeError, "placed() takes 3 positional arguments (%zd given)", count);
+    return NULL;
+  }
+  PyObject *paths = PySequence_List(given[PATHS]), *buffers = paths ? PySequence_List(given[BUFFERS]) : NULL;
+  int status = buffers ? 0 : -1;
+  for (Py_ssize_t i = 0; status == 0 && i < PyList_Size(paths) && i < PyList_Size(buffers); i++)
+    status = place(given[STATE_OF], PyList_GetItem(paths, i), PyList_GetItem(buffers, i));
+  Py_XDECREF(buffers);
+  Py_XDECREF(paths);
+  return status < 0 ? NULL : Py_NewRef(given[STATE_OF]);
+}

@@ -13,12 +13,11 @@ from collections.abc import Callable, Collection, Iterable, Sequence
 from typing import Any
 
 from rolgunai import ArgumentError, Kind, Outcome, OutcomeMemoryError, Reason, Reply, SharedManager
-from rolgunai import _widgets, old_widgets
+from rolgunai import old_widgets
 from rolgunai._kernel import WIDGET, CommRefused, Message, Send, State
 from rolgunai._long_buffers import LongBuffers
-from rolgunai._native import Turns, copied
+from rolgunai._native import Turns, Watch, Watches, copied, placed
 from rolgunai._update import NO_PARTS, Parts, Update, roots_of
-from rolgunai._watches import Watch, Watches
 from rolgunai._wire import read
 
 MOST_COMMS = 1_048_576  # the most that the library takes as a limit
@@ -133,7 +132,7 @@ class Calls:
             paths = data.get("buffer_paths") or ()
             if kept:
                 self.long.taken(comm_id, (), roots_of(paths), kept)
-            self.watches.begin(watch, _widgets.placed(copied(data.get("state") or {}), paths, buffers))
+            self.watches.begin(watch, placed(copied(data.get("state") or {}), paths, buffers))
 
     def hear_update(
         self, watch: Watch, msg: Message, text: bytes, held: State, parts: Parts | None
@@ -156,7 +155,7 @@ class Calls:
                 self._send_all(outcome, msg)
             if outcome.reply is not DELIVERED:
                 return outcome
-        self.watches.begin(watch, _widgets.placed(held, paths, buffers) if buffers else held)
+        self.watches.begin(watch, placed(held, paths, buffers) if buffers else held)
         return None
 
     def end_watch(self, watch: Watch) -> None:
@@ -223,7 +222,7 @@ class Calls:
         if kept or comm_id in self.long.tokens:
             self.long.taken(comm_id, keys, roots, kept)
         if comm_id in self.watches.by_comm:
-            self.watches.told(comm_id, _widgets.placed(read(state), read(paths), buffers))
+            self.watches.told(comm_id, placed(read(state), read(paths), buffers))
         self._send_all(outcome, parent, metadata, paths, roots)
         return True
 

@@ -11,9 +11,8 @@ from typing import Any
 from rolgunai import _widgets
 from rolgunai._calls import Calls, Pack
 from rolgunai._kernel import Comm
-from rolgunai._native import Turns
+from rolgunai._native import Turns, Watch, placed
 from rolgunai._update import update_of
-from rolgunai._watches import Watch
 from rolgunai._wire import read
 
 _LOOKS = 3
@@ -66,7 +65,7 @@ class LastWord:
 
     def _begin_as_told(self, watch: Watch) -> None:
         told = self._calls.state(watch.comm_id)
-        self._calls.watches.begin(watch, {} if told is None else _widgets.placed(*told))
+        self._calls.watches.begin(watch, {} if told is None else placed(*told))
 
     def _plain(self, value: Any) -> Any:
         """A value as a frontend reads it."""

@@ -10,9 +10,8 @@ from rolgunai import Outcome, _widgets, old_widgets
 from rolgunai._calls import DELIVERED, Calls, Pack
 from rolgunai._kernel import NOT_PLAYABLE, Comm, Message
 from rolgunai._last_word import LastWord
-from rolgunai._native import Turns, copied
+from rolgunai._native import Turns, Watch, copied
 from rolgunai._update import Parts, roots_of
-from rolgunai._watches import Watch
 
 Data = dict[str, Any]
 

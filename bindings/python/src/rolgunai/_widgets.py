@@ -54,17 +54,6 @@ def _is_strange(path: list[Any], known: Keys) -> bool:
     return bool(path) and isinstance(path[0], str) and path[0] not in known
 
 
-def placed(state: Data, paths: Iterable[list[Any]], buffers: Iterable[Any]) -> Data:
-    """The state itself, with its buffers at their paths."""
-    for path, buffer in zip(paths, buffers):
-        at: Any = state
-        if len(path) > 1:
-            for step in path[:-1]:
-                at = at[step]
-        at[path[-1]] = buffer
-    return state
-
-
 def separated(value: Any, path: list[Any], paths: list[list[Any]], buffers: list[Any]) -> Any:
     """A state without its bytes, whose paths and buffers are appended."""
     if isinstance(value, dict):

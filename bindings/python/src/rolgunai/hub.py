@@ -68,10 +68,9 @@ from rolgunai._callbacks import Callbacks
 from rolgunai._calls import CLOSED, DONE, NO_COMM, NOTHING, OPENED, Calls, Pack
 from rolgunai._kernel import NOT_PLAYABLE, WIDGET, Comm, CommRefused, Message, Send
 from rolgunai._last_word import LastWord
-from rolgunai._native import Turns, read_update
+from rolgunai._native import Turns, Watch, read_update
 from rolgunai._page_loads import PageLoads, asks_for_states
 from rolgunai._publisher import VERSION, Publisher
-from rolgunai._watches import Watch
 from rolgunai._widget_messages import Hearing, WidgetMessages
 from rolgunai._wire import packer
 
