@@ -6,11 +6,12 @@ test_watches.py PACKAGE, the folder where the package is built.
 import select
 import sys
 import threading
+import types
 
 sys.path.insert(0, sys.argv[1])
 
 from checks import check, raised, run
-from rolgunai._native import EventPipe, Watch, Watches, placed
+from rolgunai._native import EventPipe, Watch, Watches, know_traits, placed, trait
 
 
 def by_another(call, *arguments):
@@ -136,6 +137,25 @@ def buffers_are_placed():
         check(f"a buffer at {path}", type(raised(lambda path=path: placed({"a": 1}, [path], [b""]))), error)
 
 
+def traits_are_read():
+    class Plain:
+        _trait_values = {"a": 1}
+        a = b = property(lambda self: "the descriptor's")
+        c = 3
+
+    class Other(Plain):
+        pass
+
+    nowhere = object()
+    know_traits(Plain, {"a": 8, "b": 2})
+    for kind, wanted in ((Plain, [1, 2, 3, nowhere]), (Other, ["the descriptor's", "the descriptor's", 3, nowhere])):
+        check(f"traits of {kind.__name__}", [trait(kind(), name, nowhere) for name in "abcd"], wanted)
+    check("an attribute that isn't there", type(raised(lambda: trait(Plain(), "d"))), AttributeError)
+    strange = Plain()
+    strange._trait_values = types.MappingProxyType({"a": 9})
+    check("values that are no dict", trait(strange, "a"), "the descriptor's")
+
+
 def is_readable(pipe):
     return bool(select.select([pipe], [], [], 0)[0])
 
@@ -152,4 +172,4 @@ def pipes_wake_once():
 
 
 PARTS = watches_are_told, watches_end, states_change_hands, code_runs_amid_watches, buffers_are_placed
-sys.exit(run(*PARTS, pipes_wake_once))
+sys.exit(run(*PARTS, traits_are_read, pipes_wake_once))

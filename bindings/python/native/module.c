@@ -43,6 +43,9 @@ static int fill(module_state *state, PyObject *types) {
   state->nothing = PyTuple_New(0);
   state->seat = PyUnicode_InternFromString("seat");
   state->thread_local = named_by("threading", "local");
+  state->known_traits = PyDict_New();
+  state->trait_values = PyUnicode_InternFromString("_trait_values");
+  if (!state->known_traits || !state->trait_values) return -1;
   if (!state->seat || !state->thread_local) return -1;
   return state->outcome && state->sent && state->error && state->not_finite && state->replies && state->reasons
                  && state->empty && state->nothing
@@ -79,6 +82,7 @@ static int traverse_module(PyObject *module, visitproc visit, void *arg) {
   Py_VISIT(state->thread_local);
   Py_VISIT(state->seat_type);
   Py_VISIT(state->watch_type);
+  Py_VISIT(state->known_traits);
   Py_VISIT(state->outcome);
   Py_VISIT(state->sent);
   Py_VISIT(state->error);
@@ -93,6 +97,8 @@ static void free_module(void *module) {
   Py_CLEAR(state->thread_local);
   Py_CLEAR(state->seat_type);
   Py_CLEAR(state->watch_type);
+  Py_CLEAR(state->known_traits);
+  Py_CLEAR(state->trait_values);
   Py_CLEAR(state->seat);
   Py_CLEAR(state->outcome);
   Py_CLEAR(state->sent);
@@ -127,6 +133,12 @@ static PyMethodDef functions[] = {
      "A value that stays as it is, whatever is done with the lists and dicts of this one. A tuple becomes a list."},
     {"placed", (PyCFunction)(void (*)(void))call_placed, METH_FASTCALL,
      "placed($module, state, paths, buffers, /)\n--\n\nThe state itself, with its buffers at their paths."},
+    {"know_traits", (PyCFunction)(void (*)(void))call_know_traits, METH_FASTCALL,
+     "know_traits($module, type, defaults, /)\n--\n\n"
+     "Has `trait` read what objects of just this type have in `_trait_values`, or else what is in `defaults`, past\n"
+     "the type's descriptors."},
+    {"trait", (PyCFunction)(void (*)(void))call_trait, METH_FASTCALL,
+     "trait($module, object, name, default=.., /)\n--\n\nWhat getattr gives."},
     {NULL, NULL, 0, NULL},
 };
 

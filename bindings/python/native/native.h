@@ -35,6 +35,8 @@ typedef struct {
   PyObject *thread_local;       /* the class threading.local */
   PyObject *seat_type;          /* rolgunai._native._Seat */
   PyObject *watch_type;         /* rolgunai._native.Watch */
+  PyObject *known_traits;       /* a dict: the classes whose traits are read past their descriptors */
+  PyObject *trait_values;       /* "_trait_values" */
   PyObject *replies, *reasons;  /* tuples: the members of Reply and Reason by their numbers */
   PyObject *error;              /* makes the exception of a status */
   PyObject *not_finite;         /* the exception for a number that JSON hasn't */
@@ -151,11 +153,13 @@ void source_end(source *of);
 /* outcome.c: makes the Outcome of what was gathered, and ends that; or raises the exception of the status. */
 PyObject *made_outcome(const module_state *state, uint32_t status, gathered *from);
 
-/* json.c, values.c, updates.c: functions of the module. */
+/* json.c, values.c, updates.c, traits.c: functions of the module. */
 PyObject *call_write(PyObject *module, PyObject *const *arguments, Py_ssize_t count);
 PyObject *call_write_update(PyObject *module, PyObject *const *arguments, Py_ssize_t count);
 PyObject *call_copied(PyObject *module, PyObject *value);
 PyObject *call_placed(PyObject *module, PyObject *const *arguments, Py_ssize_t count);
+PyObject *call_know_traits(PyObject *module, PyObject *const *arguments, Py_ssize_t count);
+PyObject *call_trait(PyObject *module, PyObject *const *arguments, Py_ssize_t count);
 PyObject *call_read_update(PyObject *module, PyObject *const *arguments, Py_ssize_t count);
 PyObject *call_write_said(PyObject *module, PyObject *const *arguments, Py_ssize_t count);
 int make_words(PyObject **into);

@@ -16,6 +16,8 @@ from ipykernel.comm import manager as stock_manager
 
 from rolgunai._calls import Pack
 from rolgunai._kernel import Message, Send
+from rolgunai._native import trait
+from rolgunai._traits import know
 from rolgunai.hub import Hub
 
 IS_OF_COMM = hasattr(stock, "BaseComm")
@@ -39,6 +41,8 @@ class CommManager(Hub, stock_manager.CommManager):
         **kwargs: Any,
     ) -> None:
         stock_manager.CommManager.__init__(self, **kwargs)
+        for kind in (stock.Comm, type(self), type(self.kernel)):
+            know(kind)
         log = logging.getLogger("Comm") if IS_OF_COMM else self.log
         keys: dict[str, Any] = {"is_old_browser": is_old_browser, "handle": None if IS_OF_COMM else handle_msg}
         Hub.__init__(self, send, request, self._made, pack=pack, comm_log=log, **keys)
@@ -50,10 +54,11 @@ class CommManager(Hub, stock_manager.CommManager):
 
     def register_comm(self, comm: Any) -> str:
         """Takes a comm in, for the kernel that the manager is of; Hub.register_comm says more."""
-        kernel, is_stock = self.kernel, isinstance(comm, Comm)
-        if not IS_OF_COMM or (is_stock and comm.kernel is None):
+        kernel, is_stock = trait(self, "kernel"), isinstance(comm, Comm)
+        its_kernel = trait(comm, "kernel", None)
+        if its_kernel is not kernel and (not IS_OF_COMM or (is_stock and its_kernel is None)):
             comm.kernel = kernel
-        its_kernel = getattr(comm, "kernel", None)
+            its_kernel = trait(comm, "kernel", None)
         if its_kernel is not kernel or kernel.comm_manager is not self:
             other = self._other_of(comm)
             if other is not None:
@@ -80,12 +85,12 @@ class CommManager(Hub, stock_manager.CommManager):
 def handle_msg(comm: Any, msg: Message) -> None:
     """Does what a comm of ipykernel's does with a message before 6.18, but for its line at debug where no handler of
     logs takes it: the kernel's logger makes a record of each, which takes longer than all that the manager does."""
-    if getattr(comm.handle_msg, "__func__", None) is not _stock_handle or _hears_debug(comm.log):
+    if getattr(comm.handle_msg, "__func__", None) is not _stock_handle or _hears_debug(trait(comm, "log")):
         comm.handle_msg(msg)
         return
-    callback = comm._msg_callback
+    callback = trait(comm, "_msg_callback")
     if callback:
-        shell = comm.kernel.shell
+        shell = trait(trait(comm, "kernel"), "shell")
         if shell:
             shell.events.trigger("pre_execute")
         callback(msg)

@@ -4,6 +4,7 @@ from __future__ import annotations
 
 from typing import Any
 
+from rolgunai._native import trait
 from rolgunai._wire import read
 
 
@@ -24,7 +25,7 @@ class Sender:
     ) -> None:
         """Sends a message to all frontends."""
         kernel = self._kernel
-        session = kernel.session
+        session = trait(kernel, "session")
         if session is not self._session:
             self._takes_json, self._session, self._parent = _reads_json(session.unpack), session, None
         said: Any = content if self._takes_json else read(content)
@@ -38,7 +39,7 @@ class Sender:
             self._topic = comm_id, topic
         # By the names that ipykernel's comms have it by: someone may have put another `send` in its place.
         session.send(
-            kernel.iopub_socket,
+            trait(kernel, "iopub_socket"),
             msg_type,
             said,
             metadata=metadata,

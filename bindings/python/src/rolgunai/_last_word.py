@@ -11,7 +11,7 @@ from typing import Any
 from rolgunai import _widgets
 from rolgunai._calls import Calls, Pack
 from rolgunai._kernel import Comm
-from rolgunai._native import Turns, Watch, placed
+from rolgunai._native import Turns, Watch, placed, trait
 from rolgunai._update import update_of
 from rolgunai._wire import read
 
@@ -36,7 +36,7 @@ class LastWord:
         they were told: a value that was refused, clamped, made another, or changed in place. Once it went, it is looked
         at again, since another thread may have said something else meanwhile: who says the last word looks last."""
         widget = _widgets.widget_of(comm)
-        if widget is None or comm._closed:
+        if widget is None or trait(comm, "_closed"):
             return
         try:
             looks = 0

@@ -1,6 +1,6 @@
 from collections.abc import Callable, Iterable, Sequence
 from types import TracebackType
-from typing import Any, SupportsIndex, TypeVar
+from typing import Any, SupportsIndex, TypeVar, overload
 
 from _typeshed import ReadableBuffer
 from typing_extensions import Self
@@ -22,6 +22,11 @@ def write_said(
 ) -> tuple[bytes, bytes, list[str], Sequence[str], Sequence[Any]] | None: ...
 def copied(value: _Value, /) -> _Value: ...
 def placed(state: dict[str, Any], paths: Iterable[Any], buffers: Iterable[Any], /) -> dict[str, Any]: ...
+def know_traits(type: type, defaults: dict[str, Any], /) -> None: ...
+@overload
+def trait(object: Any, name: str, /) -> Any: ...
+@overload
+def trait(object: Any, name: str, default: Any, /) -> Any: ...
 
 class Manager:
     """A comm manager; help(Manager) says more."""

@@ -10,7 +10,7 @@ from rolgunai import _process, old_widgets
 from rolgunai._calls import Calls, Pack
 from rolgunai._kernel import WIDGET, Comm
 from rolgunai._last_word import LastWord
-from rolgunai._native import Turns, write_said
+from rolgunai._native import Turns, trait, write_said
 from rolgunai._update import Update, update_of
 
 VERSION = {"version": "2.1.0"}
@@ -42,7 +42,7 @@ class Publisher:
         TypeError or RecursionError for what JSON can't have."""
         if _process.forks != self._forks:
             return
-        comm_id, parent = comm.comm_id, self._request()  # an attribute of traitlets', which is looked up but once
+        comm_id, parent = trait(comm, "comm_id"), self._request()
         if msg_type == "comm_msg" and isinstance(data, dict) and data.get("method") == "update":
             if (self._open_comms.get(comm_id) or comm.target_name) == WIDGET:
                 is_old = comm_id in self._old
@@ -91,7 +91,7 @@ class Publisher:
     def _publish_open(
         self, comm: Comm, comm_id: str, data: Any, keys: Any, metadata: Any, buffers: Any, parent: Any
     ) -> None:
-        target_name, paths, is_old = comm.target_name, None, False
+        target_name, paths, is_old = trait(comm, "target_name"), None, False
         named = {"comm_id": comm_id, "target_name": target_name}
         if target_name == WIDGET:
             metadata, is_old = {**VERSION, **metadata}, old_widgets.is_old_open(data)

@@ -10,6 +10,8 @@ import weakref
 from collections.abc import Callable, Iterable, Sequence
 from typing import Any
 
+from rolgunai._native import trait
+
 Data = dict[str, Any]
 Keys = frozenset[str]
 _NUMBERS = (int, float)
@@ -22,7 +24,7 @@ _keys_of_classes: weakref.WeakKeyDictionary[type, Keys] = weakref.WeakKeyDiction
 
 def widget_of(comm: Any) -> Any:
     """The widget that a comm is of, or None."""
-    owner: Any = getattr(getattr(comm, "_msg_callback", None), "__self__", None)
+    owner: Any = getattr(trait(comm, "_msg_callback", None), "__self__", None)
     if owner is None or not callable(getattr(owner, "get_state", None)):
         return None
     keys = getattr(owner, "keys", None)

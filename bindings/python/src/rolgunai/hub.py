@@ -68,7 +68,7 @@ from rolgunai._callbacks import Callbacks
 from rolgunai._calls import CLOSED, DONE, NO_COMM, NOTHING, OPENED, Calls, Pack
 from rolgunai._kernel import NOT_PLAYABLE, WIDGET, Comm, CommRefused, Message, Send
 from rolgunai._last_word import LastWord
-from rolgunai._native import Turns, Watch, read_update
+from rolgunai._native import Turns, Watch, read_update, trait
 from rolgunai._page_loads import PageLoads, asks_for_states
 from rolgunai._publisher import VERSION, Publisher
 from rolgunai._widget_messages import Hearing, WidgetMessages
@@ -156,7 +156,7 @@ class Hub:
     def register_comm(self, comm: Any) -> str:
         """Takes a comm in, and gives its id. Another comm of that id gives way to it. Raises CommRefused where it is
         open and the manager doesn't take it."""
-        comm_id: str = comm.comm_id
+        comm_id: str = trait(comm, "comm_id")
         if self._is_forked():
             self.comms[comm_id] = comm
         else:
@@ -179,9 +179,10 @@ class Hub:
 
     def _open_by_hand(self, comm: Comm) -> None:
         """Has the manager know a comm that is open and that it doesn't know, as one that was registered by hand."""
-        if comm.comm_id not in self._calls.open_comms and not getattr(comm, "_closed", False):
-            opened = {"comm_id": comm.comm_id, "target_name": comm.target_name, "data": {"state": {}}}
-            self._calls.open(comm.comm_id, comm.target_name, self._pack(opened), ())
+        comm_id = trait(comm, "comm_id")
+        if comm_id not in self._open_comms and not trait(comm, "_closed", False):
+            opened = {"comm_id": comm_id, "target_name": comm.target_name, "data": {"state": {}}}
+            self._calls.open(comm_id, comm.target_name, self._pack(opened), ())
 
     def unregister_comm(self, comm: Any) -> None:
         """Forgets a comm, and never waits. One that is open yet is forgotten by the manager too, and nothing is sent.
