@@ -34,7 +34,10 @@ class BuildWithLibrary(build_ext):
         super().run()
 
 
-SOURCES = "arguments requests json values traits updates gather outcome manager seats shared sending turns long_buffers watches event_pipe module".split()
+SOURCES = (
+    "arguments requests json values traits updates gather outcome manager seats shared sending turns long_buffers"
+    " watches event_pipe module"
+).split()
 NATIVE = Extension(
     "rolgunai._native",
     sources=[
