@@ -3,9 +3,11 @@
 test_wakes.py PACKAGE, the folder where the package is built.
 """
 
+import gc
 import os
 import sys
 import threading
+import time
 import types
 
 sys.path.insert(0, sys.argv[1])
@@ -121,8 +123,16 @@ def it_is_taken_back():
     check("what ended does it at once", (done := [], thread.schedule(lambda: done.append(1)))[0], [1])
 
 
-def descriptors():
-    return len(os.listdir("/proc/self/fd"))
+def settled():
+    """How many descriptors are open, once their number has stayed for a second."""
+    count, since = -1, 0.0
+    while time.monotonic() < since + 1:
+        gc.collect()
+        now = len(os.listdir("/proc/self/fd"))
+        if now != count:
+            count, since = now, time.monotonic()
+        time.sleep(0.05)
+    return count
 
 
 def nothing_is_left_open():
@@ -135,14 +145,15 @@ def nothing_is_left_open():
         thread.drained()
         thread.ended()
 
-    rest = []
-    for patch in (False, True):
+    def left(patch):
         one(patch)
-        before = descriptors()
+        before = settled()
         for _ in range(10):
             one(patch)
-        rest.append(descriptors() - before)
-    check("fewer descriptors than threads, beside stock's", rest[1] - rest[0] < 10, True)
+        return settled() - before
+
+    of_stock = left(False)
+    check("fewer descriptors than threads, beside stock's", left(True) - of_stock < 10, True)
 
 
 class Otherwise(Thread):
