@@ -170,7 +170,7 @@ class Calls:
     def info(self, text: bytes) -> bytes:
         """The same for a request of this content."""
         outcome = self._made(self._manager.message, _HEADERS["comm_info_request"], NOTHING, text, ())
-        self._agree("comm_info_request", outcome)
+        self._raise_refusal("comm_info_request", outcome)
         return outcome.sent[0].content
 
     def state(self, comm_id: str) -> tuple[State, list[list[Any]], list[Any]] | None:
@@ -206,7 +206,7 @@ class Calls:
             self.long.refused(kept)
         elif kept:
             self.long.taken(comm_id, (), roots_of(paths or ()), kept)
-        self._agree("comm_open", outcome)
+        self._raise_refusal("comm_open", outcome)
 
     def push(self, comm_id: str, update: Update, parent: Any, metadata: dict[str, Any] | None = None) -> bool:
         """Changes keys of a widget's state, and sends that; gives whether the comm is open."""
@@ -269,11 +269,11 @@ class Calls:
     def _is_open(self, kind: str, outcome: Outcome) -> bool:
         """Whether the comm that a call was about is open. What else the manager refuses is raised."""
         if outcome.reply is not NO_COMM:
-            self._agree(kind, outcome)
+            self._raise_refusal(kind, outcome)
             return True
         return False
 
-    def _agree(self, kind: str, outcome: Outcome) -> None:
+    def _raise_refusal(self, kind: str, outcome: Outcome) -> None:
         if outcome.reply not in DONE:
             raise CommRefused(self.words_of(kind, outcome))
 

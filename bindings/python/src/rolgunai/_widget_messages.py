@@ -19,7 +19,7 @@ Data = dict[str, Any]
 class Hearing(NamedTuple):
     """How the hub hears any message."""
 
-    heard: Callable[[str, Message, Data, Any], Outcome | None]  # plays one; None where it is refused, which is logged
+    play: Callable[[str, Message, Data, Any], Outcome | None]  # plays one; None where it is refused, which is logged
     is_done: Callable[[str, Data, Outcome], bool]  # whether one was taken that was played; a refusal is logged
     deliver: Callable[[Comm, Message], None]  # calls the comm's callback
 
@@ -50,7 +50,7 @@ class WidgetMessages:
             self._hear_other(comm, msg, content, ())
 
     def _hear_other(self, comm: Comm, msg: Message, content: Data, buffers: Any) -> None:
-        if self._hearing.heard("comm_msg", msg, content, buffers) is not None:
+        if self._hearing.play("comm_msg", msg, content, buffers) is not None:
             self._deliver(comm, msg)
 
     def _hear_update(self, comm: Comm, msg: Message, content: Data, state: Any, paths: Any) -> None:
@@ -113,4 +113,4 @@ class WidgetMessages:
             self._deliver(comm, msg)
             self._last_word.say(comm, watch, list(watch.held))
         if not watch.is_answered:
-            self._hearing.heard("comm_msg", msg, content, ())
+            self._hearing.play("comm_msg", msg, content, ())

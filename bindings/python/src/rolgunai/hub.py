@@ -121,7 +121,7 @@ class Hub:
         self._open_comms, self._keys = self._calls.open_comms, self._calls.watches.keys
         self._last_word = LastWord(self._calls, self._turns, self._pack, request, self.log)
         self._page_loads = PageLoads(self._calls, self._turns, self._last_word, self._pack)
-        hearing = Hearing(self._heard, self._is_done, self._callbacks.heard)
+        hearing = Hearing(self._play, self._is_done, self._callbacks.heard)
         self._widget_messages = WidgetMessages(self._calls, self._turns, self._last_word, self._pack, hearing, self.log)
         self._hear_update = self._widget_messages.update
         # What is done, under the lock, for each kind of a frontend's messages.
@@ -257,14 +257,14 @@ class Hub:
             played, buffers = {"comm_id": content.get("comm_id"), "target_name": target_name}, ()
         if target_name == WIDGET:
             self._widget_open(msg, heard, played, buffers, is_old)
-        elif self._heard("comm_open", heard, played, buffers) is not None:
+        elif self._play("comm_open", heard, played, buffers) is not None:
             comm = self._comm_of(content)
             if comm is not None:  # else it was closed meanwhile
                 self._callbacks.opened(self.targets.get(comm.target_name), comm, msg)
 
     def _widget_open(self, msg: Message, heard: Message, played: dict[str, Any], buffers: Any, is_old: bool) -> None:
         with self._last_word.watch(str(played.get("comm_id"))) as watch:
-            if self._heard("comm_open", heard, played, buffers, watch) is None:
+            if self._play("comm_open", heard, played, buffers, watch) is None:
                 return
             comm = self._comm_of(played)
             if comm is None:
@@ -288,15 +288,15 @@ class Hub:
         content = _object(msg.get("content"))
         comm, data = self._comm_of(content), content.get("data")
         if comm is None:
-            self._heard("comm_msg", msg, content, msg.get("buffers"))
+            self._play("comm_msg", msg, content, msg.get("buffers"))
             return
         comm_id = content["comm_id"]
         if (self._open_comms.get(comm_id) or self._opened_by_hand(comm)) == WIDGET:
             if isinstance(data, dict):
                 self._widget_messages.hear(comm, msg, content, data)
             else:
-                self._heard("comm_msg", msg, content, msg.get("buffers"))
-        elif self._heard("comm_msg", msg, {"comm_id": comm_id}, ()) is not None:
+                self._play("comm_msg", msg, content, msg.get("buffers"))
+        elif self._play("comm_msg", msg, {"comm_id": comm_id}, ()) is not None:
             if asks_for_states(comm, data):
                 self._page_loads.answer(comm, tuple(self.comms.values()), msg)
             else:
@@ -305,7 +305,7 @@ class Hub:
     def _comm_close(self, msg: Message) -> None:
         content = _object(msg.get("content"))
         comm = self._comm_of(content)
-        is_closed = self._heard("comm_close", msg, {"comm_id": content.get("comm_id")}, ()) is not None
+        is_closed = self._play("comm_close", msg, {"comm_id": content.get("comm_id")}, ()) is not None
         if is_closed and comm is not None:
             self._callbacks.closed(comm, msg)
 
@@ -314,7 +314,7 @@ class Hub:
         comm_id = content.get("comm_id")
         return self.comms.get(comm_id) if isinstance(comm_id, str) else None
 
-    def _heard(
+    def _play(
         self, kind: str, msg: Message, content: dict[str, Any], buffers: Any, watch: Watch | None = None
     ) -> Outcome | None:
         """Plays a message of a frontend, with this content; None where it is refused, which is logged. A watch begins
